@@ -31,7 +31,20 @@ use Rattle.kw_world.specs.declared.answer.Answer.{Answer}
 use Rattle.kw_world.specs.declared.answer.Answer.TheVariants.{Done, Pairs, Spent, Stopped}
 use Rattle.kw_world.specs.Answers.{answer_found}
 use Rattle.kw_world.specs.declared.activity.Activity.{Activity}
-use Rattle.kw_world.specs.declared.activity.Activity.TheVariants.{Idle, Enter, ScanClock, ScanWait, ScanDraw, ScanSettle, Start, Head, GuessMin, Walk, WalkMin, Look, LookKey, LookClock, LookHelp, ListFrom, ListKey, ListVer, ListVal, RestKey, RestVal, ClearScan, PutCount, PutAdd, PutKey, PutValue, Announce, PutClock, Stamp, PutVersion, InsFrom, InsKey, InsVer, InsSet, Insert, PutClear, Leave, Again, AgainEpoch, BalClock, BalEpoch, BalState, BalNormal, Engage, MarkLink, Decide, FreezeCount, FreezeLook, Freeze, ScanLook, HelpDraw, HelpSettle, TakeFrom, TakeKey, TakeVersion, TakeValue, TakeRestKey, TakeRestValue, SeekFirst, Seek, SeekPass, Reclaim, TakeRow, GiveBack, WriteCount, WriteMin, WriteNext, WriteFirst, WritePend, WriteKey, WriteValue, WriteVersion, WriteAfter, Before, BeforeGuess, BeforeHead, BeforeLink, BeforeMin, Replace, Normalise, Number, Retire}
+use Rattle.kw_world.specs.declared.activity.draw.Draw.TheVariants as Draw
+use Rattle.kw_world.specs.declared.activity.rebalance.engage.Engage.TheVariants as Engage
+use Rattle.kw_world.specs.declared.activity.enter.Enter.TheVariants as Enter
+use Rattle.kw_world.specs.declared.activity.rebalance.freeze.Freeze.TheVariants as Freeze
+use Rattle.kw_world.specs.declared.activity.rebalance.gather.Gather.TheVariants as Gather
+use Rattle.kw_world.specs.declared.activity.insert.Insert.TheVariants as Insert
+use Rattle.kw_world.specs.declared.activity.look.Look.TheVariants as Look
+use Rattle.kw_world.specs.declared.activity.put.Put.TheVariants as Put
+use Rattle.kw_world.specs.declared.activity.read.Read.TheVariants as Read
+use Rattle.kw_world.specs.declared.activity.rebalance.Rebalance.TheVariants as Rebalance
+use Rattle.kw_world.specs.declared.activity.rebalance.replace.Replace.TheVariants as Replace
+use Rattle.kw_world.specs.declared.activity.rebalance.seek.Seek.TheVariants as Seek
+use Rattle.kw_world.specs.declared.activity.walk.Walk.TheVariants as Walk
+use Rattle.kw_world.specs.declared.activity.rebalance.write.Write.TheVariants as Write
 use Rattle.kw_world.specs.declared.local.Local.{Local}
 use Rattle.kw_world.specs.declared.limits.TheConstants.{NEWEST}
 use Rattle.kw_world.specs.declared.event.Choice.{Choice}
@@ -60,17 +73,17 @@ use Rattle.kw_core.proofs.Building.{Building, IsBuilding, building}
 
 -- what a reader does after the entries below j: the next look, or the row's list
 pub data NextLook (z : Sizes) (j : ℕ) : Activity → Type 0 where
-  looks : j < z.seats → NextLook z j (Look j)
-  lists : z.seats ≤ j → NextLook z j ListFrom
+  looks : j < z.seats → NextLook z j (Activity.Look (Look.Entry j))
+  lists : z.seats ≤ j → NextLook z j (Activity.Read Read.Link)
 
 -- what a reader knows once its walk is over, or a remembered cell is read: it reads the next one
 -- that it remembers, or the row is read
 pub data NextRest (l : Local) : Local → Type 0 where
-  rests : (m : Mark) → least_mark l.remembered ≡ Some m → NextRest l (record l { place = m.cell; place_version = m.version; remembered = unmarked m.cell l.remembered; activity = RestKey })
+  rests : (m : Mark) → least_mark l.remembered ≡ Some m → NextRest l (record l { place = m.cell; place_version = m.version; remembered = unmarked m.cell l.remembered; activity = Activity.Read Read.LeftOverKey })
   answers : least_mark l.remembered ≡ None → is_scan l.call ≡ false → NextRest l (leave (answer_found (shown_at l.gathered NEWEST (first_key l.call))) l).local
   ends_scan : least_mark l.remembered ≡ None → is_scan l.call ≡ true → (l.next ≡ None) ⊎ (last_key l.call < l.upper) → NextRest l (scan_ended (with_pairs (last_key l.call) l)).local
   scans_on : (r : ℕ) → least_mark l.remembered ≡ None → is_scan l.call ≡ true → l.next ≡ Some r → l.upper ≤ last_key l.call →
-      NextRest l (record (with_pairs (last_key l.call) l) { row = r; lower = l.upper; want = l.upper; next = None; upper = 0; activity = Walk })
+      NextRest l (record (with_pairs (last_key l.call) l) { row = r; lower = l.upper; want = l.upper; next = None; upper = 0; activity = Activity.Walk Walk.Next })
 
 -- the word is neither a pending nor a stamped entry
 pub record IsNeither (w : ℕ) : Type 0 where
@@ -95,139 +108,139 @@ pub record IsNoScan (clock w : ℕ) : Type 0 where
 -- from an activity to what the seat knows next
 pub data Arrow (z : Sizes) (v : Words) (s : ℕ) (choice : Choice) (l : Local) : Activity → Local → Type 0 where
   -- a call begins
-  begins : (call : Call) → choice ≡ Begin call → IsBegun Idle (Begin call) → Arrow z v s choice l Idle (record l { call = Some call; number = l.number + 1; epoch = v name.Epoch; activity = Enter })
-  enters : is_scan l.call ≡ false → Arrow z v s choice l Enter (record l { want = first_key l.call; activity = Start })
-  enters_scan : is_scan l.call ≡ true → Arrow z v s choice l Enter (record l { activity = ScanClock })
+  begins : (call : Call) → choice ≡ Begin call → IsBegun Activity.Idle (Begin call) → Arrow z v s choice l Activity.Idle (record l { call = Some call; number = l.number + 1; epoch = v name.Epoch; activity = Activity.Enter Enter.Announce })
+  enters : is_scan l.call ≡ false → Arrow z v s choice l (Activity.Enter Enter.Announce) (record l { want = first_key l.call; activity = Activity.Walk Walk.Start })
+  enters_scan : is_scan l.call ≡ true → Arrow z v s choice l (Activity.Enter Enter.Announce) (record l { activity = Activity.Draw Draw.Clock })
   -- a scan gets its version
-  is_spent : SPENT ≤ v name.Clock → Arrow z v s choice l ScanClock (leave Spent l).local
-  waits : v name.Clock < SPENT → Arrow z v s choice l ScanClock (record l { waiting = v name.Clock; activity = ScanWait })
-  stores_waiting : Arrow z v s choice l ScanWait (record l { activity = ScanDraw })
-  draws : Arrow z v s choice l ScanDraw (record l { drawn = v name.Clock; activity = ScanSettle })
-  settles_empty : is_range_empty l.call ≡ true → Arrow z v s choice l ScanSettle (record l { version = version_settled (scan_of (v (name.Scan s))) l.drawn; activity = ClearScan Pairs })
-  settles : is_range_empty l.call ≡ false → Arrow z v s choice l ScanSettle (record l { version = version_settled (scan_of (v (name.Scan s))) l.drawn; want = first_key l.call; activity = Start })
+  is_spent : SPENT ≤ v name.Clock → Arrow z v s choice l (Activity.Draw Draw.Clock) (leave Spent l).local
+  waits : v name.Clock < SPENT → Arrow z v s choice l (Activity.Draw Draw.Clock) (record l { waiting = v name.Clock; activity = Activity.Draw Draw.Wait })
+  stores_waiting : Arrow z v s choice l (Activity.Draw Draw.Wait) (record l { activity = Activity.Draw Draw.Version })
+  draws : Arrow z v s choice l (Activity.Draw Draw.Version) (record l { drawn = v name.Clock; activity = Activity.Draw Draw.Settle })
+  settles_empty : is_range_empty l.call ≡ true → Arrow z v s choice l (Activity.Draw Draw.Settle) (record l { version = version_settled (scan_of (v (name.Scan s))) l.drawn; activity = Activity.EndScan Pairs })
+  settles : is_range_empty l.call ≡ false → Arrow z v s choice l (Activity.Draw Draw.Settle) (record l { version = version_settled (scan_of (v (name.Scan s))) l.drawn; want = first_key l.call; activity = Activity.Walk Walk.Start })
   -- the walk
-  starts_at_head : Arrow z v s choice l Start (record l { row = row_or_first (row_linked (link_of (v name.Head))); lower = 0; activity = Walk })
-  guesses : (r : ℕ) → choice ≡ Guess r → state_of (v (name.State r)) ≡ Some Normal → Arrow z v s choice l Start (record l { row = r; activity = GuessMin })
-  guess_fails : Arrow z v s choice l Start (record l { activity = Head })
-  takes_head : Arrow z v s choice l Head (record l { row = row_or_first (row_linked (link_of (v name.Head))); lower = 0; activity = Walk })
-  guess_serves : least_in v l.row ≤ l.want → Arrow z v s choice l GuessMin (record l { lower = least_in v l.row; activity = Walk })
-  guess_is_above : l.want < least_in v l.row → Arrow z v s choice l GuessMin (record l { activity = Head })
-  stops : is_stopped choice l ≡ true → Arrow z v s choice l Walk (leave Stopped l).local
-  puts_in_last : is_put l.call ≡ true → next_in v l.row ≡ None → Arrow z v s choice l Walk (record l { next = None; upper = 0; activity = PutCount })
-  reads_last : is_put l.call ≡ false → next_in v l.row ≡ None → Arrow z v s choice l Walk (record l { next = None; upper = 0; remembered = []; gathered = []; link = None; walked = 0; activity = Look 0 })
-  meets_next : (q : ℕ) → next_in v l.row ≡ Some q → Arrow z v s choice l Walk (record l { candidate = q; activity = WalkMin })
-  walks_on : least_in v l.candidate ≤ l.want → Arrow z v s choice l WalkMin (record l { row = l.candidate; lower = least_in v l.candidate; activity = Walk })
-  puts_before : is_put l.call ≡ true → l.want < least_in v l.candidate → Arrow z v s choice l WalkMin (record l { next = Some l.candidate; upper = least_in v l.candidate; activity = PutCount })
-  reads_before : is_put l.call ≡ false → l.want < least_in v l.candidate → Arrow z v s choice l WalkMin (record l { next = Some l.candidate; upper = least_in v l.candidate; remembered = []; gathered = []; link = None; walked = 0; activity = Look 0 })
+  starts_at_head : Arrow z v s choice l (Activity.Walk Walk.Start) (record l { row = row_or_first (row_linked (link_of (v name.Head))); lower = 0; activity = Activity.Walk Walk.Next })
+  guesses : (r : ℕ) → choice ≡ Guess r → state_of (v (name.State r)) ≡ Some Normal → Arrow z v s choice l (Activity.Walk Walk.Start) (record l { row = r; activity = Activity.Walk Walk.GuessedLeast })
+  guess_fails : Arrow z v s choice l (Activity.Walk Walk.Start) (record l { activity = Activity.Walk Walk.First })
+  takes_head : Arrow z v s choice l (Activity.Walk Walk.First) (record l { row = row_or_first (row_linked (link_of (v name.Head))); lower = 0; activity = Activity.Walk Walk.Next })
+  guess_serves : least_in v l.row ≤ l.want → Arrow z v s choice l (Activity.Walk Walk.GuessedLeast) (record l { lower = least_in v l.row; activity = Activity.Walk Walk.Next })
+  guess_is_above : l.want < least_in v l.row → Arrow z v s choice l (Activity.Walk Walk.GuessedLeast) (record l { activity = Activity.Walk Walk.First })
+  stops : is_stopped choice l ≡ true → Arrow z v s choice l (Activity.Walk Walk.Next) (leave Stopped l).local
+  puts_in_last : is_put l.call ≡ true → next_in v l.row ≡ None → Arrow z v s choice l (Activity.Walk Walk.Next) (record l { next = None; upper = 0; activity = Activity.Put Put.Count })
+  reads_last : is_put l.call ≡ false → next_in v l.row ≡ None → Arrow z v s choice l (Activity.Walk Walk.Next) (record l { next = None; upper = 0; remembered = []; gathered = []; link = None; walked = 0; activity = Activity.Look (Look.Entry 0) })
+  meets_next : (q : ℕ) → next_in v l.row ≡ Some q → Arrow z v s choice l (Activity.Walk Walk.Next) (record l { candidate = q; activity = Activity.Walk Walk.NextLeast })
+  walks_on : least_in v l.candidate ≤ l.want → Arrow z v s choice l (Activity.Walk Walk.NextLeast) (record l { row = l.candidate; lower = least_in v l.candidate; activity = Activity.Walk Walk.Next })
+  puts_before : is_put l.call ≡ true → l.want < least_in v l.candidate → Arrow z v s choice l (Activity.Walk Walk.NextLeast) (record l { next = Some l.candidate; upper = least_in v l.candidate; activity = Activity.Put Put.Count })
+  reads_before : is_put l.call ≡ false → l.want < least_in v l.candidate → Arrow z v s choice l (Activity.Walk Walk.NextLeast) (record l { next = Some l.candidate; upper = least_in v l.candidate; remembered = []; gathered = []; link = None; walked = 0; activity = Activity.Look (Look.Entry 0) })
   -- a reader looks at the entries
-  meets_pending : (i c : ℕ) → pend_of (v (name.Pend l.row i)) ≡ Some (pend.Pending c) → Arrow z v s choice l (Look i) (record l { looked = i; met = c; activity = LookKey })
-  meets_stamped : (i c version : ℕ) (next : Activity) → pend_of (v (name.Pend l.row i)) ≡ Some (pend.Stamped c version) → NextLook z (i + 1) next → Arrow z v s choice l (Look i) (record (remembering c version l) { activity = next })
-  meets_neither : (i : ℕ) (next : Activity) → IsNeither (v (name.Pend l.row i)) → NextLook z (i + 1) next → Arrow z v s choice l (Look i) (record l { activity = next })
-  is_wanted : is_in_range l.call (key_of_word (v (name.Key l.row l.met))) ≡ true → Arrow z v s choice l LookKey (record l { activity = LookClock })
-  is_passed : (next : Activity) → is_in_range l.call (key_of_word (v (name.Key l.row l.met))) ≡ false → NextLook z (l.looked + 1) next → Arrow z v s choice l LookKey (record l { activity = next })
-  loads_to_help : Arrow z v s choice l LookClock (record l { helping = v name.Clock; activity = LookHelp })
-  helps : (next : Activity) → pend_of (v (name.Pend l.row l.looked)) ≡ Some (pend.Pending l.met) → NextLook z (l.looked + 1) next → Arrow z v s choice l LookHelp (record (remembering l.met l.helping l) { activity = next })
-  finds_stamped : (c version : ℕ) (next : Activity) → pend_of (v (name.Pend l.row l.looked)) ≡ Some (pend.Stamped c version) → NextLook z (l.looked + 1) next → Arrow z v s choice l LookHelp (record (remembering c version l) { activity = next })
-  finds_other : (next : Activity) → IsNot l.met (v (name.Pend l.row l.looked)) → NextLook z (l.looked + 1) next → Arrow z v s choice l LookHelp (record l { activity = next })
+  meets_pending : (i c : ℕ) → pend_of (v (name.Pend l.row i)) ≡ Some (pend.Pending c) → Arrow z v s choice l (Activity.Look (Look.Entry i)) (record l { looked = i; met = c; activity = Activity.Look Look.Key })
+  meets_stamped : (i c version : ℕ) (next : Activity) → pend_of (v (name.Pend l.row i)) ≡ Some (pend.Stamped c version) → NextLook z (i + 1) next → Arrow z v s choice l (Activity.Look (Look.Entry i)) (record (remembering c version l) { activity = next })
+  meets_neither : (i : ℕ) (next : Activity) → IsNeither (v (name.Pend l.row i)) → NextLook z (i + 1) next → Arrow z v s choice l (Activity.Look (Look.Entry i)) (record l { activity = next })
+  is_wanted : is_in_range l.call (key_of_word (v (name.Key l.row l.met))) ≡ true → Arrow z v s choice l (Activity.Look Look.Key) (record l { activity = Activity.Look Look.Clock })
+  is_passed : (next : Activity) → is_in_range l.call (key_of_word (v (name.Key l.row l.met))) ≡ false → NextLook z (l.looked + 1) next → Arrow z v s choice l (Activity.Look Look.Key) (record l { activity = next })
+  loads_to_help : Arrow z v s choice l (Activity.Look Look.Clock) (record l { helping = v name.Clock; activity = Activity.Look Look.Help })
+  helps : (next : Activity) → pend_of (v (name.Pend l.row l.looked)) ≡ Some (pend.Pending l.met) → NextLook z (l.looked + 1) next → Arrow z v s choice l (Activity.Look Look.Help) (record (remembering l.met l.helping l) { activity = next })
+  finds_stamped : (c version : ℕ) (next : Activity) → pend_of (v (name.Pend l.row l.looked)) ≡ Some (pend.Stamped c version) → NextLook z (l.looked + 1) next → Arrow z v s choice l (Activity.Look Look.Help) (record (remembering c version l) { activity = next })
+  finds_other : (next : Activity) → IsNot l.met (v (name.Pend l.row l.looked)) → NextLook z (l.looked + 1) next → Arrow z v s choice l (Activity.Look Look.Help) (record l { activity = next })
   -- a reader walks along the row's list, and reads what it remembers and did not meet
-  list_leads : (c : ℕ) → cell_of_link_word (v (link_name l.row l.link)) ≡ Some c → Arrow z v s choice l ListFrom (record (reaching z c l) { activity = ListKey })
-  list_ends : (next : Local) → cell_of_link_word (v (link_name l.row l.link)) ≡ None → NextRest l next → Arrow z v s choice l ListFrom next
-  key_below : key_of_word (v (name.Key l.row l.place)) < first_key l.call → Arrow z v s choice l ListKey (list_past l).local
-  key_within : first_key l.call ≤ key_of_word (v (name.Key l.row l.place)) → key_of_word (v (name.Key l.row l.place)) ≤ last_key l.call → Arrow z v s choice l ListKey (record l { place_key = key_of_word (v (name.Key l.row l.place)); activity = ListVer })
-  key_above : (next : Local) → last_key l.call < key_of_word (v (name.Key l.row l.place)) → NextRest l next → Arrow z v s choice l ListKey next
-  loads_version : Arrow z v s choice l ListVer (record l { place_version = unwrap_or (version_of_word (v (name.Version l.row l.place))) 1; activity = ListVal })
-  gathers_listed : Arrow z v s choice l ListVal (list_past (gathering z (value_of_word (v (name.Value l.row l.place))) l)).local
-  rest_wanted : is_in_range l.call (key_of_word (v (name.Key l.row l.place))) ≡ true → Arrow z v s choice l RestKey (record l { place_key = key_of_word (v (name.Key l.row l.place)); activity = RestVal })
-  rest_passed : (next : Local) → is_in_range l.call (key_of_word (v (name.Key l.row l.place))) ≡ false → NextRest l next → Arrow z v s choice l RestKey next
-  gathers_rest : (next : Local) → NextRest (gathering z (value_of_word (v (name.Value l.row l.place))) l) next → Arrow z v s choice l RestVal next
+  list_leads : (c : ℕ) → cell_of_link_word (v (link_name l.row l.link)) ≡ Some c → Arrow z v s choice l (Activity.Read Read.Link) (record (reaching z c l) { activity = Activity.Read Read.Key })
+  list_ends : (next : Local) → cell_of_link_word (v (link_name l.row l.link)) ≡ None → NextRest l next → Arrow z v s choice l (Activity.Read Read.Link) next
+  key_below : key_of_word (v (name.Key l.row l.place)) < first_key l.call → Arrow z v s choice l (Activity.Read Read.Key) (list_past l).local
+  key_within : first_key l.call ≤ key_of_word (v (name.Key l.row l.place)) → key_of_word (v (name.Key l.row l.place)) ≤ last_key l.call → Arrow z v s choice l (Activity.Read Read.Key) (record l { place_key = key_of_word (v (name.Key l.row l.place)); activity = Activity.Read Read.Version })
+  key_above : (next : Local) → last_key l.call < key_of_word (v (name.Key l.row l.place)) → NextRest l next → Arrow z v s choice l (Activity.Read Read.Key) next
+  loads_version : Arrow z v s choice l (Activity.Read Read.Version) (record l { place_version = unwrap_or (version_of_word (v (name.Version l.row l.place))) 1; activity = Activity.Read Read.Value })
+  gathers_listed : Arrow z v s choice l (Activity.Read Read.Value) (list_past (gathering z (value_of_word (v (name.Value l.row l.place))) l)).local
+  rest_wanted : is_in_range l.call (key_of_word (v (name.Key l.row l.place))) ≡ true → Arrow z v s choice l (Activity.Read Read.LeftOverKey) (record l { place_key = key_of_word (v (name.Key l.row l.place)); activity = Activity.Read Read.LeftOverValue })
+  rest_passed : (next : Local) → is_in_range l.call (key_of_word (v (name.Key l.row l.place))) ≡ false → NextRest l next → Arrow z v s choice l (Activity.Read Read.LeftOverKey) next
+  gathers_rest : (next : Local) → NextRest (gathering z (value_of_word (v (name.Value l.row l.place))) l) next → Arrow z v s choice l (Activity.Read Read.LeftOverValue) next
   -- a scan is over
-  clears_scan : (answer : Answer) → Arrow z v s choice l (ClearScan answer) (leave (answer_or_stopped answer choice) l).local
+  clears_scan : (answer : Answer) → Arrow z v s choice l (Activity.EndScan answer) (leave (answer_or_stopped answer choice) l).local
   -- a put or a delete
-  finds_room : has_room z (count_of (v (name.Count l.row))) ≡ true → Arrow z v s choice l PutCount (record l { activity = PutAdd })
-  finds_full : has_room z (count_of (v (name.Count l.row))) ≡ false → Arrow z v s choice l PutCount (to_rebalance l).local
-  takes_cell : has_room z (count_of (v (name.Count l.row))) ≡ true → Arrow z v s choice l PutAdd (record l { cell = given_of (count_of (v (name.Count l.row))); activity = PutKey })
-  takes_full : has_room z (count_of (v (name.Count l.row))) ≡ false → Arrow z v s choice l PutAdd (to_rebalance l).local
-  stores_key : Arrow z v s choice l PutKey (record l { activity = PutValue })
-  stores_value : Arrow z v s choice l PutValue (record l { activity = Announce })
-  announces : v (name.Pend l.row s) ≡ pend_word pend.Idle → Arrow z v s choice l Announce (record l { activity = PutClock })
-  announces_full : v (name.Pend l.row s) ≢ pend_word pend.Idle → Arrow z v s choice l Announce (to_rebalance l).local
-  loads_clock : Arrow z v s choice l PutClock (record l { version = v name.Clock; activity = Stamp })
-  stamps : pend_of (v (name.Pend l.row s)) ≡ Some (pend.Pending l.cell) → Arrow z v s choice l Stamp (record l { activity = PutVersion })
-  is_stamped : (version : ℕ) → pend_of (v (name.Pend l.row s)) ≡ Some (pend.Stamped l.cell version) → Arrow z v s choice l Stamp (record l { version = version; activity = PutVersion })
-  stamps_full : IsNotOwn l.cell (v (name.Pend l.row s)) → Arrow z v s choice l Stamp (to_rebalance l).local
-  stores_version : Arrow z v s choice l PutVersion (to_insert l).local
+  finds_room : has_room z (count_of (v (name.Count l.row))) ≡ true → Arrow z v s choice l (Activity.Put Put.Count) (record l { activity = Activity.Put Put.Add })
+  finds_full : has_room z (count_of (v (name.Count l.row))) ≡ false → Arrow z v s choice l (Activity.Put Put.Count) (to_rebalance l).local
+  takes_cell : has_room z (count_of (v (name.Count l.row))) ≡ true → Arrow z v s choice l (Activity.Put Put.Add) (record l { cell = given_of (count_of (v (name.Count l.row))); activity = Activity.Put Put.Key })
+  takes_full : has_room z (count_of (v (name.Count l.row))) ≡ false → Arrow z v s choice l (Activity.Put Put.Add) (to_rebalance l).local
+  stores_key : Arrow z v s choice l (Activity.Put Put.Key) (record l { activity = Activity.Put Put.Value })
+  stores_value : Arrow z v s choice l (Activity.Put Put.Value) (record l { activity = Activity.Put Put.Announce })
+  announces : v (name.Pend l.row s) ≡ pend_word pend.Idle → Arrow z v s choice l (Activity.Put Put.Announce) (record l { activity = Activity.Put Put.Clock })
+  announces_full : v (name.Pend l.row s) ≢ pend_word pend.Idle → Arrow z v s choice l (Activity.Put Put.Announce) (to_rebalance l).local
+  loads_clock : Arrow z v s choice l (Activity.Put Put.Clock) (record l { version = v name.Clock; activity = Activity.Put Put.Stamp })
+  stamps : pend_of (v (name.Pend l.row s)) ≡ Some (pend.Pending l.cell) → Arrow z v s choice l (Activity.Put Put.Stamp) (record l { activity = Activity.Put Put.Version })
+  is_stamped : (version : ℕ) → pend_of (v (name.Pend l.row s)) ≡ Some (pend.Stamped l.cell version) → Arrow z v s choice l (Activity.Put Put.Stamp) (record l { version = version; activity = Activity.Put Put.Version })
+  stamps_full : IsNotOwn l.cell (v (name.Pend l.row s)) → Arrow z v s choice l (Activity.Put Put.Stamp) (to_rebalance l).local
+  stores_version : Arrow z v s choice l (Activity.Put Put.Version) (to_insert l).local
   -- its cell is inserted
-  meets_cell : (c : ℕ) → cell_of_link_word (v (link_name l.row l.link)) ≡ Some c → Arrow z v s choice l InsFrom (record (meeting z c l) { activity = InsKey })
-  meets_none : cell_of_link_word (v (link_name l.row l.link)) ≡ None → Arrow z v s choice l InsFrom (record l { held = None; activity = InsSet })
-  key_before : key_of_word (v (name.Key l.row l.place)) < first_key l.call → Arrow z v s choice l InsKey (insert_past l).local
-  key_same : key_of_word (v (name.Key l.row l.place)) ≡ first_key l.call → Arrow z v s choice l InsKey (record l { activity = InsVer })
-  key_after : first_key l.call < key_of_word (v (name.Key l.row l.place)) → Arrow z v s choice l InsKey (record l { activity = InsSet })
-  version_before : is_newer (v (name.Version l.row l.place)) l.place l ≡ true → Arrow z v s choice l InsVer (insert_past l).local
-  version_after : is_newer (v (name.Version l.row l.place)) l.place l ≡ false → Arrow z v s choice l InsVer (record l { activity = InsSet })
-  stores_after : Arrow z v s choice l InsSet (record l { activity = Insert })
-  inserts : v (link_name l.row l.link) ≡ cell_link_word l.held → Arrow z v s choice l Insert (record l { activity = PutClear })
-  loses : v (link_name l.row l.link) ≢ cell_link_word l.held → Arrow z v s choice l Insert (record (losing z l) { activity = InsFrom })
-  clears : Arrow z v s choice l PutClear (leave Done l).local
-  tidies : (rows : ℕ) → tidies_row rows choice l ≡ true → Arrow z v s choice l PutClear (to_rebalance (record l { tidies = true })).local
+  meets_cell : (c : ℕ) → cell_of_link_word (v (link_name l.row l.link)) ≡ Some c → Arrow z v s choice l (Activity.Insert Insert.Link) (record (meeting z c l) { activity = Activity.Insert Insert.Key })
+  meets_none : cell_of_link_word (v (link_name l.row l.link)) ≡ None → Arrow z v s choice l (Activity.Insert Insert.Link) (record l { held = None; activity = Activity.Insert Insert.Set })
+  key_before : key_of_word (v (name.Key l.row l.place)) < first_key l.call → Arrow z v s choice l (Activity.Insert Insert.Key) (insert_past l).local
+  key_same : key_of_word (v (name.Key l.row l.place)) ≡ first_key l.call → Arrow z v s choice l (Activity.Insert Insert.Key) (record l { activity = Activity.Insert Insert.Version })
+  key_after : first_key l.call < key_of_word (v (name.Key l.row l.place)) → Arrow z v s choice l (Activity.Insert Insert.Key) (record l { activity = Activity.Insert Insert.Set })
+  version_before : is_newer (v (name.Version l.row l.place)) l.place l ≡ true → Arrow z v s choice l (Activity.Insert Insert.Version) (insert_past l).local
+  version_after : is_newer (v (name.Version l.row l.place)) l.place l ≡ false → Arrow z v s choice l (Activity.Insert Insert.Version) (record l { activity = Activity.Insert Insert.Set })
+  stores_after : Arrow z v s choice l (Activity.Insert Insert.Set) (record l { activity = Activity.Insert Insert.Exchange })
+  inserts : v (link_name l.row l.link) ≡ cell_link_word l.held → Arrow z v s choice l (Activity.Insert Insert.Exchange) (record l { activity = Activity.Put Put.Clear })
+  loses : v (link_name l.row l.link) ≢ cell_link_word l.held → Arrow z v s choice l (Activity.Insert Insert.Exchange) (record (losing z l) { activity = Activity.Insert Insert.Link })
+  clears : Arrow z v s choice l (Activity.Put Put.Clear) (leave Done l).local
+  tidies : (rows : ℕ) → tidies_row rows choice l ≡ true → Arrow z v s choice l (Activity.Put Put.Clear) (to_rebalance (record l { tidies = true })).local
   -- the call ends
-  leaves : (answer : Answer) → Arrow z v s choice l (Leave answer) (resting l.number)
+  leaves : (answer : Answer) → Arrow z v s choice l (Activity.Leave answer) (resting l.number)
   -- a put tries again
-  retries : Arrow z v s choice l Again (record l { activity = AgainEpoch })
-  enters_again : Arrow z v s choice l AgainEpoch (record l { epoch = v name.Epoch; activity = Enter })
+  retries : Arrow z v s choice l Activity.Retry (record l { activity = Activity.Enter Enter.LoadEpoch })
+  enters_again : Arrow z v s choice l (Activity.Enter Enter.LoadEpoch) (record l { epoch = v name.Epoch; activity = Activity.Enter Enter.Announce })
   -- a rebalance begins
-  clock_is_spent : SPENT ≤ v name.Clock → l.tidies ≡ false → Arrow z v s choice l BalClock (refused Spent l).local
-  ends_at_clock : l.tidies ≡ true → Arrow z v s choice l BalClock (over l).local
-  clock_serves : v name.Clock < SPENT → Arrow z v s choice l BalClock (record l { activity = BalEpoch })
-  epoch_is_spent : SPENT ≤ v name.Epoch → l.tidies ≡ false → Arrow z v s choice l BalEpoch (refused Spent l).local
-  ends_at_epoch : l.tidies ≡ true → Arrow z v s choice l BalEpoch (over l).local
-  epoch_serves : v name.Epoch < SPENT → Arrow z v s choice l BalEpoch (record l { activity = BalState })
-  finds_infant : (seat : ℕ) → state_of (v (name.State l.row)) ≡ Some (Infant seat) → Arrow z v s choice l BalState (record l { activity = BalNormal seat })
-  finds_normal : state_of (v (name.State l.row)) ≡ Some Normal → Arrow z v s choice l BalState (record l { activity = Engage })
-  finds_leader : (count : ℕ) → state_of (v (name.State l.row)) ≡ Some (Leader count) → count ≤ 1 → Arrow z v s choice l BalState (record l { activity = MarkLink count })
-  finds_other_state : l.tidies ≡ false → Arrow z v s choice l BalState (begun_anew l).local
-  ends_at_state : l.tidies ≡ true → Arrow z v s choice l BalState (over l).local
-  normalises : (seat : ℕ) → Arrow z v s choice l (BalNormal seat) (record l { activity = BalState })
-  engages : v (name.State l.row) ≡ state_word Normal → Arrow z v s choice l Engage (record l { activity = MarkLink 0 })
-  is_engaged : v (name.State l.row) ≢ state_word Normal → Arrow z v s choice l Engage (record l { activity = BalState })
-  marks_link : (count : ℕ) → count ≡ 0 → Arrow z v s choice l (MarkLink count) (record (followed_by (next_in v l.row) l) { activity = Decide 1 })
-  marks_led : (count : ℕ) → count ≢ 0 → Arrow z v s choice l (MarkLink count) (record (followed_by (next_in v l.row) l) { activity = FreezeCount })
-  decides : (count n : ℕ) → state_of (v (name.State l.row)) ≡ Some (Leader n) → n ≤ 1 → Arrow z v s choice l (Decide count) (record l { activity = FreezeCount })
-  decides_not : (count : ℕ) → l.tidies ≡ false → Arrow z v s choice l (Decide count) (begun_anew l).local
-  ends_undecided : (count : ℕ) → l.tidies ≡ true → Arrow z v s choice l (Decide count) (over l).local
+  clock_is_spent : SPENT ≤ v name.Clock → l.tidies ≡ false → Arrow z v s choice l (Activity.Rebalance (Rebalance.Engage Engage.Clock)) (refused Spent l).local
+  ends_at_clock : l.tidies ≡ true → Arrow z v s choice l (Activity.Rebalance (Rebalance.Engage Engage.Clock)) (over l).local
+  clock_serves : v name.Clock < SPENT → Arrow z v s choice l (Activity.Rebalance (Rebalance.Engage Engage.Clock)) (record l { activity = Activity.Rebalance (Rebalance.Engage Engage.Epoch) })
+  epoch_is_spent : SPENT ≤ v name.Epoch → l.tidies ≡ false → Arrow z v s choice l (Activity.Rebalance (Rebalance.Engage Engage.Epoch)) (refused Spent l).local
+  ends_at_epoch : l.tidies ≡ true → Arrow z v s choice l (Activity.Rebalance (Rebalance.Engage Engage.Epoch)) (over l).local
+  epoch_serves : v name.Epoch < SPENT → Arrow z v s choice l (Activity.Rebalance (Rebalance.Engage Engage.Epoch)) (record l { activity = Activity.Rebalance (Rebalance.Engage Engage.State) })
+  finds_infant : (seat : ℕ) → state_of (v (name.State l.row)) ≡ Some (Infant seat) → Arrow z v s choice l (Activity.Rebalance (Rebalance.Engage Engage.State)) (record l { activity = Activity.Rebalance (Rebalance.Engage (Engage.Normal seat)) })
+  finds_normal : state_of (v (name.State l.row)) ≡ Some Normal → Arrow z v s choice l (Activity.Rebalance (Rebalance.Engage Engage.State)) (record l { activity = Activity.Rebalance (Rebalance.Engage Engage.Lead) })
+  finds_leader : (count : ℕ) → state_of (v (name.State l.row)) ≡ Some (Leader count) → count ≤ 1 → Arrow z v s choice l (Activity.Rebalance (Rebalance.Engage Engage.State)) (record l { activity = Activity.Rebalance (Rebalance.Engage (Engage.MarkLink count)) })
+  finds_other_state : l.tidies ≡ false → Arrow z v s choice l (Activity.Rebalance (Rebalance.Engage Engage.State)) (begun_anew l).local
+  ends_at_state : l.tidies ≡ true → Arrow z v s choice l (Activity.Rebalance (Rebalance.Engage Engage.State)) (over l).local
+  normalises : (seat : ℕ) → Arrow z v s choice l (Activity.Rebalance (Rebalance.Engage (Engage.Normal seat))) (record l { activity = Activity.Rebalance (Rebalance.Engage Engage.State) })
+  engages : v (name.State l.row) ≡ state_word Normal → Arrow z v s choice l (Activity.Rebalance (Rebalance.Engage Engage.Lead)) (record l { activity = Activity.Rebalance (Rebalance.Engage (Engage.MarkLink 0)) })
+  is_engaged : v (name.State l.row) ≢ state_word Normal → Arrow z v s choice l (Activity.Rebalance (Rebalance.Engage Engage.Lead)) (record l { activity = Activity.Rebalance (Rebalance.Engage Engage.State) })
+  marks_link : (count : ℕ) → count ≡ 0 → Arrow z v s choice l (Activity.Rebalance (Rebalance.Engage (Engage.MarkLink count))) (record (followed_by (next_in v l.row) l) { activity = Activity.Rebalance (Rebalance.Engage (Engage.Decide 1)) })
+  marks_led : (count : ℕ) → count ≢ 0 → Arrow z v s choice l (Activity.Rebalance (Rebalance.Engage (Engage.MarkLink count))) (record (followed_by (next_in v l.row) l) { activity = Activity.Rebalance (Rebalance.Freeze Freeze.Count) })
+  decides : (count n : ℕ) → state_of (v (name.State l.row)) ≡ Some (Leader n) → n ≤ 1 → Arrow z v s choice l (Activity.Rebalance (Rebalance.Engage (Engage.Decide count))) (record l { activity = Activity.Rebalance (Rebalance.Freeze Freeze.Count) })
+  decides_not : (count : ℕ) → l.tidies ≡ false → Arrow z v s choice l (Activity.Rebalance (Rebalance.Engage (Engage.Decide count))) (begun_anew l).local
+  ends_undecided : (count : ℕ) → l.tidies ≡ true → Arrow z v s choice l (Activity.Rebalance (Rebalance.Engage (Engage.Decide count))) (over l).local
   -- the full row is frozen
-  freezes_count : Arrow z v s choice l FreezeCount (count_frozen l).local
-  meets_idle : (i : ℕ) → pend_of (v (name.Pend l.row i)) ≡ Some pend.Idle → Arrow z v s choice l (FreezeLook i) (freezing i pend.Idle l).local
-  meets_unstamped : (i c : ℕ) → pend_of (v (name.Pend l.row i)) ≡ Some (pend.Pending c) → Arrow z v s choice l (FreezeLook i) (freezing i (pend.Pending c) l).local
-  remembers : (i c version : ℕ) → pend_of (v (name.Pend l.row i)) ≡ Some (pend.Stamped c version) → i + 1 < z.seats → Arrow z v s choice l (FreezeLook i) (record (marking c version l) { activity = FreezeLook (i + 1) })
-  remembers_last : (i c version : ℕ) → pend_of (v (name.Pend l.row i)) ≡ Some (pend.Stamped c version) → z.seats ≤ i + 1 → Arrow z v s choice l (FreezeLook i) (to_scans (marking c version l)).local
-  meets_frozen : (i : ℕ) → (pend_of (v (name.Pend l.row i)) ≡ Some pend.Frozen) ⊎ (pend_of (v (name.Pend l.row i)) ≡ None) → i + 1 < z.seats → Arrow z v s choice l (FreezeLook i) (record l { activity = FreezeLook (i + 1) })
-  meets_frozen_last : (i : ℕ) → (pend_of (v (name.Pend l.row i)) ≡ Some pend.Frozen) ⊎ (pend_of (v (name.Pend l.row i)) ≡ None) → z.seats ≤ i + 1 → Arrow z v s choice l (FreezeLook i) (to_scans l).local
-  freezes_entry : (i : ℕ) → v (name.Pend l.row i) ≡ pend_word l.rebalance.entry → i + 1 < z.seats → Arrow z v s choice l (Freeze i) (record l { activity = FreezeLook (i + 1) })
-  freezes_last : (i : ℕ) → v (name.Pend l.row i) ≡ pend_word l.rebalance.entry → z.seats ≤ i + 1 → Arrow z v s choice l (Freeze i) (to_scans l).local
-  looks_again : (i : ℕ) → v (name.Pend l.row i) ≢ pend_word l.rebalance.entry → Arrow z v s choice l (Freeze i) (record l { activity = FreezeLook i })
+  freezes_count : Arrow z v s choice l (Activity.Rebalance (Rebalance.Freeze Freeze.Count)) (count_frozen l).local
+  meets_idle : (i : ℕ) → pend_of (v (name.Pend l.row i)) ≡ Some pend.Idle → Arrow z v s choice l (Activity.Rebalance (Rebalance.Freeze (Freeze.Look i))) (freezing i pend.Idle l).local
+  meets_unstamped : (i c : ℕ) → pend_of (v (name.Pend l.row i)) ≡ Some (pend.Pending c) → Arrow z v s choice l (Activity.Rebalance (Rebalance.Freeze (Freeze.Look i))) (freezing i (pend.Pending c) l).local
+  remembers : (i c version : ℕ) → pend_of (v (name.Pend l.row i)) ≡ Some (pend.Stamped c version) → i + 1 < z.seats → Arrow z v s choice l (Activity.Rebalance (Rebalance.Freeze (Freeze.Look i))) (record (marking c version l) { activity = Activity.Rebalance (Rebalance.Freeze (Freeze.Look (i + 1))) })
+  remembers_last : (i c version : ℕ) → pend_of (v (name.Pend l.row i)) ≡ Some (pend.Stamped c version) → z.seats ≤ i + 1 → Arrow z v s choice l (Activity.Rebalance (Rebalance.Freeze (Freeze.Look i))) (to_scans (marking c version l)).local
+  meets_frozen : (i : ℕ) → (pend_of (v (name.Pend l.row i)) ≡ Some pend.Frozen) ⊎ (pend_of (v (name.Pend l.row i)) ≡ None) → i + 1 < z.seats → Arrow z v s choice l (Activity.Rebalance (Rebalance.Freeze (Freeze.Look i))) (record l { activity = Activity.Rebalance (Rebalance.Freeze (Freeze.Look (i + 1))) })
+  meets_frozen_last : (i : ℕ) → (pend_of (v (name.Pend l.row i)) ≡ Some pend.Frozen) ⊎ (pend_of (v (name.Pend l.row i)) ≡ None) → z.seats ≤ i + 1 → Arrow z v s choice l (Activity.Rebalance (Rebalance.Freeze (Freeze.Look i))) (to_scans l).local
+  freezes_entry : (i : ℕ) → v (name.Pend l.row i) ≡ pend_word l.rebalance.entry → i + 1 < z.seats → Arrow z v s choice l (Activity.Rebalance (Rebalance.Freeze (Freeze.Entry i))) (record l { activity = Activity.Rebalance (Rebalance.Freeze (Freeze.Look (i + 1))) })
+  freezes_last : (i : ℕ) → v (name.Pend l.row i) ≡ pend_word l.rebalance.entry → z.seats ≤ i + 1 → Arrow z v s choice l (Activity.Rebalance (Rebalance.Freeze (Freeze.Entry i))) (to_scans l).local
+  looks_again : (i : ℕ) → v (name.Pend l.row i) ≢ pend_word l.rebalance.entry → Arrow z v s choice l (Activity.Rebalance (Rebalance.Freeze (Freeze.Entry i))) (record l { activity = Activity.Rebalance (Rebalance.Freeze (Freeze.Look i)) })
   -- the scans are looked at
-  meets_quiet : (i : ℕ) → (scan_of (v (name.Scan i)) ≡ Some scan.Quiet) ⊎ (scan_of (v (name.Scan i)) ≡ None) → i + 1 < z.seats → Arrow z v s choice l (ScanLook i) (record l { activity = ScanLook (i + 1) })
-  meets_quiet_last : (i : ℕ) → (scan_of (v (name.Scan i)) ≡ Some scan.Quiet) ⊎ (scan_of (v (name.Scan i)) ≡ None) → z.seats ≤ i + 1 → Arrow z v s choice l (ScanLook i) (to_take l).local
-  helps_scan : (i clock : ℕ) → scan_of (v (name.Scan i)) ≡ Some (scan.Waiting clock) → Arrow z v s choice l (ScanLook i) (record l { rebalance = record l.rebalance { waiting = clock }; activity = HelpDraw i })
-  meets_drawn : (i version : ℕ) → scan_of (v (name.Scan i)) ≡ Some (scan.Drawn version) → i + 1 < z.seats → Arrow z v s choice l (ScanLook i) (record (needing version l) { activity = ScanLook (i + 1) })
-  meets_drawn_last : (i version : ℕ) → scan_of (v (name.Scan i)) ≡ Some (scan.Drawn version) → z.seats ≤ i + 1 → Arrow z v s choice l (ScanLook i) (to_take (needing version l)).local
-  draws_for : (i : ℕ) → Arrow z v s choice l (HelpDraw i) (record l { rebalance = record l.rebalance { drawn = v name.Clock }; activity = HelpSettle i })
-  settles_scan : (i : ℕ) → scan_of (v (name.Scan i)) ≡ Some (scan.Waiting l.rebalance.waiting) → i + 1 < z.seats → Arrow z v s choice l (HelpSettle i) (record (needing l.rebalance.drawn l) { activity = ScanLook (i + 1) })
-  settles_last : (i : ℕ) → scan_of (v (name.Scan i)) ≡ Some (scan.Waiting l.rebalance.waiting) → z.seats ≤ i + 1 → Arrow z v s choice l (HelpSettle i) (to_take (needing l.rebalance.drawn l)).local
-  finds_drawn : (i version : ℕ) → scan_of (v (name.Scan i)) ≡ Some (scan.Drawn version) → i + 1 < z.seats → Arrow z v s choice l (HelpSettle i) (record (needing version l) { activity = ScanLook (i + 1) })
-  finds_drawn_last : (i version : ℕ) → scan_of (v (name.Scan i)) ≡ Some (scan.Drawn version) → z.seats ≤ i + 1 → Arrow z v s choice l (HelpSettle i) (to_take (needing version l)).local
-  finds_no_scan : (i : ℕ) → IsNoScan l.rebalance.waiting (v (name.Scan i)) → i + 1 < z.seats → Arrow z v s choice l (HelpSettle i) (record l { activity = ScanLook (i + 1) })
-  finds_no_scan_last : (i : ℕ) → IsNoScan l.rebalance.waiting (v (name.Scan i)) → z.seats ≤ i + 1 → Arrow z v s choice l (HelpSettle i) (to_take l).local
+  meets_quiet : (i : ℕ) → (scan_of (v (name.Scan i)) ≡ Some scan.Quiet) ⊎ (scan_of (v (name.Scan i)) ≡ None) → i + 1 < z.seats → Arrow z v s choice l (Activity.Rebalance (Rebalance.Freeze (Freeze.Scan i))) (record l { activity = Activity.Rebalance (Rebalance.Freeze (Freeze.Scan (i + 1))) })
+  meets_quiet_last : (i : ℕ) → (scan_of (v (name.Scan i)) ≡ Some scan.Quiet) ⊎ (scan_of (v (name.Scan i)) ≡ None) → z.seats ≤ i + 1 → Arrow z v s choice l (Activity.Rebalance (Rebalance.Freeze (Freeze.Scan i))) (to_take l).local
+  helps_scan : (i clock : ℕ) → scan_of (v (name.Scan i)) ≡ Some (scan.Waiting clock) → Arrow z v s choice l (Activity.Rebalance (Rebalance.Freeze (Freeze.Scan i))) (record l { rebalance = record l.rebalance { waiting = clock }; activity = Activity.Rebalance (Rebalance.Freeze (Freeze.Draw i)) })
+  meets_drawn : (i version : ℕ) → scan_of (v (name.Scan i)) ≡ Some (scan.Drawn version) → i + 1 < z.seats → Arrow z v s choice l (Activity.Rebalance (Rebalance.Freeze (Freeze.Scan i))) (record (needing version l) { activity = Activity.Rebalance (Rebalance.Freeze (Freeze.Scan (i + 1))) })
+  meets_drawn_last : (i version : ℕ) → scan_of (v (name.Scan i)) ≡ Some (scan.Drawn version) → z.seats ≤ i + 1 → Arrow z v s choice l (Activity.Rebalance (Rebalance.Freeze (Freeze.Scan i))) (to_take (needing version l)).local
+  draws_for : (i : ℕ) → Arrow z v s choice l (Activity.Rebalance (Rebalance.Freeze (Freeze.Draw i))) (record l { rebalance = record l.rebalance { drawn = v name.Clock }; activity = Activity.Rebalance (Rebalance.Freeze (Freeze.Settle i)) })
+  settles_scan : (i : ℕ) → scan_of (v (name.Scan i)) ≡ Some (scan.Waiting l.rebalance.waiting) → i + 1 < z.seats → Arrow z v s choice l (Activity.Rebalance (Rebalance.Freeze (Freeze.Settle i))) (record (needing l.rebalance.drawn l) { activity = Activity.Rebalance (Rebalance.Freeze (Freeze.Scan (i + 1))) })
+  settles_last : (i : ℕ) → scan_of (v (name.Scan i)) ≡ Some (scan.Waiting l.rebalance.waiting) → z.seats ≤ i + 1 → Arrow z v s choice l (Activity.Rebalance (Rebalance.Freeze (Freeze.Settle i))) (to_take (needing l.rebalance.drawn l)).local
+  finds_drawn : (i version : ℕ) → scan_of (v (name.Scan i)) ≡ Some (scan.Drawn version) → i + 1 < z.seats → Arrow z v s choice l (Activity.Rebalance (Rebalance.Freeze (Freeze.Settle i))) (record (needing version l) { activity = Activity.Rebalance (Rebalance.Freeze (Freeze.Scan (i + 1))) })
+  finds_drawn_last : (i version : ℕ) → scan_of (v (name.Scan i)) ≡ Some (scan.Drawn version) → z.seats ≤ i + 1 → Arrow z v s choice l (Activity.Rebalance (Rebalance.Freeze (Freeze.Settle i))) (to_take (needing version l)).local
+  finds_no_scan : (i : ℕ) → IsNoScan l.rebalance.waiting (v (name.Scan i)) → i + 1 < z.seats → Arrow z v s choice l (Activity.Rebalance (Rebalance.Freeze (Freeze.Settle i))) (record l { activity = Activity.Rebalance (Rebalance.Freeze (Freeze.Scan (i + 1))) })
+  finds_no_scan_last : (i : ℕ) → IsNoScan l.rebalance.waiting (v (name.Scan i)) → z.seats ≤ i + 1 → Arrow z v s choice l (Activity.Rebalance (Rebalance.Freeze (Freeze.Settle i))) (to_take l).local
   -- the full row's cells are gathered
-  take_leads : (c : ℕ) → cell_of_link_word (v (link_name l.row l.link)) ≡ Some c → Arrow z v s choice l TakeFrom (record (taking z c l) { activity = TakeKey })
-  takes_left : (m : Mark) → cell_of_link_word (v (link_name l.row l.link)) ≡ None → least_mark l.rebalance.marks ≡ Some m → Arrow z v s choice l TakeFrom (record l { place = m.cell; place_version = m.version; rebalance = record l.rebalance { marks = unmarked m.cell l.rebalance.marks }; activity = TakeRestKey })
-  takes_no_more : cell_of_link_word (v (link_name l.row l.link)) ≡ None → least_mark l.rebalance.marks ≡ None → Arrow z v s choice l TakeFrom (record (planned z l) { activity = SeekFirst })
-  takes_key : Arrow z v s choice l TakeKey (record l { place_key = key_of_word (v (name.Key l.row l.place)); activity = TakeVersion })
-  takes_version : Arrow z v s choice l TakeVersion (take_version (version_of_word (v (name.Version l.row l.place))) l).local
-  keeps_taken : Arrow z v s choice l TakeValue (take_past (keeping z (value_of_word (v (name.Value l.row l.place))) l)).local
-  takes_left_key : Arrow z v s choice l TakeRestKey (record l { place_key = key_of_word (v (name.Key l.row l.place)); activity = TakeRestValue })
-  keeps_left : (m : Mark) → least_mark l.rebalance.marks ≡ Some m → Arrow z v s choice l TakeRestValue (record (keeping z (value_of_word (v (name.Value l.row l.place))) l) { place = m.cell; place_version = m.version; rebalance = record (keeping z (value_of_word (v (name.Value l.row l.place))) l).rebalance { marks = unmarked m.cell l.rebalance.marks }; activity = TakeRestKey })
-  keeps_no_more : least_mark l.rebalance.marks ≡ None → Arrow z v s choice l TakeRestValue (record (planned z (keeping z (value_of_word (v (name.Value l.row l.place))) l)) { activity = SeekFirst })
+  take_leads : (c : ℕ) → cell_of_link_word (v (link_name l.row l.link)) ≡ Some c → Arrow z v s choice l (Activity.Rebalance (Rebalance.Gather Gather.Link)) (record (taking z c l) { activity = Activity.Rebalance (Rebalance.Gather Gather.Key) })
+  takes_left : (m : Mark) → cell_of_link_word (v (link_name l.row l.link)) ≡ None → least_mark l.rebalance.marks ≡ Some m → Arrow z v s choice l (Activity.Rebalance (Rebalance.Gather Gather.Link)) (record l { place = m.cell; place_version = m.version; rebalance = record l.rebalance { marks = unmarked m.cell l.rebalance.marks }; activity = Activity.Rebalance (Rebalance.Gather Gather.LeftOverKey) })
+  takes_no_more : cell_of_link_word (v (link_name l.row l.link)) ≡ None → least_mark l.rebalance.marks ≡ None → Arrow z v s choice l (Activity.Rebalance (Rebalance.Gather Gather.Link)) (record (planned z l) { activity = Activity.Rebalance (Rebalance.Seek Seek.First) })
+  takes_key : Arrow z v s choice l (Activity.Rebalance (Rebalance.Gather Gather.Key)) (record l { place_key = key_of_word (v (name.Key l.row l.place)); activity = Activity.Rebalance (Rebalance.Gather Gather.Version) })
+  takes_version : Arrow z v s choice l (Activity.Rebalance (Rebalance.Gather Gather.Version)) (take_version (version_of_word (v (name.Version l.row l.place))) l).local
+  keeps_taken : Arrow z v s choice l (Activity.Rebalance (Rebalance.Gather Gather.Value)) (take_past (keeping z (value_of_word (v (name.Value l.row l.place))) l)).local
+  takes_left_key : Arrow z v s choice l (Activity.Rebalance (Rebalance.Gather Gather.LeftOverKey)) (record l { place_key = key_of_word (v (name.Key l.row l.place)); activity = Activity.Rebalance (Rebalance.Gather Gather.LeftOverValue) })
+  keeps_left : (m : Mark) → least_mark l.rebalance.marks ≡ Some m → Arrow z v s choice l (Activity.Rebalance (Rebalance.Gather Gather.LeftOverValue)) (record (keeping z (value_of_word (v (name.Value l.row l.place))) l) { place = m.cell; place_version = m.version; rebalance = record (keeping z (value_of_word (v (name.Value l.row l.place))) l).rebalance { marks = unmarked m.cell l.rebalance.marks }; activity = Activity.Rebalance (Rebalance.Gather Gather.LeftOverKey) })
+  keeps_no_more : least_mark l.rebalance.marks ≡ None → Arrow z v s choice l (Activity.Rebalance (Rebalance.Gather Gather.LeftOverValue)) (record (planned z (keeping z (value_of_word (v (name.Value l.row l.place))) l)) { activity = Activity.Rebalance (Rebalance.Seek Seek.First) })
   -- new rows are taken, written, linked and made normal, and the full one is retired: a type of its
   -- own has the ways that these may go
   builds : (c : Activity) (next : Local) → IsBuilding c → Building z v choice l c next → Arrow z v s choice l c next
@@ -270,16 +283,16 @@ above x y e = grind (arith, nat_tests)
 next_look : (z : Sizes) (j : ℕ) (l : Local) (P : Local → Type 0) → ((next : Activity) → NextLook z j next → P (record l { activity = next })) → P (to_look z j l).local
 next_look z j l P f = met (nat_lt j z.seats) refl
   where
-    met : (b : Bool) → nat_lt j z.seats ≡ b → P (let x : Outcome = if b then to (Look j) l else to ListFrom l in x).local
-    met true e = f (Look j) (looks (below j z.seats e))
-    met false e = f ListFrom (lists (not_below j z.seats e))
+    met : (b : Bool) → nat_lt j z.seats ≡ b → P (let x : Outcome = if b then to (Activity.Look (Look.Entry j)) l else to (Activity.Read Read.Link) l in x).local
+    met true e = f (Activity.Look (Look.Entry j)) (looks (below j z.seats e))
+    met false e = f (Activity.Read Read.Link) (lists (not_below j z.seats e))
 
 -- what follows the end of a row's cells, for a scan
 scan_goes_on : (l : Local) (n : Option ℕ) → least_mark l.remembered ≡ None → is_scan l.call ≡ true → l.next ≡ n → NextRest l (scan_on n (last_key l.call) (with_pairs (last_key l.call) l)).local
 scan_goes_on l None c s e = ends_scan c s (inl e)
 scan_goes_on l (Some r) c s e = met (nat_lt (last_key l.call) l.upper) refl
   where
-    met : (b : Bool) → nat_lt (last_key l.call) l.upper ≡ b → NextRest l (let x : Outcome = if b then scan_ended (with_pairs (last_key l.call) l) else to Walk (record (with_pairs (last_key l.call) l) { row = r; lower = l.upper; want = l.upper; next = None; upper = 0 }) in x).local
+    met : (b : Bool) → nat_lt (last_key l.call) l.upper ≡ b → NextRest l (let x : Outcome = if b then scan_ended (with_pairs (last_key l.call) l) else to (Activity.Walk Walk.Next) (record (with_pairs (last_key l.call) l) { row = r; lower = l.upper; want = l.upper; next = None; upper = 0 }) in x).local
     met true h = ends_scan c s (inr (below _ _ h))
     met false h = scans_on r c s e (not_below _ _ h)
 
@@ -300,18 +313,18 @@ next_rest l = met (least_mark l.remembered) refl
     met None e = read_arrow l l.call e refl
 
 -- the next entry, or the scans
-next_entry : (z : Sizes) (j : ℕ) (l : Local) (P : Local → Type 0) → (j < z.seats → P (record l { activity = FreezeLook j })) → (z.seats ≤ j → P (to_scans l).local) → P (to_freeze_look z j l).local
+next_entry : (z : Sizes) (j : ℕ) (l : Local) (P : Local → Type 0) → (j < z.seats → P (record l { activity = Activity.Rebalance (Rebalance.Freeze (Freeze.Look j)) })) → (z.seats ≤ j → P (to_scans l).local) → P (to_freeze_look z j l).local
 next_entry z j l P on last = met (nat_lt j z.seats) refl
   where
-    met : (b : Bool) → nat_lt j z.seats ≡ b → P (let x : Outcome = if b then to (FreezeLook j) l else to_scans l in x).local
+    met : (b : Bool) → nat_lt j z.seats ≡ b → P (let x : Outcome = if b then to (Activity.Rebalance (Rebalance.Freeze (Freeze.Look j))) l else to_scans l in x).local
     met true e = on (below j z.seats e)
     met false e = last (not_below j z.seats e)
 
 -- the next scan, or the row's cells
-next_scan : (z : Sizes) (j : ℕ) (l : Local) (P : Local → Type 0) → (j < z.seats → P (record l { activity = ScanLook j })) → (z.seats ≤ j → P (to_take l).local) → P (to_scan_look z j l).local
+next_scan : (z : Sizes) (j : ℕ) (l : Local) (P : Local → Type 0) → (j < z.seats → P (record l { activity = Activity.Rebalance (Rebalance.Freeze (Freeze.Scan j)) })) → (z.seats ≤ j → P (to_take l).local) → P (to_scan_look z j l).local
 next_scan z j l P on last = met (nat_lt j z.seats) refl
   where
-    met : (b : Bool) → nat_lt j z.seats ≡ b → P (let x : Outcome = if b then to (ScanLook j) l else to_take l in x).local
+    met : (b : Bool) → nat_lt j z.seats ≡ b → P (let x : Outcome = if b then to (Activity.Rebalance (Rebalance.Freeze (Freeze.Scan j))) l else to_take l in x).local
     met true e = on (below j z.seats e)
     met false e = last (not_below j z.seats e)
 
@@ -324,20 +337,20 @@ next_left z l P on last = met (least_mark l.rebalance.marks) refl
     met None e = last e
 
 module _ (z : Sizes) (rows : ℕ) (v : Words) (s : ℕ) (choice : Choice) (l : Local) where
-  enter_arrow : (c : Option Call) → l.call ≡ c → Arrow z v s choice l Enter (entered c l).local
+  enter_arrow : (c : Option Call) → l.call ≡ c → Arrow z v s choice l (Activity.Enter Enter.Announce) (entered c l).local
   enter_arrow (Some (Put key value)) e = enters (ap is_scan e)
   enter_arrow (Some (Del key)) e = enters (ap is_scan e)
   enter_arrow (Some (Get key)) e = enters (ap is_scan e)
   enter_arrow (Some (Scan from upto)) e = enters_scan (ap is_scan e)
   enter_arrow None e = enters (ap is_scan e)
 
-  begin_arrow : (c : Choice) → choice ≡ c → IsBegun Idle c → is_skipped Idle c ≡ false → Arrow z v s choice l Idle (begun c (v name.Epoch) l).local
+  begin_arrow : (c : Choice) → choice ≡ c → IsBegun Activity.Idle c → is_skipped Activity.Idle c ≡ false → Arrow z v s choice l Activity.Idle (begun c (v name.Epoch) l).local
   begin_arrow (Begin call) e b m = begins call e b
   begin_arrow Go e b m = let x : true ≡ false = m in absurd (cc)
   begin_arrow (Guess r) e b m = let x : true ≡ false = m in absurd (cc)
   begin_arrow Stop e b m = let x : true ≡ false = m in absurd (cc)
 
-  guess_arrow : (r : ℕ) (x : Option State) → choice ≡ Guess r → state_of (v (name.State r)) ≡ x → Arrow z v s choice l Start (guess_met r x l).local
+  guess_arrow : (r : ℕ) (x : Option State) → choice ≡ Guess r → state_of (v (name.State r)) ≡ x → Arrow z v s choice l (Activity.Walk Walk.Start) (guess_met r x l).local
   guess_arrow r (Some Free) c e = guess_fails
   guess_arrow r (Some (Infant seat)) c e = guess_fails
   guess_arrow r (Some Normal) c e = guesses r c e
@@ -346,314 +359,314 @@ module _ (z : Sizes) (rows : ℕ) (v : Words) (s : ℕ) (choice : Choice) (l : L
   guess_arrow r (Some (Retired number)) c e = guess_fails
   guess_arrow r None c e = guess_fails
 
-  start_arrow : (c : Choice) → choice ≡ c → Arrow z v s choice l Start (followed rows (start_transition c l) (v (start_transition c l).operation.name)).local
+  start_arrow : (c : Choice) → choice ≡ c → Arrow z v s choice l (Activity.Walk Walk.Start) (followed rows (start_transition c l) (v (start_transition c l).operation.name)).local
   start_arrow (Begin call) e = starts_at_head
   start_arrow Go e = starts_at_head
   start_arrow (Guess r) e = guess_arrow r (state_of (v (name.State r))) e refl
   start_arrow Stop e = starts_at_head
 
   -- arriving after the last row, and before a next one
-  arrive_last : (c : Option Call) → l.call ≡ c → next_in v l.row ≡ None → Arrow z v s choice l Walk (arrive c (record l { next = None; upper = 0 })).local
+  arrive_last : (c : Option Call) → l.call ≡ c → next_in v l.row ≡ None → Arrow z v s choice l (Activity.Walk Walk.Next) (arrive c (record l { next = None; upper = 0 })).local
   arrive_last (Some (Put key value)) e n = puts_in_last (ap is_put e) n
   arrive_last (Some (Del key)) e n = puts_in_last (ap is_put e) n
   arrive_last (Some (Get key)) e n = reads_last (ap is_put e) n
   arrive_last (Some (Scan from upto)) e n = reads_last (ap is_put e) n
   arrive_last None e n = reads_last (ap is_put e) n
 
-  arrive_before : (c : Option Call) → l.call ≡ c → l.want < least_in v l.candidate → Arrow z v s choice l WalkMin (arrive c (record l { next = Some l.candidate; upper = least_in v l.candidate })).local
+  arrive_before : (c : Option Call) → l.call ≡ c → l.want < least_in v l.candidate → Arrow z v s choice l (Activity.Walk Walk.NextLeast) (arrive c (record l { next = Some l.candidate; upper = least_in v l.candidate })).local
   arrive_before (Some (Put key value)) e n = puts_before (ap is_put e) n
   arrive_before (Some (Del key)) e n = puts_before (ap is_put e) n
   arrive_before (Some (Get key)) e n = reads_before (ap is_put e) n
   arrive_before (Some (Scan from upto)) e n = reads_before (ap is_put e) n
   arrive_before None e n = reads_before (ap is_put e) n
 
-  link_arrow : (n : Option ℕ) → next_in v l.row ≡ n → Arrow z v s choice l Walk (link_met n l).local
+  link_arrow : (n : Option ℕ) → next_in v l.row ≡ n → Arrow z v s choice l (Activity.Walk Walk.Next) (link_met n l).local
   link_arrow None e = arrive_last l.call refl e
   link_arrow (Some q) e = meets_next q e
 
-  walk_arrow : (b : Bool) → is_stopped choice l ≡ b → Arrow z v s choice l Walk (followed rows (walk_transition b s l) (v (walk_transition b s l).operation.name)).local
+  walk_arrow : (b : Bool) → is_stopped choice l ≡ b → Arrow z v s choice l (Activity.Walk Walk.Next) (followed rows (walk_transition b s l) (v (walk_transition b s l).operation.name)).local
   walk_arrow true e = stops e
   walk_arrow false e = link_arrow (next_in v l.row) refl
 
-  min_arrow : (b : Bool) → nat_le (least_in v l.candidate) l.want ≡ b → Arrow z v s choice l WalkMin (let x : Outcome = if b then to Walk (record l { row = l.candidate; lower = least_in v l.candidate }) else arrive l.call (record l { next = Some l.candidate; upper = least_in v l.candidate }) in x).local
+  min_arrow : (b : Bool) → nat_le (least_in v l.candidate) l.want ≡ b → Arrow z v s choice l (Activity.Walk Walk.NextLeast) (let x : Outcome = if b then to (Activity.Walk Walk.Next) (record l { row = l.candidate; lower = least_in v l.candidate }) else arrive l.call (record l { next = Some l.candidate; upper = least_in v l.candidate }) in x).local
   min_arrow true e = walks_on (at_most _ _ e)
   min_arrow false e = arrive_before l.call refl (above _ _ e)
 
-  look_arrow : (i : ℕ) (x : Option Pend) → pend_of (v (name.Pend l.row i)) ≡ x → Arrow z v s choice l (Look i) (look_met z i x l).local
-  look_arrow i (Some pend.Idle) e = next_look z (i + 1) l (Arrow z v s choice l (Look i)) (λ a n. meets_neither i a (record { pending = λ c q. let y : Some pend.Idle ≡ Some (pend.Pending c) = sym e ∙ q in cc; stamped = λ c u q. let y : Some pend.Idle ≡ Some (pend.Stamped c u) = sym e ∙ q in cc }) n)
+  look_arrow : (i : ℕ) (x : Option Pend) → pend_of (v (name.Pend l.row i)) ≡ x → Arrow z v s choice l (Activity.Look (Look.Entry i)) (look_met z i x l).local
+  look_arrow i (Some pend.Idle) e = next_look z (i + 1) l (Arrow z v s choice l (Activity.Look (Look.Entry i))) (λ a n. meets_neither i a (record { pending = λ c q. let y : Some pend.Idle ≡ Some (pend.Pending c) = sym e ∙ q in cc; stamped = λ c u q. let y : Some pend.Idle ≡ Some (pend.Stamped c u) = sym e ∙ q in cc }) n)
   look_arrow i (Some (pend.Pending cell)) e = meets_pending i cell e
-  look_arrow i (Some (pend.Stamped cell version)) e = next_look z (i + 1) (remembering cell version l) (Arrow z v s choice l (Look i)) (λ a n. meets_stamped i cell version a e n)
-  look_arrow i (Some pend.Frozen) e = next_look z (i + 1) l (Arrow z v s choice l (Look i)) (λ a n. meets_neither i a (record { pending = λ c q. let y : Some pend.Frozen ≡ Some (pend.Pending c) = sym e ∙ q in cc; stamped = λ c u q. let y : Some pend.Frozen ≡ Some (pend.Stamped c u) = sym e ∙ q in cc }) n)
-  look_arrow i None e = next_look z (i + 1) l (Arrow z v s choice l (Look i)) (λ a n. meets_neither i a (record { pending = λ c q. let y : None ≡ Some (pend.Pending c) = sym e ∙ q in cc; stamped = λ c u q. let y : None ≡ Some (pend.Stamped c u) = sym e ∙ q in cc }) n)
+  look_arrow i (Some (pend.Stamped cell version)) e = next_look z (i + 1) (remembering cell version l) (Arrow z v s choice l (Activity.Look (Look.Entry i))) (λ a n. meets_stamped i cell version a e n)
+  look_arrow i (Some pend.Frozen) e = next_look z (i + 1) l (Arrow z v s choice l (Activity.Look (Look.Entry i))) (λ a n. meets_neither i a (record { pending = λ c q. let y : Some pend.Frozen ≡ Some (pend.Pending c) = sym e ∙ q in cc; stamped = λ c u q. let y : Some pend.Frozen ≡ Some (pend.Stamped c u) = sym e ∙ q in cc }) n)
+  look_arrow i None e = next_look z (i + 1) l (Arrow z v s choice l (Activity.Look (Look.Entry i))) (λ a n. meets_neither i a (record { pending = λ c q. let y : None ≡ Some (pend.Pending c) = sym e ∙ q in cc; stamped = λ c u q. let y : None ≡ Some (pend.Stamped c u) = sym e ∙ q in cc }) n)
 
-  help_arrow : (x : Option Pend) → pend_of (v (name.Pend l.row l.looked)) ≡ x → Arrow z v s choice l LookHelp (help_met z x l).local
-  help_arrow (Some pend.Idle) e = next_look z (l.looked + 1) l (Arrow z v s choice l LookHelp) (λ a n. finds_other a (record { pending = λ q. let y : Some pend.Idle ≡ Some (pend.Pending l.met) = sym e ∙ q in cc; stamped = λ c u q. let y : Some pend.Idle ≡ Some (pend.Stamped c u) = sym e ∙ q in cc }) n)
+  help_arrow : (x : Option Pend) → pend_of (v (name.Pend l.row l.looked)) ≡ x → Arrow z v s choice l (Activity.Look Look.Help) (help_met z x l).local
+  help_arrow (Some pend.Idle) e = next_look z (l.looked + 1) l (Arrow z v s choice l (Activity.Look Look.Help)) (λ a n. finds_other a (record { pending = λ q. let y : Some pend.Idle ≡ Some (pend.Pending l.met) = sym e ∙ q in cc; stamped = λ c u q. let y : Some pend.Idle ≡ Some (pend.Stamped c u) = sym e ∙ q in cc }) n)
   help_arrow (Some (pend.Pending cell)) e = met (cell == l.met) refl
     where
-      met : (b : Bool) → (cell == l.met) ≡ b → Arrow z v s choice l LookHelp (to_look z (l.looked + 1) (let x : Local = if b then remembering cell l.helping l else l in x)).local
-      met true h = next_look z (l.looked + 1) (remembering cell l.helping l) (Arrow z v s choice l LookHelp)
-          (λ a n. subst (λ c. Arrow z v s choice l LookHelp (record (remembering c l.helping l) { activity = a })) (sym (eq_from cell l.met h)) (helps a (e ∙ ap (λ c. Some (pend.Pending c)) (eq_from cell l.met h)) n))
-      met false h = next_look z (l.looked + 1) l (Arrow z v s choice l LookHelp) (λ a n. finds_other a (record { pending = λ q. let y : Some (pend.Pending cell) ≡ Some (pend.Pending l.met) = sym e ∙ q in eq_not cell l.met h (cc); stamped = λ c u q. let y : Some (pend.Pending cell) ≡ Some (pend.Stamped c u) = sym e ∙ q in cc }) n)
-  help_arrow (Some (pend.Stamped cell version)) e = next_look z (l.looked + 1) (remembering cell version l) (Arrow z v s choice l LookHelp) (λ a n. finds_stamped cell version a e n)
-  help_arrow (Some pend.Frozen) e = next_look z (l.looked + 1) l (Arrow z v s choice l LookHelp) (λ a n. finds_other a (record { pending = λ q. let y : Some pend.Frozen ≡ Some (pend.Pending l.met) = sym e ∙ q in cc; stamped = λ c u q. let y : Some pend.Frozen ≡ Some (pend.Stamped c u) = sym e ∙ q in cc }) n)
-  help_arrow None e = next_look z (l.looked + 1) l (Arrow z v s choice l LookHelp) (λ a n. finds_other a (record { pending = λ q. let y : None ≡ Some (pend.Pending l.met) = sym e ∙ q in cc; stamped = λ c u q. let y : None ≡ Some (pend.Stamped c u) = sym e ∙ q in cc }) n)
+      met : (b : Bool) → (cell == l.met) ≡ b → Arrow z v s choice l (Activity.Look Look.Help) (to_look z (l.looked + 1) (let x : Local = if b then remembering cell l.helping l else l in x)).local
+      met true h = next_look z (l.looked + 1) (remembering cell l.helping l) (Arrow z v s choice l (Activity.Look Look.Help))
+          (λ a n. subst (λ c. Arrow z v s choice l (Activity.Look Look.Help) (record (remembering c l.helping l) { activity = a })) (sym (eq_from cell l.met h)) (helps a (e ∙ ap (λ c. Some (pend.Pending c)) (eq_from cell l.met h)) n))
+      met false h = next_look z (l.looked + 1) l (Arrow z v s choice l (Activity.Look Look.Help)) (λ a n. finds_other a (record { pending = λ q. let y : Some (pend.Pending cell) ≡ Some (pend.Pending l.met) = sym e ∙ q in eq_not cell l.met h (cc); stamped = λ c u q. let y : Some (pend.Pending cell) ≡ Some (pend.Stamped c u) = sym e ∙ q in cc }) n)
+  help_arrow (Some (pend.Stamped cell version)) e = next_look z (l.looked + 1) (remembering cell version l) (Arrow z v s choice l (Activity.Look Look.Help)) (λ a n. finds_stamped cell version a e n)
+  help_arrow (Some pend.Frozen) e = next_look z (l.looked + 1) l (Arrow z v s choice l (Activity.Look Look.Help)) (λ a n. finds_other a (record { pending = λ q. let y : Some pend.Frozen ≡ Some (pend.Pending l.met) = sym e ∙ q in cc; stamped = λ c u q. let y : Some pend.Frozen ≡ Some (pend.Stamped c u) = sym e ∙ q in cc }) n)
+  help_arrow None e = next_look z (l.looked + 1) l (Arrow z v s choice l (Activity.Look Look.Help)) (λ a n. finds_other a (record { pending = λ q. let y : None ≡ Some (pend.Pending l.met) = sym e ∙ q in cc; stamped = λ c u q. let y : None ≡ Some (pend.Stamped c u) = sym e ∙ q in cc }) n)
 
-  list_arrow : (x : Option ℕ) → cell_of_link_word (v (link_name l.row l.link)) ≡ x → Arrow z v s choice l ListFrom (list_met z x l).local
+  list_arrow : (x : Option ℕ) → cell_of_link_word (v (link_name l.row l.link)) ≡ x → Arrow z v s choice l (Activity.Read Read.Link) (list_met z x l).local
   list_arrow (Some c) e = list_leads c e
   list_arrow None e = list_ends _ e (next_rest l)
 
-  stamp_arrow : (x : Option Pend) → pend_of (v (name.Pend l.row s)) ≡ x → Arrow z v s choice l Stamp (stamp_met x l).local
+  stamp_arrow : (x : Option Pend) → pend_of (v (name.Pend l.row s)) ≡ x → Arrow z v s choice l (Activity.Put Put.Stamp) (stamp_met x l).local
   stamp_arrow (Some pend.Idle) e = stamps_full (record { pending = λ q. let y : Some pend.Idle ≡ Some (pend.Pending l.cell) = sym e ∙ q in cc; stamped = λ u q. let y : Some pend.Idle ≡ Some (pend.Stamped l.cell u) = sym e ∙ q in cc })
   stamp_arrow (Some (pend.Pending cell)) e = met (cell == l.cell) refl
     where
-      met : (b : Bool) → (cell == l.cell) ≡ b → Arrow z v s choice l Stamp (let x : Outcome = if b then to PutVersion l else to_rebalance l in x).local
+      met : (b : Bool) → (cell == l.cell) ≡ b → Arrow z v s choice l (Activity.Put Put.Stamp) (let x : Outcome = if b then to (Activity.Put Put.Version) l else to_rebalance l in x).local
       met true h = stamps (e ∙ ap (λ c. Some (pend.Pending c)) (eq_from cell l.cell h))
       met false h = stamps_full (record { pending = λ q. let y : Some (pend.Pending cell) ≡ Some (pend.Pending l.cell) = sym e ∙ q in eq_not cell l.cell h (cc); stamped = λ u q. let y : Some (pend.Pending cell) ≡ Some (pend.Stamped l.cell u) = sym e ∙ q in cc })
   stamp_arrow (Some (pend.Stamped cell version)) e = met (cell == l.cell) refl
     where
-      met : (b : Bool) → (cell == l.cell) ≡ b → Arrow z v s choice l Stamp (let x : Outcome = if b then to PutVersion (record l { version = version }) else to_rebalance l in x).local
+      met : (b : Bool) → (cell == l.cell) ≡ b → Arrow z v s choice l (Activity.Put Put.Stamp) (let x : Outcome = if b then to (Activity.Put Put.Version) (record l { version = version }) else to_rebalance l in x).local
       met true h = is_stamped version (e ∙ ap (λ c. Some (pend.Stamped c version)) (eq_from cell l.cell h))
       met false h = stamps_full (record { pending = λ q. let y : Some (pend.Stamped cell version) ≡ Some (pend.Pending l.cell) = sym e ∙ q in cc; stamped = λ u q. let y : Some (pend.Stamped cell version) ≡ Some (pend.Stamped l.cell u) = sym e ∙ q in eq_not cell l.cell h (cc) })
   stamp_arrow (Some pend.Frozen) e = stamps_full (record { pending = λ q. let y : Some pend.Frozen ≡ Some (pend.Pending l.cell) = sym e ∙ q in cc; stamped = λ u q. let y : Some pend.Frozen ≡ Some (pend.Stamped l.cell u) = sym e ∙ q in cc })
   stamp_arrow None e = stamps_full (record { pending = λ q. let y : None ≡ Some (pend.Pending l.cell) = sym e ∙ q in cc; stamped = λ u q. let y : None ≡ Some (pend.Stamped l.cell u) = sym e ∙ q in cc })
 
   -- a clock at its end: the put is refused, and leaves as done where it tidied
-  refused_clock : (b : Bool) → l.tidies ≡ b → SPENT ≤ v name.Clock → Arrow z v s choice l BalClock (leave (if b then Done else Spent) (without_rebalance l)).local
+  refused_clock : (b : Bool) → l.tidies ≡ b → SPENT ≤ v name.Clock → Arrow z v s choice l (Activity.Rebalance (Rebalance.Engage Engage.Clock)) (leave (if b then Done else Spent) (without_rebalance l)).local
   refused_clock true e f = ends_at_clock e
   refused_clock false e f = clock_is_spent f e
 
   -- an epoch at its end: the same
-  refused_epoch : (b : Bool) → l.tidies ≡ b → SPENT ≤ v name.Epoch → Arrow z v s choice l BalEpoch (leave (if b then Done else Spent) (without_rebalance l)).local
+  refused_epoch : (b : Bool) → l.tidies ≡ b → SPENT ≤ v name.Epoch → Arrow z v s choice l (Activity.Rebalance (Rebalance.Engage Engage.Epoch)) (leave (if b then Done else Spent) (without_rebalance l)).local
   refused_epoch true e f = ends_at_epoch e
   refused_epoch false e f = epoch_is_spent f e
 
   -- the row leads no more: the put begins anew, and leaves where it tidied
-  other_state : (b : Bool) → l.tidies ≡ b → Arrow z v s choice l BalState (to (if b then Leave Done else Again) (without_rows (without_rebalance l))).local
+  other_state : (b : Bool) → l.tidies ≡ b → Arrow z v s choice l (Activity.Rebalance (Rebalance.Engage Engage.State)) (to (if b then (Activity.Leave Done) else Activity.Retry) (without_rows (without_rebalance l))).local
   other_state true e = ends_at_state e
   other_state false e = finds_other_state e
 
   -- the group is not this seat's to decide: the same
-  not_decided : (count : ℕ) (b : Bool) → l.tidies ≡ b → Arrow z v s choice l (Decide count) (to (if b then Leave Done else Again) (without_rows (without_rebalance l))).local
+  not_decided : (count : ℕ) (b : Bool) → l.tidies ≡ b → Arrow z v s choice l (Activity.Rebalance (Rebalance.Engage (Engage.Decide count))) (to (if b then (Activity.Leave Done) else Activity.Retry) (without_rows (without_rebalance l))).local
   not_decided count true e = ends_undecided count e
   not_decided count false e = decides_not count e
 
-  balance_arrow : (x : Option State) → state_of (v (name.State l.row)) ≡ x → Arrow z v s choice l BalState (state_met x l).local
+  balance_arrow : (x : Option State) → state_of (v (name.State l.row)) ≡ x → Arrow z v s choice l (Activity.Rebalance (Rebalance.Engage Engage.State)) (state_met x l).local
   balance_arrow (Some Free) e = other_state l.tidies refl
   balance_arrow (Some (Infant seat)) e = finds_infant seat e
   balance_arrow (Some Normal) e = finds_normal e
   balance_arrow (Some (Leader count)) e = met (nat_le count 1) refl
     where
-      met : (b : Bool) → nat_le count 1 ≡ b → Arrow z v s choice l BalState (let x : Outcome = if b then to (MarkLink count) l else again l in x).local
+      met : (b : Bool) → nat_le count 1 ≡ b → Arrow z v s choice l (Activity.Rebalance (Rebalance.Engage Engage.State)) (let x : Outcome = if b then to (Activity.Rebalance (Rebalance.Engage (Engage.MarkLink count))) l else again l in x).local
       met true h = finds_leader count e (at_most _ _ h)
       met false h = other_state l.tidies refl
   balance_arrow (Some (Follower leader)) e = other_state l.tidies refl
   balance_arrow (Some (Retired number)) e = other_state l.tidies refl
   balance_arrow None e = other_state l.tidies refl
 
-  decide_arrow : (count : ℕ) (x : Option State) → state_of (v (name.State l.row)) ≡ x → Arrow z v s choice l (Decide count) (decided x l).local
+  decide_arrow : (count : ℕ) (x : Option State) → state_of (v (name.State l.row)) ≡ x → Arrow z v s choice l (Activity.Rebalance (Rebalance.Engage (Engage.Decide count))) (decided x l).local
   decide_arrow count (Some Free) e = not_decided count l.tidies refl
   decide_arrow count (Some (Infant seat)) e = not_decided count l.tidies refl
   decide_arrow count (Some Normal) e = not_decided count l.tidies refl
   decide_arrow count (Some (Leader n)) e = met (nat_le n 1) refl
     where
-      met : (b : Bool) → nat_le n 1 ≡ b → Arrow z v s choice l (Decide count) (let x : Outcome = if b then to FreezeCount l else again l in x).local
+      met : (b : Bool) → nat_le n 1 ≡ b → Arrow z v s choice l (Activity.Rebalance (Rebalance.Engage (Engage.Decide count))) (let x : Outcome = if b then to (Activity.Rebalance (Rebalance.Freeze Freeze.Count)) l else again l in x).local
       met true h = decides count n e (at_most _ _ h)
       met false h = not_decided count l.tidies refl
   decide_arrow count (Some (Follower leader)) e = not_decided count l.tidies refl
   decide_arrow count (Some (Retired number)) e = not_decided count l.tidies refl
   decide_arrow count None e = not_decided count l.tidies refl
 
-  freeze_arrow : (i : ℕ) (x : Option Pend) → pend_of (v (name.Pend l.row i)) ≡ x → Arrow z v s choice l (FreezeLook i) (freeze_met z i x l).local
+  freeze_arrow : (i : ℕ) (x : Option Pend) → pend_of (v (name.Pend l.row i)) ≡ x → Arrow z v s choice l (Activity.Rebalance (Rebalance.Freeze (Freeze.Look i))) (freeze_met z i x l).local
   freeze_arrow i (Some pend.Idle) e = meets_idle i e
   freeze_arrow i (Some (pend.Pending cell)) e = meets_unstamped i cell e
-  freeze_arrow i (Some (pend.Stamped cell version)) e = next_entry z (i + 1) (marking cell version l) (Arrow z v s choice l (FreezeLook i)) (remembers i cell version e) (remembers_last i cell version e)
-  freeze_arrow i (Some pend.Frozen) e = next_entry z (i + 1) l (Arrow z v s choice l (FreezeLook i)) (meets_frozen i (inl e)) (meets_frozen_last i (inl e))
-  freeze_arrow i None e = next_entry z (i + 1) l (Arrow z v s choice l (FreezeLook i)) (meets_frozen i (inr e)) (meets_frozen_last i (inr e))
+  freeze_arrow i (Some (pend.Stamped cell version)) e = next_entry z (i + 1) (marking cell version l) (Arrow z v s choice l (Activity.Rebalance (Rebalance.Freeze (Freeze.Look i)))) (remembers i cell version e) (remembers_last i cell version e)
+  freeze_arrow i (Some pend.Frozen) e = next_entry z (i + 1) l (Arrow z v s choice l (Activity.Rebalance (Rebalance.Freeze (Freeze.Look i)))) (meets_frozen i (inl e)) (meets_frozen_last i (inl e))
+  freeze_arrow i None e = next_entry z (i + 1) l (Arrow z v s choice l (Activity.Rebalance (Rebalance.Freeze (Freeze.Look i)))) (meets_frozen i (inr e)) (meets_frozen_last i (inr e))
 
-  scan_arrow : (i : ℕ) (x : Option ScanWord) → scan_of (v (name.Scan i)) ≡ x → Arrow z v s choice l (ScanLook i) (scan_met z i x l).local
-  scan_arrow i (Some scan.Quiet) e = next_scan z (i + 1) l (Arrow z v s choice l (ScanLook i)) (meets_quiet i (inl e)) (meets_quiet_last i (inl e))
+  scan_arrow : (i : ℕ) (x : Option ScanWord) → scan_of (v (name.Scan i)) ≡ x → Arrow z v s choice l (Activity.Rebalance (Rebalance.Freeze (Freeze.Scan i))) (scan_met z i x l).local
+  scan_arrow i (Some scan.Quiet) e = next_scan z (i + 1) l (Arrow z v s choice l (Activity.Rebalance (Rebalance.Freeze (Freeze.Scan i)))) (meets_quiet i (inl e)) (meets_quiet_last i (inl e))
   scan_arrow i (Some (scan.Waiting clock)) e = helps_scan i clock e
-  scan_arrow i (Some (scan.Drawn version)) e = next_scan z (i + 1) (needing version l) (Arrow z v s choice l (ScanLook i)) (meets_drawn i version e) (meets_drawn_last i version e)
-  scan_arrow i None e = next_scan z (i + 1) l (Arrow z v s choice l (ScanLook i)) (meets_quiet i (inr e)) (meets_quiet_last i (inr e))
+  scan_arrow i (Some (scan.Drawn version)) e = next_scan z (i + 1) (needing version l) (Arrow z v s choice l (Activity.Rebalance (Rebalance.Freeze (Freeze.Scan i)))) (meets_drawn i version e) (meets_drawn_last i version e)
+  scan_arrow i None e = next_scan z (i + 1) l (Arrow z v s choice l (Activity.Rebalance (Rebalance.Freeze (Freeze.Scan i)))) (meets_quiet i (inr e)) (meets_quiet_last i (inr e))
 
-  no_scan_arrow : (i : ℕ) → IsNoScan l.rebalance.waiting (v (name.Scan i)) → Arrow z v s choice l (HelpSettle i) (to_scan_look z (i + 1) l).local
-  no_scan_arrow i n = next_scan z (i + 1) l (Arrow z v s choice l (HelpSettle i)) (finds_no_scan i n) (finds_no_scan_last i n)
+  no_scan_arrow : (i : ℕ) → IsNoScan l.rebalance.waiting (v (name.Scan i)) → Arrow z v s choice l (Activity.Rebalance (Rebalance.Freeze (Freeze.Settle i))) (to_scan_look z (i + 1) l).local
+  no_scan_arrow i n = next_scan z (i + 1) l (Arrow z v s choice l (Activity.Rebalance (Rebalance.Freeze (Freeze.Settle i)))) (finds_no_scan i n) (finds_no_scan_last i n)
 
-  settle_arrow : (i : ℕ) (x : Option ScanWord) → scan_of (v (name.Scan i)) ≡ x → Arrow z v s choice l (HelpSettle i) (scan_helped z i x l).local
+  settle_arrow : (i : ℕ) (x : Option ScanWord) → scan_of (v (name.Scan i)) ≡ x → Arrow z v s choice l (Activity.Rebalance (Rebalance.Freeze (Freeze.Settle i))) (scan_helped z i x l).local
   settle_arrow i (Some scan.Quiet) e = no_scan_arrow i (record { waiting = λ q. let y : Some scan.Quiet ≡ Some (scan.Waiting l.rebalance.waiting) = sym e ∙ q in cc; drawn = λ u q. let y : Some scan.Quiet ≡ Some (scan.Drawn u) = sym e ∙ q in cc })
   settle_arrow i (Some (scan.Waiting clock)) e = met (clock == l.rebalance.waiting) refl
     where
-      met : (b : Bool) → (clock == l.rebalance.waiting) ≡ b → Arrow z v s choice l (HelpSettle i) (to_scan_look z (i + 1) (let x : Local = if b then needing l.rebalance.drawn l else l in x)).local
-      met true h = let w = e ∙ ap (λ c. Some (scan.Waiting c)) (eq_from clock l.rebalance.waiting h) in next_scan z (i + 1) (needing l.rebalance.drawn l) (Arrow z v s choice l (HelpSettle i)) (settles_scan i w) (settles_last i w)
+      met : (b : Bool) → (clock == l.rebalance.waiting) ≡ b → Arrow z v s choice l (Activity.Rebalance (Rebalance.Freeze (Freeze.Settle i))) (to_scan_look z (i + 1) (let x : Local = if b then needing l.rebalance.drawn l else l in x)).local
+      met true h = let w = e ∙ ap (λ c. Some (scan.Waiting c)) (eq_from clock l.rebalance.waiting h) in next_scan z (i + 1) (needing l.rebalance.drawn l) (Arrow z v s choice l (Activity.Rebalance (Rebalance.Freeze (Freeze.Settle i)))) (settles_scan i w) (settles_last i w)
       met false h = no_scan_arrow i (record { waiting = λ q. let y : Some (scan.Waiting clock) ≡ Some (scan.Waiting l.rebalance.waiting) = sym e ∙ q in eq_not clock l.rebalance.waiting h (cc); drawn = λ u q. let y : Some (scan.Waiting clock) ≡ Some (scan.Drawn u) = sym e ∙ q in cc })
-  settle_arrow i (Some (scan.Drawn version)) e = next_scan z (i + 1) (needing version l) (Arrow z v s choice l (HelpSettle i)) (finds_drawn i version e) (finds_drawn_last i version e)
+  settle_arrow i (Some (scan.Drawn version)) e = next_scan z (i + 1) (needing version l) (Arrow z v s choice l (Activity.Rebalance (Rebalance.Freeze (Freeze.Settle i)))) (finds_drawn i version e) (finds_drawn_last i version e)
   settle_arrow i None e = no_scan_arrow i (record { waiting = λ q. let y : None ≡ Some (scan.Waiting l.rebalance.waiting) = sym e ∙ q in cc; drawn = λ u q. let y : None ≡ Some (scan.Drawn u) = sym e ∙ q in cc })
 
-  take_arrow : (x : Option ℕ) → cell_of_link_word (v (link_name l.row l.link)) ≡ x → Arrow z v s choice l TakeFrom (take_met z x l).local
+  take_arrow : (x : Option ℕ) → cell_of_link_word (v (link_name l.row l.link)) ≡ x → Arrow z v s choice l (Activity.Rebalance (Rebalance.Gather Gather.Link)) (take_met z x l).local
   take_arrow (Some c) e = take_leads c e
-  take_arrow None e = next_left z l (Arrow z v s choice l TakeFrom) (λ m n. takes_left m e n) (takes_no_more e)
+  take_arrow None e = next_left z l (Arrow z v s choice l (Activity.Rebalance (Rebalance.Gather Gather.Link))) (λ m n. takes_left m e n) (takes_no_more e)
 
-  insert_arrow : (x : Option ℕ) → cell_of_link_word (v (link_name l.row l.link)) ≡ x → Arrow z v s choice l InsFrom (insert_from z x l).local
+  insert_arrow : (x : Option ℕ) → cell_of_link_word (v (link_name l.row l.link)) ≡ x → Arrow z v s choice l (Activity.Insert Insert.Link) (insert_from z x l).local
   insert_arrow (Some c) e = meets_cell c e
   insert_arrow None e = meets_none e
 
   -- every event that is not skipped takes an arrow
   pub arrow : (a : Activity) → IsBegun a choice → is_skipped a choice ≡ false → Arrow z v s choice l a (followed rows (transition z a s choice l) (v (transition z a s choice l).operation.name)).local
-  arrow Idle b m = begin_arrow choice refl b m
-  arrow Enter b m = enter_arrow l.call refl
-  arrow ScanClock b m = met (nat_le SPENT (v name.Clock)) refl
+  arrow Activity.Idle b m = begin_arrow choice refl b m
+  arrow (Activity.Enter Enter.Announce) b m = enter_arrow l.call refl
+  arrow (Activity.Draw Draw.Clock) b m = met (nat_le SPENT (v name.Clock)) refl
     where
-      met : (b : Bool) → nat_le SPENT (v name.Clock) ≡ b → Arrow z v s choice l ScanClock (let x : Outcome = if b then leave Spent l else to ScanWait (record l { waiting = v name.Clock }) in x).local
+      met : (b : Bool) → nat_le SPENT (v name.Clock) ≡ b → Arrow z v s choice l (Activity.Draw Draw.Clock) (let x : Outcome = if b then leave Spent l else to (Activity.Draw Draw.Wait) (record l { waiting = v name.Clock }) in x).local
       met true e = is_spent (at_most _ _ e)
       met false e = waits (above _ _ e)
-  arrow ScanWait b m = stores_waiting
-  arrow ScanDraw b m = draws
-  arrow ScanSettle b m = met (is_range_empty l.call) refl
+  arrow (Activity.Draw Draw.Wait) b m = stores_waiting
+  arrow (Activity.Draw Draw.Version) b m = draws
+  arrow (Activity.Draw Draw.Settle) b m = met (is_range_empty l.call) refl
     where
-      met : (b : Bool) → is_range_empty l.call ≡ b → Arrow z v s choice l ScanSettle (let x : Outcome = if b then to (ClearScan Pairs) (record l { version = version_settled (scan_of (v (name.Scan s))) l.drawn }) else to Start (record l { version = version_settled (scan_of (v (name.Scan s))) l.drawn; want = first_key l.call }) in x).local
+      met : (b : Bool) → is_range_empty l.call ≡ b → Arrow z v s choice l (Activity.Draw Draw.Settle) (let x : Outcome = if b then to (Activity.EndScan Pairs) (record l { version = version_settled (scan_of (v (name.Scan s))) l.drawn }) else to (Activity.Walk Walk.Start) (record l { version = version_settled (scan_of (v (name.Scan s))) l.drawn; want = first_key l.call }) in x).local
       met true e = settles_empty e
       met false e = settles e
-  arrow Start b m = start_arrow choice refl
-  arrow Head b m = takes_head
-  arrow GuessMin b m = met (nat_le (least_in v l.row) l.want) refl
+  arrow (Activity.Walk Walk.Start) b m = start_arrow choice refl
+  arrow (Activity.Walk Walk.First) b m = takes_head
+  arrow (Activity.Walk Walk.GuessedLeast) b m = met (nat_le (least_in v l.row) l.want) refl
     where
-      met : (b : Bool) → nat_le (least_in v l.row) l.want ≡ b → Arrow z v s choice l GuessMin (let x : Outcome = if b then to Walk (record l { lower = least_in v l.row }) else to Head l in x).local
+      met : (b : Bool) → nat_le (least_in v l.row) l.want ≡ b → Arrow z v s choice l (Activity.Walk Walk.GuessedLeast) (let x : Outcome = if b then to (Activity.Walk Walk.Next) (record l { lower = least_in v l.row }) else to (Activity.Walk Walk.First) l in x).local
       met true e = guess_serves (at_most _ _ e)
       met false e = guess_is_above (above _ _ e)
-  arrow Walk b m = walk_arrow (is_stopped choice l) refl
-  arrow WalkMin b m = min_arrow (nat_le (least_in v l.candidate) l.want) refl
-  arrow (Look i) b m = look_arrow i (pend_of (v (name.Pend l.row i))) refl
-  arrow LookKey b m = met (is_in_range l.call (key_of_word (v (name.Key l.row l.met)))) refl
+  arrow (Activity.Walk Walk.Next) b m = walk_arrow (is_stopped choice l) refl
+  arrow (Activity.Walk Walk.NextLeast) b m = min_arrow (nat_le (least_in v l.candidate) l.want) refl
+  arrow (Activity.Look (Look.Entry i)) b m = look_arrow i (pend_of (v (name.Pend l.row i))) refl
+  arrow (Activity.Look Look.Key) b m = met (is_in_range l.call (key_of_word (v (name.Key l.row l.met)))) refl
     where
-      met : (b : Bool) → is_in_range l.call (key_of_word (v (name.Key l.row l.met))) ≡ b → Arrow z v s choice l LookKey (let x : Outcome = if b then to LookClock l else to_look z (l.looked + 1) l in x).local
+      met : (b : Bool) → is_in_range l.call (key_of_word (v (name.Key l.row l.met))) ≡ b → Arrow z v s choice l (Activity.Look Look.Key) (let x : Outcome = if b then to (Activity.Look Look.Clock) l else to_look z (l.looked + 1) l in x).local
       met true e = is_wanted e
-      met false e = next_look z (l.looked + 1) l (Arrow z v s choice l LookKey) (λ a n. is_passed a e n)
-  arrow LookClock b m = loads_to_help
-  arrow LookHelp b m = help_arrow (pend_of (v (name.Pend l.row l.looked))) refl
-  arrow ListFrom b m = list_arrow (cell_of_link_word (v (link_name l.row l.link))) refl
-  arrow ListKey b m = met (nat_lt (key_of_word (v (name.Key l.row l.place))) (first_key l.call)) (nat_le (key_of_word (v (name.Key l.row l.place))) (last_key l.call)) refl refl
+      met false e = next_look z (l.looked + 1) l (Arrow z v s choice l (Activity.Look Look.Key)) (λ a n. is_passed a e n)
+  arrow (Activity.Look Look.Clock) b m = loads_to_help
+  arrow (Activity.Look Look.Help) b m = help_arrow (pend_of (v (name.Pend l.row l.looked))) refl
+  arrow (Activity.Read Read.Link) b m = list_arrow (cell_of_link_word (v (link_name l.row l.link))) refl
+  arrow (Activity.Read Read.Key) b m = met (nat_lt (key_of_word (v (name.Key l.row l.place))) (first_key l.call)) (nat_le (key_of_word (v (name.Key l.row l.place))) (last_key l.call)) refl refl
     where
       met : (b c : Bool) → nat_lt (key_of_word (v (name.Key l.row l.place))) (first_key l.call) ≡ b → nat_le (key_of_word (v (name.Key l.row l.place))) (last_key l.call) ≡ c →
-          Arrow z v s choice l ListKey (let x : Outcome = if b then list_past l else if c then to ListVer (record l { place_key = key_of_word (v (name.Key l.row l.place)) }) else to_rest l in x).local
+          Arrow z v s choice l (Activity.Read Read.Key) (let x : Outcome = if b then list_past l else if c then to (Activity.Read Read.Version) (record l { place_key = key_of_word (v (name.Key l.row l.place)) }) else to_rest l in x).local
       met true c e f = key_below (below _ _ e)
       met false true e f = key_within (not_below _ _ e) (at_most _ _ f)
       met false false e f = key_above _ (above _ _ f) (next_rest l)
-  arrow ListVer b m = loads_version
-  arrow ListVal b m = gathers_listed
-  arrow RestKey b m = met (is_in_range l.call (key_of_word (v (name.Key l.row l.place)))) refl
+  arrow (Activity.Read Read.Version) b m = loads_version
+  arrow (Activity.Read Read.Value) b m = gathers_listed
+  arrow (Activity.Read Read.LeftOverKey) b m = met (is_in_range l.call (key_of_word (v (name.Key l.row l.place)))) refl
     where
-      met : (b : Bool) → is_in_range l.call (key_of_word (v (name.Key l.row l.place))) ≡ b → Arrow z v s choice l RestKey (let x : Outcome = if b then to RestVal (record l { place_key = key_of_word (v (name.Key l.row l.place)) }) else to_rest l in x).local
+      met : (b : Bool) → is_in_range l.call (key_of_word (v (name.Key l.row l.place))) ≡ b → Arrow z v s choice l (Activity.Read Read.LeftOverKey) (let x : Outcome = if b then to (Activity.Read Read.LeftOverValue) (record l { place_key = key_of_word (v (name.Key l.row l.place)) }) else to_rest l in x).local
       met true e = rest_wanted e
       met false e = rest_passed _ e (next_rest l)
-  arrow RestVal b m = gathers_rest _ (next_rest (gathering z (value_of_word (v (name.Value l.row l.place))) l))
-  arrow (ClearScan answer) b m = clears_scan answer
-  arrow PutCount b m = met (has_room z (count_of (v (name.Count l.row)))) refl
+  arrow (Activity.Read Read.LeftOverValue) b m = gathers_rest _ (next_rest (gathering z (value_of_word (v (name.Value l.row l.place))) l))
+  arrow (Activity.EndScan answer) b m = clears_scan answer
+  arrow (Activity.Put Put.Count) b m = met (has_room z (count_of (v (name.Count l.row)))) refl
     where
-      met : (b : Bool) → has_room z (count_of (v (name.Count l.row))) ≡ b → Arrow z v s choice l PutCount (let x : Outcome = if b then to PutAdd l else to_rebalance l in x).local
+      met : (b : Bool) → has_room z (count_of (v (name.Count l.row))) ≡ b → Arrow z v s choice l (Activity.Put Put.Count) (let x : Outcome = if b then to (Activity.Put Put.Add) l else to_rebalance l in x).local
       met true e = finds_room e
       met false e = finds_full e
-  arrow PutAdd b m = met (has_room z (count_of (v (name.Count l.row)))) refl
+  arrow (Activity.Put Put.Add) b m = met (has_room z (count_of (v (name.Count l.row)))) refl
     where
-      met : (b : Bool) → has_room z (count_of (v (name.Count l.row))) ≡ b → Arrow z v s choice l PutAdd (let x : Outcome = if b then to PutKey (record l { cell = given_of (count_of (v (name.Count l.row))) }) else to_rebalance l in x).local
+      met : (b : Bool) → has_room z (count_of (v (name.Count l.row))) ≡ b → Arrow z v s choice l (Activity.Put Put.Add) (let x : Outcome = if b then to (Activity.Put Put.Key) (record l { cell = given_of (count_of (v (name.Count l.row))) }) else to_rebalance l in x).local
       met true e = takes_cell e
       met false e = takes_full e
-  arrow PutKey b m = stores_key
-  arrow PutValue b m = stores_value
-  arrow Announce b m = met (v (name.Pend l.row s) == pend_word pend.Idle) refl
+  arrow (Activity.Put Put.Key) b m = stores_key
+  arrow (Activity.Put Put.Value) b m = stores_value
+  arrow (Activity.Put Put.Announce) b m = met (v (name.Pend l.row s) == pend_word pend.Idle) refl
     where
-      met : (b : Bool) → (v (name.Pend l.row s) == pend_word pend.Idle) ≡ b → Arrow z v s choice l Announce (let x : Outcome = if b then to PutClock l else to_rebalance l in x).local
+      met : (b : Bool) → (v (name.Pend l.row s) == pend_word pend.Idle) ≡ b → Arrow z v s choice l (Activity.Put Put.Announce) (let x : Outcome = if b then to (Activity.Put Put.Clock) l else to_rebalance l in x).local
       met true e = announces (eq_from _ _ e)
       met false e = announces_full (eq_not _ _ e)
-  arrow PutClock b m = loads_clock
-  arrow Stamp b m = stamp_arrow (pend_of (v (name.Pend l.row s))) refl
-  arrow PutVersion b m = stores_version
-  arrow InsFrom b m = insert_arrow (cell_of_link_word (v (link_name l.row l.link))) refl
-  arrow InsKey b m = met (nat_lt (key_of_word (v (name.Key l.row l.place))) (first_key l.call)) (key_of_word (v (name.Key l.row l.place)) == first_key l.call) refl refl
+  arrow (Activity.Put Put.Clock) b m = loads_clock
+  arrow (Activity.Put Put.Stamp) b m = stamp_arrow (pend_of (v (name.Pend l.row s))) refl
+  arrow (Activity.Put Put.Version) b m = stores_version
+  arrow (Activity.Insert Insert.Link) b m = insert_arrow (cell_of_link_word (v (link_name l.row l.link))) refl
+  arrow (Activity.Insert Insert.Key) b m = met (nat_lt (key_of_word (v (name.Key l.row l.place))) (first_key l.call)) (key_of_word (v (name.Key l.row l.place)) == first_key l.call) refl refl
     where
       met : (b c : Bool) → nat_lt (key_of_word (v (name.Key l.row l.place))) (first_key l.call) ≡ b → (key_of_word (v (name.Key l.row l.place)) == first_key l.call) ≡ c →
-          Arrow z v s choice l InsKey (let x : Outcome = if b then insert_past l else if c then to InsVer l else to InsSet l in x).local
+          Arrow z v s choice l (Activity.Insert Insert.Key) (let x : Outcome = if b then insert_past l else if c then to (Activity.Insert Insert.Version) l else to (Activity.Insert Insert.Set) l in x).local
       met true c e f = key_before (below _ _ e)
       met false true e f = key_same (eq_from _ _ f)
       met false false e f = key_after (apart_above _ _ e f)
-  arrow InsVer b m = rw (unwrap_or-version_of_word (v (name.Version l.row l.place))) (met (is_newer (v (name.Version l.row l.place)) l.place l) refl)
+  arrow (Activity.Insert Insert.Version) b m = rw (unwrap_or-version_of_word (v (name.Version l.row l.place))) (met (is_newer (v (name.Version l.row l.place)) l.place l) refl)
     where
-      met : (b : Bool) → is_newer (v (name.Version l.row l.place)) l.place l ≡ b → Arrow z v s choice l InsVer (let x : Outcome = if b then insert_past l else to InsSet l in x).local
+      met : (b : Bool) → is_newer (v (name.Version l.row l.place)) l.place l ≡ b → Arrow z v s choice l (Activity.Insert Insert.Version) (let x : Outcome = if b then insert_past l else to (Activity.Insert Insert.Set) l in x).local
       met true e = version_before e
       met false e = version_after e
-  arrow InsSet b m = stores_after
-  arrow Insert b m = met (v (link_name l.row l.link) == cell_link_word l.held) refl
+  arrow (Activity.Insert Insert.Set) b m = stores_after
+  arrow (Activity.Insert Insert.Exchange) b m = met (v (link_name l.row l.link) == cell_link_word l.held) refl
     where
-      met : (b : Bool) → (v (link_name l.row l.link) == cell_link_word l.held) ≡ b → Arrow z v s choice l Insert (insert_tried z b l).local
+      met : (b : Bool) → (v (link_name l.row l.link) == cell_link_word l.held) ≡ b → Arrow z v s choice l (Activity.Insert Insert.Exchange) (insert_tried z b l).local
       met true e = inserts (eq_from _ _ e)
       met false e = loses (eq_not _ _ e)
-  arrow PutClear b m = met (tidies_row rows choice l) refl
+  arrow (Activity.Put Put.Clear) b m = met (tidies_row rows choice l) refl
     where
-      met : (b : Bool) → tidies_row rows choice l ≡ b → Arrow z v s choice l PutClear (let x : Outcome = if b then to_rebalance (record l { tidies = true }) else leave Done l in x).local
+      met : (b : Bool) → tidies_row rows choice l ≡ b → Arrow z v s choice l (Activity.Put Put.Clear) (let x : Outcome = if b then to_rebalance (record l { tidies = true }) else leave Done l in x).local
       met true e = tidies rows e
       met false e = clears
-  arrow (Leave answer) b m = leaves answer
-  arrow Again b m = retries
-  arrow AgainEpoch b m = enters_again
-  arrow BalClock b m = met (nat_le SPENT (v name.Clock)) refl
+  arrow (Activity.Leave answer) b m = leaves answer
+  arrow Activity.Retry b m = retries
+  arrow (Activity.Enter Enter.LoadEpoch) b m = enters_again
+  arrow (Activity.Rebalance (Rebalance.Engage Engage.Clock)) b m = met (nat_le SPENT (v name.Clock)) refl
     where
-      met : (b : Bool) → nat_le SPENT (v name.Clock) ≡ b → Arrow z v s choice l BalClock (let x : Outcome = if b then refuse Spent l else to BalEpoch l in x).local
+      met : (b : Bool) → nat_le SPENT (v name.Clock) ≡ b → Arrow z v s choice l (Activity.Rebalance (Rebalance.Engage Engage.Clock)) (let x : Outcome = if b then refuse Spent l else to (Activity.Rebalance (Rebalance.Engage Engage.Epoch)) l in x).local
       met true e = refused_clock l.tidies refl (at_most _ _ e)
       met false e = clock_serves (above _ _ e)
-  arrow BalEpoch b m = met (nat_le SPENT (v name.Epoch)) refl
+  arrow (Activity.Rebalance (Rebalance.Engage Engage.Epoch)) b m = met (nat_le SPENT (v name.Epoch)) refl
     where
-      met : (b : Bool) → nat_le SPENT (v name.Epoch) ≡ b → Arrow z v s choice l BalEpoch (let x : Outcome = if b then refuse Spent l else to BalState l in x).local
+      met : (b : Bool) → nat_le SPENT (v name.Epoch) ≡ b → Arrow z v s choice l (Activity.Rebalance (Rebalance.Engage Engage.Epoch)) (let x : Outcome = if b then refuse Spent l else to (Activity.Rebalance (Rebalance.Engage Engage.State)) l in x).local
       met true e = refused_epoch l.tidies refl (at_most _ _ e)
       met false e = epoch_serves (above _ _ e)
-  arrow BalState b m = balance_arrow (state_of (v (name.State l.row))) refl
-  arrow (BalNormal seat) b m = normalises seat
-  arrow Engage b m = met (v (name.State l.row) == state_word Normal) refl
+  arrow (Activity.Rebalance (Rebalance.Engage Engage.State)) b m = balance_arrow (state_of (v (name.State l.row))) refl
+  arrow (Activity.Rebalance (Rebalance.Engage (Engage.Normal seat))) b m = normalises seat
+  arrow (Activity.Rebalance (Rebalance.Engage Engage.Lead)) b m = met (v (name.State l.row) == state_word Normal) refl
     where
-      met : (b : Bool) → (v (name.State l.row) == state_word Normal) ≡ b → Arrow z v s choice l Engage (engaged b l).local
+      met : (b : Bool) → (v (name.State l.row) == state_word Normal) ≡ b → Arrow z v s choice l (Activity.Rebalance (Rebalance.Engage Engage.Lead)) (engaged b l).local
       met true e = engages (eq_from _ _ e)
       met false e = is_engaged (eq_not _ _ e)
-  arrow (MarkLink count) b m = met (count == 0) refl
+  arrow (Activity.Rebalance (Rebalance.Engage (Engage.MarkLink count))) b m = met (count == 0) refl
     where
-      met : (b : Bool) → (count == 0) ≡ b → Arrow z v s choice l (MarkLink count) (let x : Outcome = if b then to (Decide 1) (followed_by (next_in v l.row) l) else to FreezeCount (followed_by (next_in v l.row) l) in x).local
+      met : (b : Bool) → (count == 0) ≡ b → Arrow z v s choice l (Activity.Rebalance (Rebalance.Engage (Engage.MarkLink count))) (let x : Outcome = if b then to (Activity.Rebalance (Rebalance.Engage (Engage.Decide 1))) (followed_by (next_in v l.row) l) else to (Activity.Rebalance (Rebalance.Freeze Freeze.Count)) (followed_by (next_in v l.row) l) in x).local
       met true e = marks_link count (eq_from _ _ e)
       met false e = marks_led count (eq_not _ _ e)
-  arrow (Decide count) b m = decide_arrow count (state_of (v (name.State l.row))) refl
-  arrow FreezeCount b m = freezes_count
-  arrow (FreezeLook i) b m = freeze_arrow i (pend_of (v (name.Pend l.row i))) refl
-  arrow (Freeze i) b m = met (v (name.Pend l.row i) == pend_word l.rebalance.entry) refl
+  arrow (Activity.Rebalance (Rebalance.Engage (Engage.Decide count))) b m = decide_arrow count (state_of (v (name.State l.row))) refl
+  arrow (Activity.Rebalance (Rebalance.Freeze Freeze.Count)) b m = freezes_count
+  arrow (Activity.Rebalance (Rebalance.Freeze (Freeze.Look i))) b m = freeze_arrow i (pend_of (v (name.Pend l.row i))) refl
+  arrow (Activity.Rebalance (Rebalance.Freeze (Freeze.Entry i))) b m = met (v (name.Pend l.row i) == pend_word l.rebalance.entry) refl
     where
-      met : (b : Bool) → (v (name.Pend l.row i) == pend_word l.rebalance.entry) ≡ b → Arrow z v s choice l (Freeze i) (entry_tried z i b l).local
-      met true e = next_entry z (i + 1) l (Arrow z v s choice l (Freeze i)) (freezes_entry i (eq_from _ _ e)) (freezes_last i (eq_from _ _ e))
+      met : (b : Bool) → (v (name.Pend l.row i) == pend_word l.rebalance.entry) ≡ b → Arrow z v s choice l (Activity.Rebalance (Rebalance.Freeze (Freeze.Entry i))) (entry_tried z i b l).local
+      met true e = next_entry z (i + 1) l (Arrow z v s choice l (Activity.Rebalance (Rebalance.Freeze (Freeze.Entry i)))) (freezes_entry i (eq_from _ _ e)) (freezes_last i (eq_from _ _ e))
       met false e = looks_again i (eq_not _ _ e)
-  arrow (ScanLook i) b m = scan_arrow i (scan_of (v (name.Scan i))) refl
-  arrow (HelpDraw i) b m = draws_for i
-  arrow (HelpSettle i) b m = settle_arrow i (scan_of (v (name.Scan i))) refl
-  arrow TakeFrom b m = take_arrow (cell_of_link_word (v (link_name l.row l.link))) refl
-  arrow TakeKey b m = takes_key
-  arrow TakeVersion b m = takes_version
-  arrow TakeValue b m = keeps_taken
-  arrow TakeRestKey b m = takes_left_key
-  arrow TakeRestValue b m = next_left z (keeping z (value_of_word (v (name.Value l.row l.place))) l) (Arrow z v s choice l TakeRestValue) keeps_left keeps_no_more
-  arrow SeekFirst b m = builds SeekFirst _ tt (building z rows v s choice l SeekFirst tt)
-  arrow Seek b m = builds Seek _ tt (building z rows v s choice l Seek tt)
-  arrow (SeekPass i) b m = builds (SeekPass i) _ tt (building z rows v s choice l (SeekPass i) tt)
-  arrow Reclaim b m = builds Reclaim _ tt (building z rows v s choice l Reclaim tt)
-  arrow TakeRow b m = builds TakeRow _ tt (building z rows v s choice l TakeRow tt)
-  arrow GiveBack b m = builds GiveBack _ tt (building z rows v s choice l GiveBack tt)
-  arrow WriteCount b m = builds WriteCount _ tt (building z rows v s choice l WriteCount tt)
-  arrow WriteMin b m = builds WriteMin _ tt (building z rows v s choice l WriteMin tt)
-  arrow WriteNext b m = builds WriteNext _ tt (building z rows v s choice l WriteNext tt)
-  arrow WriteFirst b m = builds WriteFirst _ tt (building z rows v s choice l WriteFirst tt)
-  arrow (WritePend i) b m = builds (WritePend i) _ tt (building z rows v s choice l (WritePend i) tt)
-  arrow (WriteKey j) b m = builds (WriteKey j) _ tt (building z rows v s choice l (WriteKey j) tt)
-  arrow (WriteValue j) b m = builds (WriteValue j) _ tt (building z rows v s choice l (WriteValue j) tt)
-  arrow (WriteVersion j) b m = builds (WriteVersion j) _ tt (building z rows v s choice l (WriteVersion j) tt)
-  arrow (WriteAfter j) b m = builds (WriteAfter j) _ tt (building z rows v s choice l (WriteAfter j) tt)
-  arrow Before b m = builds Before _ tt (building z rows v s choice l Before tt)
-  arrow BeforeGuess b m = builds BeforeGuess _ tt (building z rows v s choice l BeforeGuess tt)
-  arrow BeforeHead b m = builds BeforeHead _ tt (building z rows v s choice l BeforeHead tt)
-  arrow BeforeLink b m = builds BeforeLink _ tt (building z rows v s choice l BeforeLink tt)
-  arrow BeforeMin b m = builds BeforeMin _ tt (building z rows v s choice l BeforeMin tt)
-  arrow Replace b m = builds Replace _ tt (building z rows v s choice l Replace tt)
-  arrow Normalise b m = builds Normalise _ tt (building z rows v s choice l Normalise tt)
-  arrow Number b m = builds Number _ tt (building z rows v s choice l Number tt)
-  arrow Retire b m = builds Retire _ tt (building z rows v s choice l Retire tt)
+  arrow (Activity.Rebalance (Rebalance.Freeze (Freeze.Scan i))) b m = scan_arrow i (scan_of (v (name.Scan i))) refl
+  arrow (Activity.Rebalance (Rebalance.Freeze (Freeze.Draw i))) b m = draws_for i
+  arrow (Activity.Rebalance (Rebalance.Freeze (Freeze.Settle i))) b m = settle_arrow i (scan_of (v (name.Scan i))) refl
+  arrow (Activity.Rebalance (Rebalance.Gather Gather.Link)) b m = take_arrow (cell_of_link_word (v (link_name l.row l.link))) refl
+  arrow (Activity.Rebalance (Rebalance.Gather Gather.Key)) b m = takes_key
+  arrow (Activity.Rebalance (Rebalance.Gather Gather.Version)) b m = takes_version
+  arrow (Activity.Rebalance (Rebalance.Gather Gather.Value)) b m = keeps_taken
+  arrow (Activity.Rebalance (Rebalance.Gather Gather.LeftOverKey)) b m = takes_left_key
+  arrow (Activity.Rebalance (Rebalance.Gather Gather.LeftOverValue)) b m = next_left z (keeping z (value_of_word (v (name.Value l.row l.place))) l) (Arrow z v s choice l (Activity.Rebalance (Rebalance.Gather Gather.LeftOverValue))) keeps_left keeps_no_more
+  arrow (Activity.Rebalance (Rebalance.Seek Seek.First)) b m = builds (Activity.Rebalance (Rebalance.Seek Seek.First)) _ tt (building z rows v s choice l (Activity.Rebalance (Rebalance.Seek Seek.First)) tt)
+  arrow (Activity.Rebalance (Rebalance.Seek Seek.Next)) b m = builds (Activity.Rebalance (Rebalance.Seek Seek.Next)) _ tt (building z rows v s choice l (Activity.Rebalance (Rebalance.Seek Seek.Next)) tt)
+  arrow (Activity.Rebalance (Rebalance.Seek (Seek.Pass i))) b m = builds (Activity.Rebalance (Rebalance.Seek (Seek.Pass i))) _ tt (building z rows v s choice l (Activity.Rebalance (Rebalance.Seek (Seek.Pass i))) tt)
+  arrow (Activity.Rebalance (Rebalance.Seek Seek.Reclaim)) b m = builds (Activity.Rebalance (Rebalance.Seek Seek.Reclaim)) _ tt (building z rows v s choice l (Activity.Rebalance (Rebalance.Seek Seek.Reclaim)) tt)
+  arrow (Activity.Rebalance (Rebalance.Seek Seek.Take)) b m = builds (Activity.Rebalance (Rebalance.Seek Seek.Take)) _ tt (building z rows v s choice l (Activity.Rebalance (Rebalance.Seek Seek.Take)) tt)
+  arrow (Activity.Rebalance (Rebalance.Seek Seek.GiveBack)) b m = builds (Activity.Rebalance (Rebalance.Seek Seek.GiveBack)) _ tt (building z rows v s choice l (Activity.Rebalance (Rebalance.Seek Seek.GiveBack)) tt)
+  arrow (Activity.Rebalance (Rebalance.Write Write.Count)) b m = builds (Activity.Rebalance (Rebalance.Write Write.Count)) _ tt (building z rows v s choice l (Activity.Rebalance (Rebalance.Write Write.Count)) tt)
+  arrow (Activity.Rebalance (Rebalance.Write Write.Least)) b m = builds (Activity.Rebalance (Rebalance.Write Write.Least)) _ tt (building z rows v s choice l (Activity.Rebalance (Rebalance.Write Write.Least)) tt)
+  arrow (Activity.Rebalance (Rebalance.Write Write.Next)) b m = builds (Activity.Rebalance (Rebalance.Write Write.Next)) _ tt (building z rows v s choice l (Activity.Rebalance (Rebalance.Write Write.Next)) tt)
+  arrow (Activity.Rebalance (Rebalance.Write Write.First)) b m = builds (Activity.Rebalance (Rebalance.Write Write.First)) _ tt (building z rows v s choice l (Activity.Rebalance (Rebalance.Write Write.First)) tt)
+  arrow (Activity.Rebalance (Rebalance.Write (Write.Entry i))) b m = builds (Activity.Rebalance (Rebalance.Write (Write.Entry i))) _ tt (building z rows v s choice l (Activity.Rebalance (Rebalance.Write (Write.Entry i))) tt)
+  arrow (Activity.Rebalance (Rebalance.Write (Write.Key j))) b m = builds (Activity.Rebalance (Rebalance.Write (Write.Key j))) _ tt (building z rows v s choice l (Activity.Rebalance (Rebalance.Write (Write.Key j))) tt)
+  arrow (Activity.Rebalance (Rebalance.Write (Write.Value j))) b m = builds (Activity.Rebalance (Rebalance.Write (Write.Value j))) _ tt (building z rows v s choice l (Activity.Rebalance (Rebalance.Write (Write.Value j))) tt)
+  arrow (Activity.Rebalance (Rebalance.Write (Write.Version j))) b m = builds (Activity.Rebalance (Rebalance.Write (Write.Version j))) _ tt (building z rows v s choice l (Activity.Rebalance (Rebalance.Write (Write.Version j))) tt)
+  arrow (Activity.Rebalance (Rebalance.Write (Write.After j))) b m = builds (Activity.Rebalance (Rebalance.Write (Write.After j))) _ tt (building z rows v s choice l (Activity.Rebalance (Rebalance.Write (Write.After j))) tt)
+  arrow (Activity.Rebalance (Rebalance.Replace Replace.Start)) b m = builds (Activity.Rebalance (Rebalance.Replace Replace.Start)) _ tt (building z rows v s choice l (Activity.Rebalance (Rebalance.Replace Replace.Start)) tt)
+  arrow (Activity.Rebalance (Rebalance.Replace Replace.GuessedLeast)) b m = builds (Activity.Rebalance (Rebalance.Replace Replace.GuessedLeast)) _ tt (building z rows v s choice l (Activity.Rebalance (Rebalance.Replace Replace.GuessedLeast)) tt)
+  arrow (Activity.Rebalance (Rebalance.Replace Replace.First)) b m = builds (Activity.Rebalance (Rebalance.Replace Replace.First)) _ tt (building z rows v s choice l (Activity.Rebalance (Rebalance.Replace Replace.First)) tt)
+  arrow (Activity.Rebalance (Rebalance.Replace Replace.Next)) b m = builds (Activity.Rebalance (Rebalance.Replace Replace.Next)) _ tt (building z rows v s choice l (Activity.Rebalance (Rebalance.Replace Replace.Next)) tt)
+  arrow (Activity.Rebalance (Rebalance.Replace Replace.NextLeast)) b m = builds (Activity.Rebalance (Rebalance.Replace Replace.NextLeast)) _ tt (building z rows v s choice l (Activity.Rebalance (Rebalance.Replace Replace.NextLeast)) tt)
+  arrow (Activity.Rebalance (Rebalance.Replace Replace.Exchange)) b m = builds (Activity.Rebalance (Rebalance.Replace Replace.Exchange)) _ tt (building z rows v s choice l (Activity.Rebalance (Rebalance.Replace Replace.Exchange)) tt)
+  arrow (Activity.Rebalance (Rebalance.Replace Replace.Normalise)) b m = builds (Activity.Rebalance (Rebalance.Replace Replace.Normalise)) _ tt (building z rows v s choice l (Activity.Rebalance (Rebalance.Replace Replace.Normalise)) tt)
+  arrow (Activity.Rebalance (Rebalance.Replace Replace.Number)) b m = builds (Activity.Rebalance (Rebalance.Replace Replace.Number)) _ tt (building z rows v s choice l (Activity.Rebalance (Rebalance.Replace Replace.Number)) tt)
+  arrow (Activity.Rebalance (Rebalance.Replace Replace.Retire)) b m = builds (Activity.Rebalance (Rebalance.Replace Replace.Retire)) _ tt (building z rows v s choice l (Activity.Rebalance (Rebalance.Replace Replace.Retire)) tt)

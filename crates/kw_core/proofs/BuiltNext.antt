@@ -5,7 +5,8 @@ use Rattle.std.proofs.Common.{ℕ, ◌≡◌, ◌⊎◌, inl, inr, Bool, true, f
 use Rattle.kw_model.specs.declared.call.Call.{Call}
 use Rattle.kw_cells.specs.declared.cell.Cell.{Cell}
 use Rattle.kw_world.specs.declared.activity.Activity.{Activity}
-use Rattle.kw_world.specs.declared.activity.Activity.TheVariants.{Again, Leave, BalClock}
+use Rattle.kw_world.specs.declared.activity.rebalance.engage.Engage.TheVariants as Engage
+use Rattle.kw_world.specs.declared.activity.rebalance.Rebalance.TheVariants as Rebalance
 use Rattle.kw_world.specs.declared.answer.Answer.TheVariants.{Done, NoRows}
 use Rattle.kw_world.specs.declared.event.Choice.{Choice}
 use Rattle.kw_world.specs.declared.local.Local.{Local}
@@ -21,10 +22,10 @@ use Rattle.kw_core.proofs.Building.{Building, IsBuilding, first_is_free, first_i
 -- such an event follows, or the put tries again, is refused for want of rows, was done before, or
 -- rebalances another row
 abbrev pub IsAfterBuilding : Activity → Type 0
-IsAfterBuilding Again = Unit {0}
-IsAfterBuilding (Leave NoRows) = Unit {0}
-IsAfterBuilding (Leave Done) = Unit {0}
-IsAfterBuilding BalClock = Unit {0}
+IsAfterBuilding Activity.Retry = Unit {0}
+IsAfterBuilding (Activity.Leave NoRows) = Unit {0}
+IsAfterBuilding (Activity.Leave Done) = Unit {0}
+IsAfterBuilding (Activity.Rebalance (Rebalance.Engage Engage.Clock)) = Unit {0}
 IsAfterBuilding a = IsBuilding a
 
 -- the call goes on

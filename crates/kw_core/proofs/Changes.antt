@@ -9,7 +9,10 @@ use Rattle.kw_model.specs.declared.call.Call.{Call}
 use Rattle.kw_world.specs.declared.answer.Answer.{Answer}
 use Rattle.kw_world.specs.Answers.{reply_of}
 use Rattle.kw_world.specs.declared.activity.Activity.{Activity}
-use Rattle.kw_world.specs.declared.activity.Activity.TheVariants.{Idle, LookHelp, PutAdd, Announce, Stamp, Leave, Freeze}
+use Rattle.kw_world.specs.declared.activity.rebalance.freeze.Freeze.TheVariants as Freeze
+use Rattle.kw_world.specs.declared.activity.look.Look.TheVariants as Look
+use Rattle.kw_world.specs.declared.activity.put.Put.TheVariants as Put
+use Rattle.kw_world.specs.declared.activity.rebalance.Rebalance.TheVariants as Rebalance
 use Rattle.kw_world.specs.declared.local.Local.{Local}
 use Rattle.kw_world.specs.declared.event.Choice.{Choice}
 use Rattle.kw_world.specs.declared.event.Choice.TheVariants.{Begin, Go, Guess, Stop}
@@ -25,61 +28,61 @@ use Rattle.kw_core.proofs.Happens.{found_at}
 -- the change that the event of an activity makes, with what it found
 pub data Makes (z : Sizes) (v : Words) (s : ℕ) (choice : Choice) (l : Local) (g : SeatLog) (o : Origins) : Activity → Change → Type 0 where
   makes_nothing : (a : Activity) → Makes z v s choice l g o a Nothing
-  makes_begin : (call : Call) → choice ≡ Begin call → Makes z v s choice l g o Idle (Begins s (l.number + 1) call)
-  makes_add : has_room z (count_of (v (name.Count l.row))) ≡ true → Makes z v s choice l g o PutAdd (Adds g.call s (first_key l.call) (put_value l.call) l.row (given_of (count_of (v (name.Count l.row)))))
-  makes_announce : v (name.Pend l.row s) ≡ pend_word pend.Idle → Makes z v s choice l g o Announce (Announces g.own)
-  makes_stamp : v (name.Pend l.row s) ≡ pend_word (pend.Pending l.cell) → Makes z v s choice l g o Stamp (Stamps g.own l.version g.loaded)
-  makes_help : (p : ℕ) → v (name.Pend l.row l.looked) ≡ pend_word (pend.Pending l.met) → o l.row l.met ≡ Some p → Makes z v s choice l g o LookHelp (Stamps p l.helping g.loaded)
-  makes_lose : (i c p : ℕ) → l.rebalance.entry ≡ pend.Pending c → v (name.Pend l.row i) ≡ pend_word (pend.Pending c) → o l.row c ≡ Some p → Makes z v s choice l g o (Freeze i) (Loses p)
-  makes_end : (answer : Answer) → Makes z v s choice l g o (Leave answer) (Ends g.call (reply_of answer l.pairs) (answering l.call l g) (drawing answer l g))
+  makes_begin : (call : Call) → choice ≡ Begin call → Makes z v s choice l g o Activity.Idle (Begins s (l.number + 1) call)
+  makes_add : has_room z (count_of (v (name.Count l.row))) ≡ true → Makes z v s choice l g o (Activity.Put Put.Add) (Adds g.call s (first_key l.call) (put_value l.call) l.row (given_of (count_of (v (name.Count l.row)))))
+  makes_announce : v (name.Pend l.row s) ≡ pend_word pend.Idle → Makes z v s choice l g o (Activity.Put Put.Announce) (Announces g.own)
+  makes_stamp : v (name.Pend l.row s) ≡ pend_word (pend.Pending l.cell) → Makes z v s choice l g o (Activity.Put Put.Stamp) (Stamps g.own l.version g.loaded)
+  makes_help : (p : ℕ) → v (name.Pend l.row l.looked) ≡ pend_word (pend.Pending l.met) → o l.row l.met ≡ Some p → Makes z v s choice l g o (Activity.Look Look.Help) (Stamps p l.helping g.loaded)
+  makes_lose : (i c p : ℕ) → l.rebalance.entry ≡ pend.Pending c → v (name.Pend l.row i) ≡ pend_word (pend.Pending c) → o l.row c ≡ Some p → Makes z v s choice l g o (Activity.Rebalance (Rebalance.Freeze (Freeze.Entry i))) (Loses p)
+  makes_end : (answer : Answer) → Makes z v s choice l g o (Activity.Leave answer) (Ends g.call (reply_of answer l.pairs) (answering l.call l g) (drawing answer l g))
 
 -- every event makes one of these changes
 pub made : (z : Sizes) (v : Words) (s : ℕ) (choice : Choice) (l : Local) (g : SeatLog) (o : Origins) (a : Activity) → Makes z v s choice l g o a (change_of z a s choice l (found_at z v a s choice l) g o)
-made z v s choice l g o Idle = begins choice refl
+made z v s choice l g o Activity.Idle = begins choice refl
   where
-    begins : (c : Choice) → choice ≡ c → Makes z v s choice l g o Idle (beginning c s l)
+    begins : (c : Choice) → choice ≡ c → Makes z v s choice l g o Activity.Idle (beginning c s l)
     begins (Begin call) e = makes_begin call e
-    begins Go e = makes_nothing Idle
-    begins (Guess q) e = makes_nothing Idle
-    begins Stop e = makes_nothing Idle
-made z v s choice l g o PutAdd = met (has_room z (count_of (v (name.Count l.row)))) refl
+    begins Go e = makes_nothing Activity.Idle
+    begins (Guess q) e = makes_nothing Activity.Idle
+    begins Stop e = makes_nothing Activity.Idle
+made z v s choice l g o (Activity.Put Put.Add) = met (has_room z (count_of (v (name.Count l.row)))) refl
   where
-    met : (b : Bool) → has_room z (count_of (v (name.Count l.row))) ≡ b → Makes z v s choice l g o PutAdd (if b then Adds g.call s (first_key l.call) (put_value l.call) l.row (given_of (count_of (v (name.Count l.row)))) else Nothing)
+    met : (b : Bool) → has_room z (count_of (v (name.Count l.row))) ≡ b → Makes z v s choice l g o (Activity.Put Put.Add) (if b then Adds g.call s (first_key l.call) (put_value l.call) l.row (given_of (count_of (v (name.Count l.row)))) else Nothing)
     met true e = makes_add e
-    met false e = makes_nothing PutAdd
-made z v s choice l g o Announce = met (v (name.Pend l.row s) == pend_word pend.Idle) refl
+    met false e = makes_nothing (Activity.Put Put.Add)
+made z v s choice l g o (Activity.Put Put.Announce) = met (v (name.Pend l.row s) == pend_word pend.Idle) refl
   where
-    met : (b : Bool) → (v (name.Pend l.row s) == pend_word pend.Idle) ≡ b → Makes z v s choice l g o Announce (if b then Announces g.own else Nothing)
+    met : (b : Bool) → (v (name.Pend l.row s) == pend_word pend.Idle) ≡ b → Makes z v s choice l g o (Activity.Put Put.Announce) (if b then Announces g.own else Nothing)
     met true e = makes_announce (eq_from _ _ e)
-    met false e = makes_nothing Announce
-made z v s choice l g o Stamp = met (v (name.Pend l.row s) == pend_word (pend.Pending l.cell)) refl
+    met false e = makes_nothing (Activity.Put Put.Announce)
+made z v s choice l g o (Activity.Put Put.Stamp) = met (v (name.Pend l.row s) == pend_word (pend.Pending l.cell)) refl
   where
-    met : (b : Bool) → (v (name.Pend l.row s) == pend_word (pend.Pending l.cell)) ≡ b → Makes z v s choice l g o Stamp (if b then Stamps g.own l.version g.loaded else Nothing)
+    met : (b : Bool) → (v (name.Pend l.row s) == pend_word (pend.Pending l.cell)) ≡ b → Makes z v s choice l g o (Activity.Put Put.Stamp) (if b then Stamps g.own l.version g.loaded else Nothing)
     met true e = makes_stamp (eq_from _ _ e)
-    met false e = makes_nothing Stamp
-made z v s choice l g o LookHelp = met (v (name.Pend l.row l.looked) == pend_word (pend.Pending l.met)) refl
+    met false e = makes_nothing (Activity.Put Put.Stamp)
+made z v s choice l g o (Activity.Look Look.Help) = met (v (name.Pend l.row l.looked) == pend_word (pend.Pending l.met)) refl
   where
-    helps : (x : Option ℕ) → o l.row l.met ≡ x → v (name.Pend l.row l.looked) ≡ pend_word (pend.Pending l.met) → Makes z v s choice l g o LookHelp (helping x l.helping g.loaded)
+    helps : (x : Option ℕ) → o l.row l.met ≡ x → v (name.Pend l.row l.looked) ≡ pend_word (pend.Pending l.met) → Makes z v s choice l g o (Activity.Look Look.Help) (helping x l.helping g.loaded)
     helps (Some p) e w = makes_help p w e
-    helps None e w = makes_nothing LookHelp
+    helps None e w = makes_nothing (Activity.Look Look.Help)
 
-    met : (b : Bool) → (v (name.Pend l.row l.looked) == pend_word (pend.Pending l.met)) ≡ b → Makes z v s choice l g o LookHelp (if b then helping (o l.row l.met) l.helping g.loaded else Nothing)
+    met : (b : Bool) → (v (name.Pend l.row l.looked) == pend_word (pend.Pending l.met)) ≡ b → Makes z v s choice l g o (Activity.Look Look.Help) (if b then helping (o l.row l.met) l.helping g.loaded else Nothing)
     met true e = helps (o l.row l.met) refl (eq_from _ _ e)
-    met false e = makes_nothing LookHelp
-made z v s choice l g o (Freeze i) = met (v (name.Pend l.row i) == pend_word l.rebalance.entry) refl
+    met false e = makes_nothing (Activity.Look Look.Help)
+made z v s choice l g o (Activity.Rebalance (Rebalance.Freeze (Freeze.Entry i))) = met (v (name.Pend l.row i) == pend_word l.rebalance.entry) refl
   where
-    loses : (c : ℕ) (x : Option ℕ) → l.rebalance.entry ≡ pend.Pending c → v (name.Pend l.row i) ≡ pend_word (pend.Pending c) → o l.row c ≡ x → Makes z v s choice l g o (Freeze i) (losing x)
+    loses : (c : ℕ) (x : Option ℕ) → l.rebalance.entry ≡ pend.Pending c → v (name.Pend l.row i) ≡ pend_word (pend.Pending c) → o l.row c ≡ x → Makes z v s choice l g o (Activity.Rebalance (Rebalance.Freeze (Freeze.Entry i))) (losing x)
     loses c (Some p) y w e = makes_lose i c p y w e
-    loses c None y w e = makes_nothing (Freeze i)
+    loses c None y w e = makes_nothing (Activity.Rebalance (Rebalance.Freeze (Freeze.Entry i)))
 
-    freezes : (x : Pend) → l.rebalance.entry ≡ x → v (name.Pend l.row i) ≡ pend_word x → Makes z v s choice l g o (Freeze i) (freezing x l.row o)
-    freezes pend.Idle y w = makes_nothing (Freeze i)
+    freezes : (x : Pend) → l.rebalance.entry ≡ x → v (name.Pend l.row i) ≡ pend_word x → Makes z v s choice l g o (Activity.Rebalance (Rebalance.Freeze (Freeze.Entry i))) (freezing x l.row o)
+    freezes pend.Idle y w = makes_nothing (Activity.Rebalance (Rebalance.Freeze (Freeze.Entry i)))
     freezes (pend.Pending c) y w = loses c (o l.row c) y w refl
-    freezes (pend.Stamped c version) y w = makes_nothing (Freeze i)
-    freezes pend.Frozen y w = makes_nothing (Freeze i)
+    freezes (pend.Stamped c version) y w = makes_nothing (Activity.Rebalance (Rebalance.Freeze (Freeze.Entry i)))
+    freezes pend.Frozen y w = makes_nothing (Activity.Rebalance (Rebalance.Freeze (Freeze.Entry i)))
 
-    met : (b : Bool) → (v (name.Pend l.row i) == pend_word l.rebalance.entry) ≡ b → Makes z v s choice l g o (Freeze i) (if b then freezing l.rebalance.entry l.row o else Nothing)
+    met : (b : Bool) → (v (name.Pend l.row i) == pend_word l.rebalance.entry) ≡ b → Makes z v s choice l g o (Activity.Rebalance (Rebalance.Freeze (Freeze.Entry i))) (if b then freezing l.rebalance.entry l.row o else Nothing)
     met true e = freezes l.rebalance.entry refl (eq_from _ _ e)
-    met false e = makes_nothing (Freeze i)
-made z v s choice l g o (Leave answer) = makes_end answer
+    met false e = makes_nothing (Activity.Rebalance (Rebalance.Freeze (Freeze.Entry i)))
+made z v s choice l g o (Activity.Leave answer) = makes_end answer
 made z v s choice l g o a = makes_nothing a

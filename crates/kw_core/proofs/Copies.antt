@@ -6,7 +6,10 @@ use Rattle.kw_words.specs.declared.layout.Name.TheVariants as name
 use Rattle.kw_words.specs.Count.{count_of}
 use Rattle.kw_words.specs.Plain.{cell_link_word}
 use Rattle.kw_world.specs.declared.activity.Activity.{Activity}
-use Rattle.kw_world.specs.declared.activity.Activity.TheVariants.{Insert, PutAdd, WriteCount, WriteVersion, WriteAfter}
+use Rattle.kw_world.specs.declared.activity.insert.Insert.TheVariants as Insert
+use Rattle.kw_world.specs.declared.activity.put.Put.TheVariants as Put
+use Rattle.kw_world.specs.declared.activity.rebalance.Rebalance.TheVariants as Rebalance
+use Rattle.kw_world.specs.declared.activity.rebalance.write.Write.TheVariants as Write
 use Rattle.kw_world.specs.declared.event.Choice.{Choice}
 use Rattle.kw_world.specs.declared.local.Local.{Local}
 use Rattle.kw_world.specs.ListTransitions.{link_name}
@@ -21,15 +24,15 @@ use Rattle.kw_core.proofs.Happens.{Happens}
 
 -- the event may give another attempt to cell c of row q
 abbrev pub ChangesOrigin : Activity → Local → ℕ → ℕ → Type 0
-ChangesOrigin PutAdd l q c = q ≡ l.row
-ChangesOrigin (WriteVersion j) l q c = (q ≡ infant l) × (c ≡ j)
+ChangesOrigin (Activity.Put Put.Add) l q c = q ≡ l.row
+ChangesOrigin (Activity.Rebalance (Rebalance.Write (Write.Version j))) l q c = (q ≡ infant l) × (c ≡ j)
 ChangesOrigin _ l q c = ⊥
 
 -- it may list the cell, or unlist it
 abbrev pub ChangesListed : Activity → Local → ℕ → ℕ → Type 0
-ChangesListed Insert l q c = (q ≡ l.row) × (c ≡ l.cell)
-ChangesListed WriteCount l q c = q ≡ infant l
-ChangesListed (WriteAfter j) l q c = (q ≡ infant l) × (c ≡ j)
+ChangesListed (Activity.Insert Insert.Exchange) l q c = (q ≡ l.row) × (c ≡ l.cell)
+ChangesListed (Activity.Rebalance (Rebalance.Write Write.Count)) l q c = q ≡ infant l
+ChangesListed (Activity.Rebalance (Rebalance.Write (Write.After j))) l q c = (q ≡ infant l) × (c ≡ j)
 ChangesListed _ l q c = ⊥
 
 -- Cells that are set.
@@ -80,33 +83,33 @@ module _ {z : Sizes} {r r' : Run} {s : ℕ} {choice : Choice} {l l' : Local} whe
   -- a cell stands for the same attempt, or for none, as before, unless it is given or a copy is
   -- written there
   pub origin_stays : (a : Activity) → Happens z r r' s choice l l' a → (q c : ℕ) → (ChangesOrigin a l q c → ⊥) → r'.origin q c ≡ r.origin q c
-  origin_stays PutAdd h q c n = ap (λ (o : Origins). o q c) h.origin ∙ given_other (has_room z (count_of (word z r.world (name.Count l.row)))) r.origin l.row (given_of (count_of (word z r.world (name.Count l.row)))) (length r.history.attempts) q c n
-  origin_stays (WriteVersion j) h q c n = ap (λ (o : Origins). o q c) h.origin ∙ copy_other r.origin (infant l) j (copied r.origin l.row (slice_get (infant_cells l) j)) q c n
+  origin_stays (Activity.Put Put.Add) h q c n = ap (λ (o : Origins). o q c) h.origin ∙ given_other (has_room z (count_of (word z r.world (name.Count l.row)))) r.origin l.row (given_of (count_of (word z r.world (name.Count l.row)))) (length r.history.attempts) q c n
+  origin_stays (Activity.Rebalance (Rebalance.Write (Write.Version j))) h q c n = ap (λ (o : Origins). o q c) h.origin ∙ copy_other r.origin (infant l) j (copied r.origin l.row (slice_get (infant_cells l) j)) q c n
   origin_stays a h q c n = ap (λ (o : Origins). o q c) h.origin
 
   -- a copy stands for the attempt of the cell at which it was gathered
-  pub origin_copied : (j : ℕ) → Happens z r r' s choice l l' (WriteVersion j) → r'.origin (infant l) j ≡ copied r.origin l.row (slice_get (infant_cells l) j)
+  pub origin_copied : (j : ℕ) → Happens z r r' s choice l l' (Activity.Rebalance (Rebalance.Write (Write.Version j))) → r'.origin (infant l) j ≡ copied r.origin l.row (slice_get (infant_cells l) j)
   origin_copied j h = ap (λ (o : Origins). o (infant l) j) h.origin ∙ copy_here r.origin (infant l) j (copied r.origin l.row (slice_get (infant_cells l) j))
 
   -- a cell is listed or not as before, unless it is inserted, or its row is written
   pub listed_stays : (a : Activity) → Happens z r r' s choice l l' a → (q c : ℕ) → (ChangesListed a l q c → ⊥) → r'.listed q c ≡ r.listed q c
-  listed_stays Insert h q c n = ap (λ (f : Listed). f q c) h.listed ∙ made_other (word z r.world (link_name l.row l.link) == cell_link_word l.held) r.listed l.row l.cell q c n
-  listed_stays WriteCount h q c n = ap (λ (f : Listed). f q c) h.listed ∙ unlisted_other r.listed (infant l) q c n
-  listed_stays (WriteAfter j) h q c n = ap (λ (f : Listed). f q c) h.listed ∙ made_other (nat_lt j (length (infant_cells l))) r.listed (infant l) j q c n
+  listed_stays (Activity.Insert Insert.Exchange) h q c n = ap (λ (f : Listed). f q c) h.listed ∙ made_other (word z r.world (link_name l.row l.link) == cell_link_word l.held) r.listed l.row l.cell q c n
+  listed_stays (Activity.Rebalance (Rebalance.Write Write.Count)) h q c n = ap (λ (f : Listed). f q c) h.listed ∙ unlisted_other r.listed (infant l) q c n
+  listed_stays (Activity.Rebalance (Rebalance.Write (Write.After j))) h q c n = ap (λ (f : Listed). f q c) h.listed ∙ made_other (nat_lt j (length (infant_cells l))) r.listed (infant l) j q c n
   listed_stays a h q c n = ap (λ (f : Listed). f q c) h.listed
 
   -- no cell is listed of a row whose first word is written
-  pub none_listed_yet : Happens z r r' s choice l l' WriteCount → (c : ℕ) → r'.listed (infant l) c ≡ false
+  pub none_listed_yet : Happens z r r' s choice l l' (Activity.Rebalance (Rebalance.Write Write.Count)) → (c : ℕ) → r'.listed (infant l) c ≡ false
   none_listed_yet h c = ap (λ (f : Listed). f (infant l) c) h.listed ∙ unlisted_here r.listed (infant l) c
 
   -- a copy is listed once it is written whole
-  pub copy_listed : (j : ℕ) → Happens z r r' s choice l l' (WriteAfter j) → j < length (infant_cells l) → r'.listed (infant l) j ≡ true
+  pub copy_listed : (j : ℕ) → Happens z r r' s choice l l' (Activity.Rebalance (Rebalance.Write (Write.After j))) → j < length (infant_cells l) → r'.listed (infant l) j ≡ true
   copy_listed j h i =
       let e : nat_lt j (length (infant_cells l)) ≡ true = grind (arith, nat_tests, i) in
       ap (λ (f : Listed). f (infant l) j) h.listed ∙ rw e (listed_here r.listed (infant l) j)
 
   -- and a place beyond the copies is not
-  pub rest_unlisted : (j : ℕ) → Happens z r r' s choice l l' (WriteAfter j) → length (infant_cells l) ≤ j → r'.listed ≡ r.listed
+  pub rest_unlisted : (j : ℕ) → Happens z r r' s choice l l' (Activity.Rebalance (Rebalance.Write (Write.After j))) → length (infant_cells l) ≤ j → r'.listed ≡ r.listed
   rest_unlisted j h i =
       let e : nat_lt j (length (infant_cells l)) ≡ false = grind (arith, nat_tests, i) in
       h.listed ∙ rw e refl

@@ -5,7 +5,6 @@ use mathlib.Core.Logic.{⊎_elim}
 use Rattle.kw_model.specs.declared.call.Call.{Call}
 use Rattle.kw_model.specs.declared.call.Call.TheVariants.{Put, Del, Get, Scan}
 use Rattle.kw_world.specs.declared.activity.Activity.{Activity}
-use Rattle.kw_world.specs.declared.activity.Activity.TheVariants.{Idle}
 use Rattle.kw_world.specs.declared.event.Choice.{Choice}
 use Rattle.kw_world.specs.declared.event.Choice.TheVariants.{Begin}
 use Rattle.kw_world.specs.declared.event.Event.{Event}
@@ -97,11 +96,11 @@ in_range (Scan from upto) h = let t = and_parts _ _ h in (ltb-true from _ t.0, l
 
 -- a call that a seat begins at this activity is in range
 abbrev pub IsBegun : Activity → Choice → Type 0
-IsBegun Idle (Begin call) = IsCall (Some call)
+IsBegun Activity.Idle (Begin call) = IsCall (Some call)
 IsBegun _ choice = Unit {0}
 
 begun_in_range : (a : Activity) (choice : Choice) → may_begin a choice ≡ true → IsBegun a choice
-begun_in_range Idle (Begin call) h = in_range call h
+begun_in_range Activity.Idle (Begin call) h = in_range call h
 begun_in_range _ choice h = tt
 
 -- what is known of an event that may come

@@ -8,7 +8,11 @@ use Rattle.kw_words.specs.State.{state_word}
 use Rattle.kw_rows.specs.Events.{IsIn, SamePasses}
 use Rattle.kw_rows.specs.Ledger as kw_rows
 use Rattle.kw_world.specs.declared.activity.Activity.{Activity}
-use Rattle.kw_world.specs.declared.activity.Activity.TheVariants.{Enter, ScanWait, Leave, Again, Reclaim, TakeRow, GiveBack, Replace, Number}
+use Rattle.kw_world.specs.declared.activity.draw.Draw.TheVariants as Draw
+use Rattle.kw_world.specs.declared.activity.enter.Enter.TheVariants as Enter
+use Rattle.kw_world.specs.declared.activity.rebalance.Rebalance.TheVariants as Rebalance
+use Rattle.kw_world.specs.declared.activity.rebalance.replace.Replace.TheVariants as Replace
+use Rattle.kw_world.specs.declared.activity.rebalance.seek.Seek.TheVariants as Seek
 use Rattle.kw_world.specs.declared.event.Choice.{Choice}
 use Rattle.kw_world.specs.declared.local.Local.{Local}
 use Rattle.kw_world.specs.ReplaceTransitions.{replaced_link}
@@ -38,15 +42,15 @@ is_out (x ∷ xs) q n = not_chosen q x true (is_among xs q) (λ e. n (inl e)) �
 
 -- the event may change the fate of row q
 abbrev pub ChangesFate : Activity → Local → ℕ → Type 0
-ChangesFate Reclaim l q = q ≡ l.rebalance.sought
-ChangesFate TakeRow l q = q ≡ l.rebalance.sought
-ChangesFate GiveBack l q = q ≡ infant l
-ChangesFate Replace l q = (q ≡ l.row) ⊎ IsIn l.rebalance.taken q
+ChangesFate (Activity.Rebalance (Rebalance.Seek Seek.Reclaim)) l q = q ≡ l.rebalance.sought
+ChangesFate (Activity.Rebalance (Rebalance.Seek Seek.Take)) l q = q ≡ l.rebalance.sought
+ChangesFate (Activity.Rebalance (Rebalance.Seek Seek.GiveBack)) l q = q ≡ infant l
+ChangesFate (Activity.Rebalance (Rebalance.Replace Replace.Exchange)) l q = (q ≡ l.row) ⊎ IsIn l.rebalance.taken q
 ChangesFate _ l q = ⊥
 
 -- it draws a number
 abbrev pub DrawsNumber : Activity → Type 0
-DrawsNumber Number = Unit {0}
+DrawsNumber (Activity.Rebalance (Rebalance.Replace Replace.Number)) = Unit {0}
 DrawsNumber _ = ⊥
 
 -- a choice between two ledgers, of which each has the same of something, has it too
@@ -69,15 +73,15 @@ module _ {z : Sizes} {r r' : Run} {s : ℕ} {choice : Choice} {l l' : Local} whe
   fate_stays a h q n = ap (λ (g : Ledger). g.rows.fates q) h.ledger ∙ same a n
     where
       same : (c : Activity) → (ChangesFate c l q → ⊥) → (ledger_after z c s l (found_at z (word z r.world) c s choice l) (word z r.world) (length r.history.log) r.ledger).rows.fates q ≡ r.ledger.rows.fates q
-      same Enter f = refl
-      same ScanWait f = refl
-      same (Leave answer) f = refl
-      same Again f = refl
-      same Reclaim f = either (word z r.world (name.State l.rebalance.sought)) (state_word (state.Retired l.rebalance.number)) (λ (g : Ledger). g.rows.fates q) (record r.ledger { rows = with_fate r.ledger.rows l.rebalance.sought (fate_free (r.ledger.rows.fates l.rebalance.sought)) }) r.ledger (r.ledger.rows.fates q) (not_chosen q l.rebalance.sought (fate_free (r.ledger.rows.fates l.rebalance.sought)) (r.ledger.rows.fates q) f) refl
-      same TakeRow f = either (word z r.world (name.State l.rebalance.sought)) (state_word state.Free) (λ (g : Ledger). g.rows.fates q) (record r.ledger { rows = with_fate r.ledger.rows l.rebalance.sought (fate_taken s (length r.history.log) (r.ledger.rows.fates l.rebalance.sought)) }) r.ledger (r.ledger.rows.fates q) (not_chosen q l.rebalance.sought (fate_taken s (length r.history.log) (r.ledger.rows.fates l.rebalance.sought)) (r.ledger.rows.fates q) f) refl
-      same GiveBack f = not_chosen q (infant l) (fate_free (r.ledger.rows.fates (infant l))) (r.ledger.rows.fates q) f
-      same Replace f = either (word z r.world (replaced_link l.rebalance.before)) (link_word (unmarked_link (Some l.row))) (λ (g : Ledger). g.rows.fates q) (record r.ledger { rows = with_replaced (word z r.world) s (length r.history.log) l r.ledger.rows }) r.ledger (r.ledger.rows.fates q) (replaced_fate (word z r.world) s (length r.history.log) l r.ledger.rows q (λ e. f (inl e)) (λ i. f (inr i))) refl
-      same Number f = refl
+      same (Activity.Enter Enter.Announce) f = refl
+      same (Activity.Draw Draw.Wait) f = refl
+      same (Activity.Leave answer) f = refl
+      same Activity.Retry f = refl
+      same (Activity.Rebalance (Rebalance.Seek Seek.Reclaim)) f = either (word z r.world (name.State l.rebalance.sought)) (state_word (state.Retired l.rebalance.number)) (λ (g : Ledger). g.rows.fates q) (record r.ledger { rows = with_fate r.ledger.rows l.rebalance.sought (fate_free (r.ledger.rows.fates l.rebalance.sought)) }) r.ledger (r.ledger.rows.fates q) (not_chosen q l.rebalance.sought (fate_free (r.ledger.rows.fates l.rebalance.sought)) (r.ledger.rows.fates q) f) refl
+      same (Activity.Rebalance (Rebalance.Seek Seek.Take)) f = either (word z r.world (name.State l.rebalance.sought)) (state_word state.Free) (λ (g : Ledger). g.rows.fates q) (record r.ledger { rows = with_fate r.ledger.rows l.rebalance.sought (fate_taken s (length r.history.log) (r.ledger.rows.fates l.rebalance.sought)) }) r.ledger (r.ledger.rows.fates q) (not_chosen q l.rebalance.sought (fate_taken s (length r.history.log) (r.ledger.rows.fates l.rebalance.sought)) (r.ledger.rows.fates q) f) refl
+      same (Activity.Rebalance (Rebalance.Seek Seek.GiveBack)) f = not_chosen q (infant l) (fate_free (r.ledger.rows.fates (infant l))) (r.ledger.rows.fates q) f
+      same (Activity.Rebalance (Rebalance.Replace Replace.Exchange)) f = either (word z r.world (replaced_link l.rebalance.before)) (link_word (unmarked_link (Some l.row))) (λ (g : Ledger). g.rows.fates q) (record r.ledger { rows = with_replaced (word z r.world) s (length r.history.log) l r.ledger.rows }) r.ledger (r.ledger.rows.fates q) (replaced_fate (word z r.world) s (length r.history.log) l r.ledger.rows q (λ e. f (inl e)) (λ i. f (inr i))) refl
+      same (Activity.Rebalance (Rebalance.Replace Replace.Number)) f = refl
       same c f = refl
 
   -- a number stays drawn where it was, or undrawn, unless one is drawn
@@ -85,15 +89,15 @@ module _ {z : Sizes} {r r' : Run} {s : ℕ} {choice : Choice} {l l' : Local} whe
   numbers_stay a h n m = ap (λ (g : Ledger). g.rows.numbered m) h.ledger ∙ same a n
     where
       same : (c : Activity) → (DrawsNumber c → ⊥) → (ledger_after z c s l (found_at z (word z r.world) c s choice l) (word z r.world) (length r.history.log) r.ledger).rows.numbered m ≡ r.ledger.rows.numbered m
-      same Enter f = refl
-      same ScanWait f = refl
-      same (Leave answer) f = refl
-      same Again f = refl
-      same Reclaim f = either (word z r.world (name.State l.rebalance.sought)) (state_word (state.Retired l.rebalance.number)) (λ (g : Ledger). g.rows.numbered m) (record r.ledger { rows = with_fate r.ledger.rows l.rebalance.sought (fate_free (r.ledger.rows.fates l.rebalance.sought)) }) r.ledger (r.ledger.rows.numbered m) refl refl
-      same TakeRow f = either (word z r.world (name.State l.rebalance.sought)) (state_word state.Free) (λ (g : Ledger). g.rows.numbered m) (record r.ledger { rows = with_fate r.ledger.rows l.rebalance.sought (fate_taken s (length r.history.log) (r.ledger.rows.fates l.rebalance.sought)) }) r.ledger (r.ledger.rows.numbered m) refl refl
-      same GiveBack f = refl
-      same Replace f = either (word z r.world (replaced_link l.rebalance.before)) (link_word (unmarked_link (Some l.row))) (λ (g : Ledger). g.rows.numbered m) (record r.ledger { rows = with_replaced (word z r.world) s (length r.history.log) l r.ledger.rows }) r.ledger (r.ledger.rows.numbered m) refl refl
-      same Number f = absurd (f tt)
+      same (Activity.Enter Enter.Announce) f = refl
+      same (Activity.Draw Draw.Wait) f = refl
+      same (Activity.Leave answer) f = refl
+      same Activity.Retry f = refl
+      same (Activity.Rebalance (Rebalance.Seek Seek.Reclaim)) f = either (word z r.world (name.State l.rebalance.sought)) (state_word (state.Retired l.rebalance.number)) (λ (g : Ledger). g.rows.numbered m) (record r.ledger { rows = with_fate r.ledger.rows l.rebalance.sought (fate_free (r.ledger.rows.fates l.rebalance.sought)) }) r.ledger (r.ledger.rows.numbered m) refl refl
+      same (Activity.Rebalance (Rebalance.Seek Seek.Take)) f = either (word z r.world (name.State l.rebalance.sought)) (state_word state.Free) (λ (g : Ledger). g.rows.numbered m) (record r.ledger { rows = with_fate r.ledger.rows l.rebalance.sought (fate_taken s (length r.history.log) (r.ledger.rows.fates l.rebalance.sought)) }) r.ledger (r.ledger.rows.numbered m) refl refl
+      same (Activity.Rebalance (Rebalance.Seek Seek.GiveBack)) f = refl
+      same (Activity.Rebalance (Rebalance.Replace Replace.Exchange)) f = either (word z r.world (replaced_link l.rebalance.before)) (link_word (unmarked_link (Some l.row))) (λ (g : Ledger). g.rows.numbered m) (record r.ledger { rows = with_replaced (word z r.world) s (length r.history.log) l r.ledger.rows }) r.ledger (r.ledger.rows.numbered m) refl refl
+      same (Activity.Rebalance (Rebalance.Replace Replace.Number)) f = absurd (f tt)
       same c f = refl
 
   -- the pass of another seat stays, and each one unless the seat enters, leaves or tries again
@@ -101,15 +105,15 @@ module _ {z : Sizes} {r r' : Run} {s : ℕ} {choice : Choice} {l l' : Local} whe
   others_stay a h t n = ap (λ (g : Ledger). g.rows.passes t) h.ledger ∙ same a n
     where
       same : (c : Activity) → (WritesPass c → t ≡ s → ⊥) → (ledger_after z c s l (found_at z (word z r.world) c s choice l) (word z r.world) (length r.history.log) r.ledger).rows.passes t ≡ r.ledger.rows.passes t
-      same Enter f = not_chosen t s (Some (length r.history.log)) (r.ledger.rows.passes t) (f tt)
-      same ScanWait f = refl
-      same (Leave answer) f = not_chosen t s None (r.ledger.rows.passes t) (f tt)
-      same Again f = not_chosen t s None (r.ledger.rows.passes t) (f tt)
-      same Reclaim f = either (word z r.world (name.State l.rebalance.sought)) (state_word (state.Retired l.rebalance.number)) (λ (g : Ledger). g.rows.passes t) (record r.ledger { rows = with_fate r.ledger.rows l.rebalance.sought (fate_free (r.ledger.rows.fates l.rebalance.sought)) }) r.ledger (r.ledger.rows.passes t) refl refl
-      same TakeRow f = either (word z r.world (name.State l.rebalance.sought)) (state_word state.Free) (λ (g : Ledger). g.rows.passes t) (record r.ledger { rows = with_fate r.ledger.rows l.rebalance.sought (fate_taken s (length r.history.log) (r.ledger.rows.fates l.rebalance.sought)) }) r.ledger (r.ledger.rows.passes t) refl refl
-      same GiveBack f = refl
-      same Replace f = either (word z r.world (replaced_link l.rebalance.before)) (link_word (unmarked_link (Some l.row))) (λ (g : Ledger). g.rows.passes t) (record r.ledger { rows = with_replaced (word z r.world) s (length r.history.log) l r.ledger.rows }) r.ledger (r.ledger.rows.passes t) refl refl
-      same Number f = refl
+      same (Activity.Enter Enter.Announce) f = not_chosen t s (Some (length r.history.log)) (r.ledger.rows.passes t) (f tt)
+      same (Activity.Draw Draw.Wait) f = refl
+      same (Activity.Leave answer) f = not_chosen t s None (r.ledger.rows.passes t) (f tt)
+      same Activity.Retry f = not_chosen t s None (r.ledger.rows.passes t) (f tt)
+      same (Activity.Rebalance (Rebalance.Seek Seek.Reclaim)) f = either (word z r.world (name.State l.rebalance.sought)) (state_word (state.Retired l.rebalance.number)) (λ (g : Ledger). g.rows.passes t) (record r.ledger { rows = with_fate r.ledger.rows l.rebalance.sought (fate_free (r.ledger.rows.fates l.rebalance.sought)) }) r.ledger (r.ledger.rows.passes t) refl refl
+      same (Activity.Rebalance (Rebalance.Seek Seek.Take)) f = either (word z r.world (name.State l.rebalance.sought)) (state_word state.Free) (λ (g : Ledger). g.rows.passes t) (record r.ledger { rows = with_fate r.ledger.rows l.rebalance.sought (fate_taken s (length r.history.log) (r.ledger.rows.fates l.rebalance.sought)) }) r.ledger (r.ledger.rows.passes t) refl refl
+      same (Activity.Rebalance (Rebalance.Seek Seek.GiveBack)) f = refl
+      same (Activity.Rebalance (Rebalance.Replace Replace.Exchange)) f = either (word z r.world (replaced_link l.rebalance.before)) (link_word (unmarked_link (Some l.row))) (λ (g : Ledger). g.rows.passes t) (record r.ledger { rows = with_replaced (word z r.world) s (length r.history.log) l r.ledger.rows }) r.ledger (r.ledger.rows.passes t) refl refl
+      same (Activity.Rebalance (Rebalance.Replace Replace.Number)) f = refl
       same c f = refl
 
   pub passes_stay : (a : Activity) → Happens z r r' s choice l l' a → (WritesPass a → ⊥) → (DrawsNumber a → ⊥) → SamePasses r.ledger.rows r'.ledger.rows
@@ -118,44 +122,44 @@ module _ {z : Sizes} {r r' : Run} {s : ℕ} {choice : Choice} {l l' : Local} whe
   -- What changes.
 
   -- a row that was free is the seat's, from one event past this position on
-  pub fate_of_taken : Happens z r r' s choice l l' TakeRow → word z r.world (name.State l.rebalance.sought) ≡ state_word state.Free → r'.ledger.rows.fates l.rebalance.sought ≡ fate_taken s (length r.history.log) (r.ledger.rows.fates l.rebalance.sought)
+  pub fate_of_taken : Happens z r r' s choice l l' (Activity.Rebalance (Rebalance.Seek Seek.Take)) → word z r.world (name.State l.rebalance.sought) ≡ state_word state.Free → r'.ledger.rows.fates l.rebalance.sought ≡ fate_taken s (length r.history.log) (r.ledger.rows.fates l.rebalance.sought)
   fate_of_taken h e = ap (λ (g : Ledger). g.rows.fates l.rebalance.sought) (h.ledger ∙ chosen _ _ _ r.ledger e) ∙ chosen l.rebalance.sought l.rebalance.sought _ (r.ledger.rows.fates l.rebalance.sought) refl
 
   -- where it was not, nothing comes of it
-  pub none_taken : Happens z r r' s choice l l' TakeRow → word z r.world (name.State l.rebalance.sought) ≢ state_word state.Free → r'.ledger ≡ r.ledger
+  pub none_taken : Happens z r r' s choice l l' (Activity.Rebalance (Rebalance.Seek Seek.Take)) → word z r.world (name.State l.rebalance.sought) ≢ state_word state.Free → r'.ledger ≡ r.ledger
   none_taken h d = h.ledger ∙ not_chosen _ _ _ r.ledger d
 
   -- a row that was retired with the number that the seat knows is free, and all else that is
   -- recorded of it stays
-  pub fate_of_freed : Happens z r r' s choice l l' Reclaim → word z r.world (name.State l.rebalance.sought) ≡ state_word (state.Retired l.rebalance.number) → r'.ledger.rows.fates l.rebalance.sought ≡ fate_free (r.ledger.rows.fates l.rebalance.sought)
+  pub fate_of_freed : Happens z r r' s choice l l' (Activity.Rebalance (Rebalance.Seek Seek.Reclaim)) → word z r.world (name.State l.rebalance.sought) ≡ state_word (state.Retired l.rebalance.number) → r'.ledger.rows.fates l.rebalance.sought ≡ fate_free (r.ledger.rows.fates l.rebalance.sought)
   fate_of_freed h e = ap (λ (g : Ledger). g.rows.fates l.rebalance.sought) (h.ledger ∙ chosen _ _ _ r.ledger e) ∙ chosen l.rebalance.sought l.rebalance.sought _ (r.ledger.rows.fates l.rebalance.sought) refl
 
   -- where it was not, nothing comes of it
-  pub none_freed : Happens z r r' s choice l l' Reclaim → word z r.world (name.State l.rebalance.sought) ≢ state_word (state.Retired l.rebalance.number) → r'.ledger ≡ r.ledger
+  pub none_freed : Happens z r r' s choice l l' (Activity.Rebalance (Rebalance.Seek Seek.Reclaim)) → word z r.world (name.State l.rebalance.sought) ≢ state_word (state.Retired l.rebalance.number) → r'.ledger ≡ r.ledger
   none_freed h d = h.ledger ∙ not_chosen _ _ _ r.ledger d
 
   -- a row that is given back is free
-  pub fate_of_given : Happens z r r' s choice l l' GiveBack → r'.ledger.rows.fates (infant l) ≡ fate_free (r.ledger.rows.fates (infant l))
+  pub fate_of_given : Happens z r r' s choice l l' (Activity.Rebalance (Rebalance.Seek Seek.GiveBack)) → r'.ledger.rows.fates (infant l) ≡ fate_free (r.ledger.rows.fates (infant l))
   fate_of_given h = ap (λ (g : Ledger). g.rows.fates (infant l)) h.ledger ∙ chosen (infant l) (infant l) _ (r.ledger.rows.fates (infant l)) refl
 
   -- where the seat finds the unmarked link to its full row, that row is dead
-  pub fate_of_full : Happens z r r' s choice l l' Replace → word z r.world (replaced_link l.rebalance.before) ≡ link_word (unmarked_link (Some l.row)) → r'.ledger.rows.fates l.row ≡ fate_dead s (length r.history.log) (r.ledger.rows.fates l.row)
+  pub fate_of_full : Happens z r r' s choice l l' (Activity.Rebalance (Rebalance.Replace Replace.Exchange)) → word z r.world (replaced_link l.rebalance.before) ≡ link_word (unmarked_link (Some l.row)) → r'.ledger.rows.fates l.row ≡ fate_dead s (length r.history.log) (r.ledger.rows.fates l.row)
   fate_of_full h e = ap (λ (g : Ledger). g.rows.fates l.row) (h.ledger ∙ chosen _ _ _ r.ledger e) ∙ chosen l.row l.row _ _ refl
 
   -- and each row that it took is live
-  pub fate_of_new : Happens z r r' s choice l l' Replace → word z r.world (replaced_link l.rebalance.before) ≡ link_word (unmarked_link (Some l.row)) → (q : ℕ) → IsIn l.rebalance.taken q → q ≢ l.row →
+  pub fate_of_new : Happens z r r' s choice l l' (Activity.Rebalance (Rebalance.Replace Replace.Exchange)) → word z r.world (replaced_link l.rebalance.before) ≡ link_word (unmarked_link (Some l.row)) → (q : ℕ) → IsIn l.rebalance.taken q → q ≢ l.row →
       r'.ledger.rows.fates q ≡ fate_live (word z r.world) (length r.history.log) q (r.ledger.rows.fates q)
   fate_of_new h e q i d =
       ap (λ (g : Ledger). g.rows.fates q) (h.ledger ∙ chosen _ _ _ r.ledger e) ∙ not_chosen q l.row _ _ d ∙
       ap (λ b. let x : kw_rows.Fate = if b then fate_live (word z r.world) (length r.history.log) q (r.ledger.rows.fates q) else r.ledger.rows.fates q in x) (is_in l.rebalance.taken q i)
 
   -- where it does not, nothing comes of it
-  pub none_replaced : Happens z r r' s choice l l' Replace → word z r.world (replaced_link l.rebalance.before) ≢ link_word (unmarked_link (Some l.row)) → r'.ledger ≡ r.ledger
+  pub none_replaced : Happens z r r' s choice l l' (Activity.Rebalance (Rebalance.Replace Replace.Exchange)) → word z r.world (replaced_link l.rebalance.before) ≢ link_word (unmarked_link (Some l.row)) → r'.ledger ≡ r.ledger
   none_replaced h d = h.ledger ∙ not_chosen _ _ _ r.ledger d
 
   -- the number that is drawn is the epoch that was found
-  pub number_of_drawn : Happens z r r' s choice l l' Number → r'.ledger.rows.numbered (word z r.world name.Epoch) ≡ Some (length r.history.log)
+  pub number_of_drawn : Happens z r r' s choice l l' (Activity.Rebalance (Rebalance.Replace Replace.Number)) → r'.ledger.rows.numbered (word z r.world name.Epoch) ≡ Some (length r.history.log)
   number_of_drawn h = ap (λ (g : Ledger). g.rows.numbered (word z r.world name.Epoch)) h.ledger ∙ chosen (word z r.world name.Epoch) (word z r.world name.Epoch) _ (r.ledger.rows.numbered (word z r.world name.Epoch)) refl
 
-  pub other_numbers : Happens z r r' s choice l l' Number → (m : ℕ) → m ≢ word z r.world name.Epoch → r'.ledger.rows.numbered m ≡ r.ledger.rows.numbered m
+  pub other_numbers : Happens z r r' s choice l l' (Activity.Rebalance (Rebalance.Replace Replace.Number)) → (m : ℕ) → m ≢ word z r.world name.Epoch → r'.ledger.rows.numbered m ≡ r.ledger.rows.numbered m
   other_numbers h m d = ap (λ (g : Ledger). g.rows.numbered m) h.ledger ∙ not_chosen m (word z r.world name.Epoch) _ (r.ledger.rows.numbered m) d

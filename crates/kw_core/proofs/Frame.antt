@@ -11,7 +11,20 @@ use Rattle.kw_words.specs.Layout.{IsWithin}
 use Rattle.kw_words.specs.Count.{count_of}
 use Rattle.kw_words.proofs.CountWords.{count_of_next}
 use Rattle.kw_world.specs.declared.activity.Activity.{Activity}
-use Rattle.kw_world.specs.declared.activity.Activity.TheVariants.{Enter, ScanWait, ScanDraw, ScanSettle, Start, Walk, LookHelp, ClearScan, PutAdd, PutKey, PutValue, Announce, Stamp, PutVersion, InsSet, Insert, PutClear, Leave, Again, BalNormal, Engage, MarkLink, Decide, FreezeCount, Freeze, HelpDraw, HelpSettle, SeekFirst, Reclaim, TakeRow, GiveBack, WriteCount, WriteMin, WriteNext, WriteFirst, WritePend, WriteKey, WriteValue, WriteVersion, WriteAfter, Before, Replace, Normalise, Number, Retire}
+use Rattle.kw_world.specs.declared.activity.draw.Draw.TheVariants as Draw
+use Rattle.kw_world.specs.declared.activity.rebalance.engage.Engage.TheVariants as Engage
+use Rattle.kw_world.specs.declared.activity.enter.Enter.TheVariants as Enter
+use Rattle.kw_world.specs.declared.activity.rebalance.freeze.Freeze.TheVariants as Freeze
+use Rattle.kw_world.specs.declared.activity.insert.Insert.TheVariants as Insert
+use Rattle.kw_world.specs.declared.activity.look.Look.TheVariants as Look
+use Rattle.kw_world.specs.declared.activity.put.Put.TheVariants as Put
+use Rattle.kw_world.specs.declared.activity.rebalance.Rebalance.TheVariants as Rebalance
+use Rattle.kw_world.specs.declared.activity.rebalance.replace.Replace.TheVariants as Replace
+use Rattle.kw_world.specs.declared.activity.rebalance.seek.Seek.TheVariants as Seek
+use Rattle.kw_world.specs.declared.activity.walk.Walk.TheVariants as Walk
+use Rattle.kw_world.specs.declared.activity.rebalance.write.Write.TheVariants as Write
+use Rattle.kw_world.specs.declared.activity.rebalance.gather.Gather.TheVariants as Gather
+use Rattle.kw_world.specs.declared.activity.read.Read.TheVariants as Read
 use Rattle.kw_world.specs.declared.local.Local.{Local}
 use Rattle.kw_world.specs.declared.event.Choice.{Choice}
 use Rattle.kw_world.specs.declared.operation.Action.{Action}
@@ -41,48 +54,48 @@ walk_writes false s = None
 -- is stopped. That the table says so too is `written_is`: a line that writes and has no name here
 -- is refused there
 abbrev pub writes : Activity → ℕ → Bool → Local → Option Name
-writes Enter s b l = Some (name.Pass s)
-writes ScanWait s b l = Some (name.Scan s)
-writes ScanDraw s b l = Some name.Clock
-writes ScanSettle s b l = Some (name.Scan s)
-writes Walk s b l = walk_writes b s
-writes LookHelp s b l = Some (name.Pend l.row l.looked)
-writes (ClearScan answer) s b l = Some (name.Scan s)
-writes PutAdd s b l = Some (name.Count l.row)
-writes PutKey s b l = Some (name.Key l.row l.cell)
-writes PutValue s b l = Some (name.Value l.row l.cell)
-writes Announce s b l = Some (name.Pend l.row s)
-writes Stamp s b l = Some (name.Pend l.row s)
-writes PutVersion s b l = Some (name.Version l.row l.cell)
-writes InsSet s b l = Some (name.After l.row l.cell)
-writes Insert s b l = Some (link_name l.row l.link)
-writes PutClear s b l = Some (name.Pend l.row s)
-writes (Leave answer) s b l = Some (name.Pass s)
-writes Again s b l = Some (name.Pass s)
-writes (BalNormal seat) s b l = Some (name.State l.row)
-writes Engage s b l = Some (name.State l.row)
-writes (MarkLink count) s b l = Some (name.Next l.row)
-writes (Decide count) s b l = Some (name.State l.row)
-writes FreezeCount s b l = Some (name.Count l.row)
-writes (Freeze i) s b l = Some (name.Pend l.row i)
-writes (HelpDraw i) s b l = Some name.Clock
-writes (HelpSettle i) s b l = Some (name.Scan i)
-writes Reclaim s b l = Some (name.State l.rebalance.sought)
-writes TakeRow s b l = Some (name.State l.rebalance.sought)
-writes GiveBack s b l = Some (name.State (infant l))
-writes WriteCount s b l = Some (name.Count (infant l))
-writes WriteMin s b l = Some (name.Min (infant l))
-writes WriteNext s b l = Some (name.Next (infant l))
-writes WriteFirst s b l = Some (name.First (infant l))
-writes (WritePend i) s b l = Some (name.Pend (infant l) i)
-writes (WriteKey j) s b l = Some (name.Key (infant l) j)
-writes (WriteValue j) s b l = Some (name.Value (infant l) j)
-writes (WriteVersion j) s b l = Some (name.Version (infant l) j)
-writes (WriteAfter j) s b l = Some (name.After (infant l) j)
-writes Replace s b l = Some (replaced_link l.rebalance.before)
-writes Normalise s b l = Some (name.State (infant l))
-writes Number s b l = Some name.Epoch
-writes Retire s b l = Some (name.State l.row)
+writes (Activity.Enter Enter.Announce) s b l = Some (name.Pass s)
+writes (Activity.Draw Draw.Wait) s b l = Some (name.Scan s)
+writes (Activity.Draw Draw.Version) s b l = Some name.Clock
+writes (Activity.Draw Draw.Settle) s b l = Some (name.Scan s)
+writes (Activity.Walk Walk.Next) s b l = walk_writes b s
+writes (Activity.Look Look.Help) s b l = Some (name.Pend l.row l.looked)
+writes (Activity.EndScan answer) s b l = Some (name.Scan s)
+writes (Activity.Put Put.Add) s b l = Some (name.Count l.row)
+writes (Activity.Put Put.Key) s b l = Some (name.Key l.row l.cell)
+writes (Activity.Put Put.Value) s b l = Some (name.Value l.row l.cell)
+writes (Activity.Put Put.Announce) s b l = Some (name.Pend l.row s)
+writes (Activity.Put Put.Stamp) s b l = Some (name.Pend l.row s)
+writes (Activity.Put Put.Version) s b l = Some (name.Version l.row l.cell)
+writes (Activity.Insert Insert.Set) s b l = Some (name.After l.row l.cell)
+writes (Activity.Insert Insert.Exchange) s b l = Some (link_name l.row l.link)
+writes (Activity.Put Put.Clear) s b l = Some (name.Pend l.row s)
+writes (Activity.Leave answer) s b l = Some (name.Pass s)
+writes Activity.Retry s b l = Some (name.Pass s)
+writes (Activity.Rebalance (Rebalance.Engage (Engage.Normal seat))) s b l = Some (name.State l.row)
+writes (Activity.Rebalance (Rebalance.Engage Engage.Lead)) s b l = Some (name.State l.row)
+writes (Activity.Rebalance (Rebalance.Engage (Engage.MarkLink count))) s b l = Some (name.Next l.row)
+writes (Activity.Rebalance (Rebalance.Engage (Engage.Decide count))) s b l = Some (name.State l.row)
+writes (Activity.Rebalance (Rebalance.Freeze Freeze.Count)) s b l = Some (name.Count l.row)
+writes (Activity.Rebalance (Rebalance.Freeze (Freeze.Entry i))) s b l = Some (name.Pend l.row i)
+writes (Activity.Rebalance (Rebalance.Freeze (Freeze.Draw i))) s b l = Some name.Clock
+writes (Activity.Rebalance (Rebalance.Freeze (Freeze.Settle i))) s b l = Some (name.Scan i)
+writes (Activity.Rebalance (Rebalance.Seek Seek.Reclaim)) s b l = Some (name.State l.rebalance.sought)
+writes (Activity.Rebalance (Rebalance.Seek Seek.Take)) s b l = Some (name.State l.rebalance.sought)
+writes (Activity.Rebalance (Rebalance.Seek Seek.GiveBack)) s b l = Some (name.State (infant l))
+writes (Activity.Rebalance (Rebalance.Write Write.Count)) s b l = Some (name.Count (infant l))
+writes (Activity.Rebalance (Rebalance.Write Write.Least)) s b l = Some (name.Min (infant l))
+writes (Activity.Rebalance (Rebalance.Write Write.Next)) s b l = Some (name.Next (infant l))
+writes (Activity.Rebalance (Rebalance.Write Write.First)) s b l = Some (name.First (infant l))
+writes (Activity.Rebalance (Rebalance.Write (Write.Entry i))) s b l = Some (name.Pend (infant l) i)
+writes (Activity.Rebalance (Rebalance.Write (Write.Key j))) s b l = Some (name.Key (infant l) j)
+writes (Activity.Rebalance (Rebalance.Write (Write.Value j))) s b l = Some (name.Value (infant l) j)
+writes (Activity.Rebalance (Rebalance.Write (Write.Version j))) s b l = Some (name.Version (infant l) j)
+writes (Activity.Rebalance (Rebalance.Write (Write.After j))) s b l = Some (name.After (infant l) j)
+writes (Activity.Rebalance (Rebalance.Replace Replace.Exchange)) s b l = Some (replaced_link l.rebalance.before)
+writes (Activity.Rebalance (Rebalance.Replace Replace.Normalise)) s b l = Some (name.State (infant l))
+writes (Activity.Rebalance (Rebalance.Replace Replace.Number)) s b l = Some name.Epoch
+writes (Activity.Rebalance (Rebalance.Replace Replace.Retire)) s b l = Some (name.State l.row)
 writes _ s b l = None
 
 -- the word that an action on this word writes; none where it loads
@@ -92,32 +105,42 @@ written_by _ n = Some n
 
 -- `writes` has for each activity what the operation of its line writes
 written_is : (z : Sizes) (a : Activity) (s : ℕ) (choice : Choice) (l : Local) → written_by (transition z a s choice l).operation.action (transition z a s choice l).operation.name ≡ writes a s (is_stopped choice l) l
-written_is z Start s choice l = starts choice
+written_is z (Activity.Walk Walk.Start) s choice l = starts choice
   where
     starts : (c : Choice) → written_by (start_transition c l).operation.action (start_transition c l).operation.name ≡ None
     starts (Begin call) = refl
     starts Go = refl
     starts (Guess q) = refl
     starts Stop = refl
-written_is z Walk s choice l = walks (is_stopped choice l)
+written_is z (Activity.Walk Walk.Next) s choice l = walks (is_stopped choice l)
   where
     walks : (b : Bool) → written_by (walk_transition b s l).operation.action (walk_transition b s l).operation.name ≡ walk_writes b s
     walks true = refl
     walks false = refl
-written_is z SeekFirst s choice l = seeks choice
+written_is z (Activity.Rebalance (Rebalance.Seek Seek.First)) s choice l = seeks choice
   where
     seeks : (c : Choice) → written_by (seek_first_transition c l).operation.action (seek_first_transition c l).operation.name ≡ None
     seeks (Begin call) = refl
     seeks Go = refl
     seeks (Guess q) = refl
     seeks Stop = refl
-written_is z Before s choice l = begins choice
+written_is z (Activity.Rebalance (Rebalance.Replace Replace.Start)) s choice l = begins choice
   where
     begins : (c : Choice) → written_by (before_transition c l).operation.action (before_transition c l).operation.name ≡ None
     begins (Begin call) = refl
     begins Go = refl
     begins (Guess q) = refl
     begins Stop = refl
+written_is z (Activity.Enter Enter.Announce) s choice l = refl
+written_is z (Activity.Draw Draw.Clock) s choice l = refl
+written_is z (Activity.Look Look.Key) s choice l = refl
+written_is z (Activity.Read Read.Link) s choice l = refl
+written_is z (Activity.Put Put.Count) s choice l = refl
+written_is z (Activity.Insert Insert.Link) s choice l = refl
+written_is z (Activity.Rebalance (Rebalance.Engage Engage.Clock)) s choice l = refl
+written_is z (Activity.Rebalance (Rebalance.Freeze Freeze.Count)) s choice l = refl
+written_is z (Activity.Rebalance (Rebalance.Gather Gather.Link)) s choice l = refl
+written_is z (Activity.Rebalance (Rebalance.Write Write.Count)) s choice l = refl
 written_is z _ s choice l = refl
 
 -- whatever the action, a word that it does not write is kept
@@ -136,27 +159,27 @@ module _ {z : Sizes} {r r' : Run} {s : ℕ} {choice : Choice} {l l' : Local} whe
 
 -- which activities write an entry of their seat, a pass, a key, a value, and the link of their row
 abbrev pub WritesOwnEntry : Activity → Type 0
-WritesOwnEntry Announce = Unit {0}
-WritesOwnEntry Stamp = Unit {0}
-WritesOwnEntry PutClear = Unit {0}
+WritesOwnEntry (Activity.Put Put.Announce) = Unit {0}
+WritesOwnEntry (Activity.Put Put.Stamp) = Unit {0}
+WritesOwnEntry (Activity.Put Put.Clear) = Unit {0}
 WritesOwnEntry _ = ⊥
 
 abbrev pub WritesPass : Activity → Type 0
-WritesPass Enter = Unit {0}
-WritesPass (Leave answer) = Unit {0}
-WritesPass Again = Unit {0}
+WritesPass (Activity.Enter Enter.Announce) = Unit {0}
+WritesPass (Activity.Leave answer) = Unit {0}
+WritesPass Activity.Retry = Unit {0}
 WritesPass _ = ⊥
 
 abbrev pub WritesKey : Activity → Type 0
-WritesKey PutKey = Unit {0}
+WritesKey (Activity.Put Put.Key) = Unit {0}
 WritesKey _ = ⊥
 
 abbrev pub WritesValue : Activity → Type 0
-WritesValue PutValue = Unit {0}
+WritesValue (Activity.Put Put.Value) = Unit {0}
 WritesValue _ = ⊥
 
 abbrev pub WritesNext : Activity → Type 0
-WritesNext (MarkLink count) = Unit {0}
+WritesNext (Activity.Rebalance (Rebalance.Engage (Engage.MarkLink count))) = Unit {0}
 WritesNext _ = ⊥
 
 -- names of one family that are the same
@@ -193,13 +216,22 @@ no_replaced (Some p) n f e = let x : true ≡ false = ap is_between (same_Some (
 no_replaced None n f e = let x : true ≡ false = ap is_between (same_Some name.Head n e) ∙ f in absurd (cc)
 
 not_pass : (a : Activity) (s : ℕ) (b : Bool) (l : Local) (t : ℕ) → (WritesPass a → t ≡ s → ⊥) → writes a s b l ≢ Some (name.Pass t)
-not_pass Again s b l t f e = f tt (sym (same_pass s t e))
-not_pass Replace s b l t f e = no_replaced l.rebalance.before (name.Pass t) refl e
-not_pass Enter s b l t f e = f tt (sym (same_pass s t e))
-not_pass (Leave answer) s b l t f e = f tt (sym (same_pass s t e))
-not_pass Insert s b l t f e = no_link l.row l.link (name.Pass t) refl e
-not_pass Walk s true l t f e = let x : Some (name.Scan s) ≡ Some (name.Pass t) = e in cc
-not_pass Walk s false l t f e = let x : None ≡ Some (name.Pass t) = e in cc
+not_pass Activity.Retry s b l t f e = f tt (sym (same_pass s t e))
+not_pass (Activity.Rebalance (Rebalance.Replace Replace.Exchange)) s b l t f e = no_replaced l.rebalance.before (name.Pass t) refl e
+not_pass (Activity.Enter Enter.Announce) s b l t f e = f tt (sym (same_pass s t e))
+not_pass (Activity.Leave answer) s b l t f e = f tt (sym (same_pass s t e))
+not_pass (Activity.Insert Insert.Exchange) s b l t f e = no_link l.row l.link (name.Pass t) refl e
+not_pass (Activity.Walk Walk.Next) s true l t f e = let x : Some (name.Scan s) ≡ Some (name.Pass t) = e in cc
+not_pass (Activity.Walk Walk.Next) s false l t f e = let x : None ≡ Some (name.Pass t) = e in cc
+not_pass (Activity.Draw Draw.Clock) s b l t f e = cc
+not_pass (Activity.Look Look.Key) s b l t f e = cc
+not_pass (Activity.Read Read.Link) s b l t f e = cc
+not_pass (Activity.Put Put.Count) s b l t f e = cc
+not_pass (Activity.Rebalance (Rebalance.Engage Engage.Clock)) s b l t f e = cc
+not_pass (Activity.Rebalance (Rebalance.Freeze Freeze.Count)) s b l t f e = cc
+not_pass (Activity.Rebalance (Rebalance.Gather Gather.Link)) s b l t f e = cc
+not_pass (Activity.Rebalance (Rebalance.Seek Seek.Next)) s b l t f e = cc
+not_pass (Activity.Rebalance (Rebalance.Write Write.Count)) s b l t f e = cc
 not_pass _ s b l t f e = cc
 
 -- one more cell is asked for

@@ -17,7 +17,20 @@ use Rattle.kw_words.proofs.CountWords.{count_of_next, count_of_frozen}
 use Rattle.kw_words.proofs.PendWords.{pend_of-Frozen}
 use Rattle.kw_words.proofs.ScanWords.{scan_of-scan_word, scan_word_of}
 use Rattle.kw_world.specs.declared.activity.Activity.{Activity}
-use Rattle.kw_world.specs.declared.activity.Activity.TheVariants.{ScanWait, ScanDraw, ScanSettle, Walk, LookHelp, ClearScan, PutAdd, Announce, Stamp, Insert, FreezeCount, Freeze, HelpDraw, HelpSettle, Replace}
+use Rattle.kw_world.specs.declared.activity.draw.Draw.TheVariants as Draw
+use Rattle.kw_world.specs.declared.activity.rebalance.freeze.Freeze.TheVariants as Freeze
+use Rattle.kw_world.specs.declared.activity.insert.Insert.TheVariants as Insert
+use Rattle.kw_world.specs.declared.activity.look.Look.TheVariants as Look
+use Rattle.kw_world.specs.declared.activity.put.Put.TheVariants as Put
+use Rattle.kw_world.specs.declared.activity.rebalance.Rebalance.TheVariants as Rebalance
+use Rattle.kw_world.specs.declared.activity.rebalance.replace.Replace.TheVariants as Replace
+use Rattle.kw_world.specs.declared.activity.walk.Walk.TheVariants as Walk
+use Rattle.kw_world.specs.declared.activity.enter.Enter.TheVariants as Enter
+use Rattle.kw_world.specs.declared.activity.rebalance.engage.Engage.TheVariants as Engage
+use Rattle.kw_world.specs.declared.activity.rebalance.gather.Gather.TheVariants as Gather
+use Rattle.kw_world.specs.declared.activity.read.Read.TheVariants as Read
+use Rattle.kw_world.specs.declared.activity.rebalance.seek.Seek.TheVariants as Seek
+use Rattle.kw_world.specs.declared.activity.rebalance.write.Write.TheVariants as Write
 use Rattle.kw_world.specs.declared.event.Choice.{Choice}
 use Rattle.kw_world.specs.declared.local.Local.{Local}
 use Rattle.kw_world.specs.PutTransitions.{has_room, given_of}
@@ -35,46 +48,62 @@ use Rattle.kw_core.proofs.InfantFrames.{count_stays, entry_stays}
 
 -- the seat freezes the entry of seat t
 abbrev pub FreezesEntry : ℕ → Activity → Type 0
-FreezesEntry t (Freeze i) = t ≡ i
+FreezesEntry t (Activity.Rebalance (Rebalance.Freeze (Freeze.Entry i))) = t ≡ i
 FreezesEntry t _ = ⊥
 
 -- the seat asks for a cell of its row, or freezes its count
 abbrev pub ChangesCount : Activity → Type 0
-ChangesCount PutAdd = Unit {0}
-ChangesCount FreezeCount = Unit {0}
+ChangesCount (Activity.Put Put.Add) = Unit {0}
+ChangesCount (Activity.Rebalance (Rebalance.Freeze Freeze.Count)) = Unit {0}
 ChangesCount _ = ⊥
 
 -- the seat draws a version, for its own scan or for one that it helps
 abbrev pub DrawsVersion : Activity → Type 0
-DrawsVersion ScanDraw = Unit {0}
-DrawsVersion (HelpDraw i) = Unit {0}
+DrawsVersion (Activity.Draw Draw.Version) = Unit {0}
+DrawsVersion (Activity.Rebalance (Rebalance.Freeze (Freeze.Draw i))) = Unit {0}
 DrawsVersion _ = ⊥
 
 -- the seat settles the scan of seat t, which it helps
 abbrev pub SettlesScan : ℕ → Activity → Type 0
-SettlesScan t (HelpSettle i) = t ≡ i
+SettlesScan t (Activity.Rebalance (Rebalance.Freeze (Freeze.Settle i))) = t ≡ i
 SettlesScan t _ = ⊥
 
 -- the clock is not written, unless the seat draws
 no_clock : (a : Activity) (s : ℕ) (b : Bool) (l : Local) → (DrawsVersion a → ⊥) → writes a s b l ≢ Some name.Clock
-no_clock Replace s b l f e = no_replaced l.rebalance.before name.Clock refl e
-no_clock ScanDraw s b l f e = f tt
-no_clock (HelpDraw i) s b l f e = f tt
-no_clock Insert s b l f e = no_link l.row l.link name.Clock refl e
-no_clock Walk s true l f e = let x : Some (name.Scan s) ≡ Some name.Clock = e in cc
-no_clock Walk s false l f e = let x : None ≡ Some name.Clock = e in cc
+no_clock (Activity.Rebalance (Rebalance.Replace Replace.Exchange)) s b l f e = no_replaced l.rebalance.before name.Clock refl e
+no_clock (Activity.Draw Draw.Version) s b l f e = f tt
+no_clock (Activity.Rebalance (Rebalance.Freeze (Freeze.Draw i))) s b l f e = f tt
+no_clock (Activity.Insert Insert.Exchange) s b l f e = no_link l.row l.link name.Clock refl e
+no_clock (Activity.Walk Walk.Next) s true l f e = let x : Some (name.Scan s) ≡ Some name.Clock = e in cc
+no_clock (Activity.Walk Walk.Next) s false l f e = let x : None ≡ Some name.Clock = e in cc
+no_clock (Activity.Enter Enter.Announce) s b l f e = cc
+no_clock (Activity.Look Look.Key) s b l f e = cc
+no_clock (Activity.Read Read.Link) s b l f e = cc
+no_clock (Activity.Put Put.Count) s b l f e = cc
+no_clock (Activity.Rebalance (Rebalance.Engage Engage.Clock)) s b l f e = cc
+no_clock (Activity.Rebalance (Rebalance.Gather Gather.Link)) s b l f e = cc
+no_clock (Activity.Rebalance (Rebalance.Seek Seek.Next)) s b l f e = cc
+no_clock (Activity.Rebalance (Rebalance.Write Write.Count)) s b l f e = cc
 no_clock _ s b l f e = cc
 
 -- the scan of another seat is not written, unless the seat settles it
 no_scan : (a : Activity) (s : ℕ) (b : Bool) (l : Local) (t : ℕ) → t ≢ s → (SettlesScan t a → ⊥) → writes a s b l ≢ Some (name.Scan t)
-no_scan Replace s b l t d f e = no_replaced l.rebalance.before (name.Scan t) refl e
-no_scan (HelpSettle i) s b l t d f e = f (sym (same_scan i t e))
-no_scan ScanWait s b l t d f e = d (sym (same_scan s t e))
-no_scan ScanSettle s b l t d f e = d (sym (same_scan s t e))
-no_scan (ClearScan answer) s b l t d f e = d (sym (same_scan s t e))
-no_scan Insert s b l t d f e = no_link l.row l.link (name.Scan t) refl e
-no_scan Walk s true l t d f e = d (sym (same_scan s t e))
-no_scan Walk s false l t d f e = let x : None ≡ Some (name.Scan t) = e in cc
+no_scan (Activity.Rebalance (Rebalance.Replace Replace.Exchange)) s b l t d f e = no_replaced l.rebalance.before (name.Scan t) refl e
+no_scan (Activity.Rebalance (Rebalance.Freeze (Freeze.Settle i))) s b l t d f e = f (sym (same_scan i t e))
+no_scan (Activity.Draw Draw.Wait) s b l t d f e = d (sym (same_scan s t e))
+no_scan (Activity.Draw Draw.Settle) s b l t d f e = d (sym (same_scan s t e))
+no_scan (Activity.EndScan answer) s b l t d f e = d (sym (same_scan s t e))
+no_scan (Activity.Insert Insert.Exchange) s b l t d f e = no_link l.row l.link (name.Scan t) refl e
+no_scan (Activity.Walk Walk.Next) s true l t d f e = d (sym (same_scan s t e))
+no_scan (Activity.Walk Walk.Next) s false l t d f e = let x : None ≡ Some (name.Scan t) = e in cc
+no_scan (Activity.Enter Enter.Announce) s b l t d f e = cc
+no_scan (Activity.Look Look.Key) s b l t d f e = cc
+no_scan (Activity.Read Read.Link) s b l t d f e = cc
+no_scan (Activity.Put Put.Count) s b l t d f e = cc
+no_scan (Activity.Rebalance (Rebalance.Engage Engage.Clock)) s b l t d f e = cc
+no_scan (Activity.Rebalance (Rebalance.Gather Gather.Link)) s b l t d f e = cc
+no_scan (Activity.Rebalance (Rebalance.Seek Seek.Next)) s b l t d f e = cc
+no_scan (Activity.Rebalance (Rebalance.Write Write.Count)) s b l t d f e = cc
 no_scan _ s b l t d f e = cc
 
 -- what becomes of a count over an event: it is as it was, one more cell is asked for, or it is
@@ -119,15 +148,15 @@ module _ {z : Sizes} {r r' : Run} {s : ℕ} {choice : Choice} {l l' : Local} whe
   -- Counts and the clock.
 
   -- what becomes of a count where the seat asks for a cell
-  pub count_asked : Happens z r r' s choice l l' PutAdd → (q : ℕ) → q < r.world.rows → IsGiven (count_of (word z r.world (name.Count q))) → CountStep (word z r.world) (word z r'.world) q
+  pub count_asked : Happens z r r' s choice l l' (Activity.Put Put.Add) → (q : ℕ) → q < r.world.rows → IsGiven (count_of (word z r.world (name.Count q))) → CountStep (word z r.world) (word z r'.world) q
   count_asked h q i g = which (cases_eq q l.row)
     where
       which : (q ≡ l.row) ⊎ (q ≡ l.row → ⊥) → CountStep (word z r.world) (word z r'.world) q
       which (inl e) = subst (CountStep (word z r.world) (word z r'.world)) (sym e) (added_step (word z r.world) (word z r'.world) l.row _ h.changed.same refl (subst (λ x. IsGiven (count_of (word z r.world (name.Count x)))) e g))
-      which (inr d) = count_same (count_stays PutAdd h q i d)
+      which (inr d) = count_same (count_stays (Activity.Put Put.Add) h q i d)
 
   -- and where it freezes its row
-  pub count_frozen_now : Happens z r r' s choice l l' FreezeCount → (q : ℕ) → q < r.world.rows → IsGiven (count_of (word z r.world (name.Count q))) → CountStep (word z r.world) (word z r'.world) q
+  pub count_frozen_now : Happens z r r' s choice l l' (Activity.Rebalance (Rebalance.Freeze Freeze.Count)) → (q : ℕ) → q < r.world.rows → IsGiven (count_of (word z r.world (name.Count q))) → CountStep (word z r.world) (word z r'.world) q
   count_frozen_now h q i g = which (cases_eq q l.row)
     where
       frozen : (x : Option Counted) → count_of (word z r.world (name.Count l.row)) ≡ x → IsGiven x → CountStep (word z r.world) (word z r'.world) l.row
@@ -136,54 +165,54 @@ module _ {z : Sizes} {r r' : Run} {s : ℕ} {choice : Choice} {l l' : Local} whe
 
       which : (q ≡ l.row) ⊎ (q ≡ l.row → ⊥) → CountStep (word z r.world) (word z r'.world) q
       which (inl e) = subst (CountStep (word z r.world) (word z r'.world)) (sym e) (frozen _ refl (subst (λ x. IsGiven (count_of (word z r.world (name.Count x)))) e g))
-      which (inr d) = count_same (count_stays FreezeCount h q i d)
+      which (inr d) = count_same (count_stays (Activity.Rebalance (Rebalance.Freeze Freeze.Count)) h q i d)
 
   -- the count that a seat freezes is frozen, and as many cells were asked for as before
-  pub freezes_given : Happens z r r' s choice l l' FreezeCount → (c : Counted) → count_of (word z r.world (name.Count l.row)) ≡ Some c → count_of (word z r'.world (name.Count l.row)) ≡ Some (record c { frozen = true })
+  pub freezes_given : Happens z r r' s choice l l' (Activity.Rebalance (Rebalance.Freeze Freeze.Count)) → (c : Counted) → count_of (word z r.world (name.Count l.row)) ≡ Some c → count_of (word z r'.world (name.Count l.row)) ≡ Some (record c { frozen = true })
   freezes_given h c e = ap count_of h.changed.same ∙ count_of_frozen (word z r.world (name.Count l.row)) c e
 
   -- the clock does not fall
   pub clock_never_falls : (a : Activity) → Happens z r r' s choice l l' a → word z r.world name.Clock ≤ word z r'.world name.Clock
-  clock_never_falls ScanDraw h = omega (arith, h.changed.same)
-  clock_never_falls (HelpDraw i) h = omega (arith, h.changed.same)
+  clock_never_falls (Activity.Draw Draw.Version) h = omega (arith, h.changed.same)
+  clock_never_falls (Activity.Rebalance (Rebalance.Freeze (Freeze.Draw i))) h = omega (arith, h.changed.same)
   clock_never_falls a h = omega (arith, clock_stays a h (λ x. x))
 
   -- a seat that helps a scan raises it by one
-  pub helper_raises : (i : ℕ) → Happens z r r' s choice l l' (HelpDraw i) → word z r'.world name.Clock ≡ word z r.world name.Clock + 1
+  pub helper_raises : (i : ℕ) → Happens z r r' s choice l l' (Activity.Rebalance (Rebalance.Freeze (Freeze.Draw i))) → word z r'.world name.Clock ≡ word z r.world name.Clock + 1
   helper_raises i h = h.changed.same
 
   -- Entries.
 
   -- an entry that is what the seat found there is frozen
-  pub entry_frozen : (i : ℕ) → Happens z r r' s choice l l' (Freeze i) → word z r.world (name.Pend l.row i) ≡ pend_word l.rebalance.entry → word z r'.world (name.Pend l.row i) ≡ pend_word pend.Frozen
+  pub entry_frozen : (i : ℕ) → Happens z r r' s choice l l' (Activity.Rebalance (Rebalance.Freeze (Freeze.Entry i))) → word z r.world (name.Pend l.row i) ≡ pend_word l.rebalance.entry → word z r'.world (name.Pend l.row i) ≡ pend_word pend.Frozen
   entry_frozen i h e = exchanged _ _ _ _ h.changed.same e
 
   -- and reads so
-  pub reads_frozen : (i : ℕ) → Happens z r r' s choice l l' (Freeze i) → word z r.world (name.Pend l.row i) ≡ pend_word l.rebalance.entry → pend_of (word z r'.world (name.Pend l.row i)) ≡ Some pend.Frozen
+  pub reads_frozen : (i : ℕ) → Happens z r r' s choice l l' (Activity.Rebalance (Rebalance.Freeze (Freeze.Entry i))) → word z r.world (name.Pend l.row i) ≡ pend_word l.rebalance.entry → pend_of (word z r'.world (name.Pend l.row i)) ≡ Some pend.Frozen
   reads_frozen i h e = ap pend_of (entry_frozen i h e) ∙ pend_of-Frozen
 
   -- any other entry stays as it is
-  pub entry_left : (i : ℕ) → Happens z r r' s choice l l' (Freeze i) → word z r.world (name.Pend l.row i) ≢ pend_word l.rebalance.entry → word z r'.world (name.Pend l.row i) ≡ word z r.world (name.Pend l.row i)
+  pub entry_left : (i : ℕ) → Happens z r r' s choice l l' (Activity.Rebalance (Rebalance.Freeze (Freeze.Entry i))) → word z r.world (name.Pend l.row i) ≢ pend_word l.rebalance.entry → word z r'.world (name.Pend l.row i) ≡ word z r.world (name.Pend l.row i)
   entry_left i h d = not_exchanged _ _ _ _ h.changed.same d
 
   -- Scans.
 
   -- a scan that still waits since that clock has the version that was drawn for it
-  pub scan_settled : (i : ℕ) → Happens z r r' s choice l l' (HelpSettle i) → IsVersion l.rebalance.drawn → scan_of (word z r.world (name.Scan i)) ≡ Some (scan.Waiting l.rebalance.waiting) → scan_of (word z r'.world (name.Scan i)) ≡ Some (scan.Drawn l.rebalance.drawn)
+  pub scan_settled : (i : ℕ) → Happens z r r' s choice l l' (Activity.Rebalance (Rebalance.Freeze (Freeze.Settle i))) → IsVersion l.rebalance.drawn → scan_of (word z r.world (name.Scan i)) ≡ Some (scan.Waiting l.rebalance.waiting) → scan_of (word z r'.world (name.Scan i)) ≡ Some (scan.Drawn l.rebalance.drawn)
   scan_settled i h v e = ap scan_of (exchanged _ _ _ _ h.changed.same (sym (scan_word_of _ (scan.Waiting l.rebalance.waiting) e))) ∙ scan_of-scan_word (scan.Drawn l.rebalance.drawn) v
 
   -- any other scan stays as it is
-  pub scan_left : (i : ℕ) → Happens z r r' s choice l l' (HelpSettle i) → IsVersion l.rebalance.waiting → scan_of (word z r.world (name.Scan i)) ≢ Some (scan.Waiting l.rebalance.waiting) → word z r'.world (name.Scan i) ≡ word z r.world (name.Scan i)
+  pub scan_left : (i : ℕ) → Happens z r r' s choice l l' (Activity.Rebalance (Rebalance.Freeze (Freeze.Settle i))) → IsVersion l.rebalance.waiting → scan_of (word z r.world (name.Scan i)) ≢ Some (scan.Waiting l.rebalance.waiting) → word z r'.world (name.Scan i) ≡ word z r.world (name.Scan i)
   scan_left i h v d = not_exchanged _ _ _ _ h.changed.same (λ e. d (ap scan_of e ∙ scan_of-scan_word (scan.Waiting l.rebalance.waiting) v))
 
 -- A frozen entry.
 
 -- the seat exchanges an entry
 abbrev pub ExchangesEntry : Activity → Type 0
-ExchangesEntry Announce = Unit {0}
-ExchangesEntry Stamp = Unit {0}
-ExchangesEntry LookHelp = Unit {0}
-ExchangesEntry (Freeze j) = Unit {0}
+ExchangesEntry (Activity.Put Put.Announce) = Unit {0}
+ExchangesEntry (Activity.Put Put.Stamp) = Unit {0}
+ExchangesEntry (Activity.Look Look.Help) = Unit {0}
+ExchangesEntry (Activity.Rebalance (Rebalance.Freeze (Freeze.Entry j))) = Unit {0}
 ExchangesEntry _ = ⊥
 
 -- neither an idle nor a pending entry is a frozen one
@@ -205,13 +234,13 @@ frozen_at v v' row i q t here there = which (cases_eq q row) (cases_eq t i)
 module _ {z : Sizes} {r r' : Run} {s : ℕ} {choice : Choice} {l l' : Local} where
   -- a frozen entry stays frozen where a seat exchanges one
   pub frozen_entry_lasts : (a : Activity) → ExchangesEntry a → Happens z r r' s choice l l' a → (q t : ℕ) → q < r.world.rows → t < z.seats → word z r.world (name.Pend q t) ≡ pend_word pend.Frozen → word z r'.world (name.Pend q t) ≡ pend_word pend.Frozen
-  frozen_entry_lasts Announce x h q t i o e =
-      frozen_at (word z r.world) (word z r'.world) l.row s q t (λ y. not_exchanged _ _ _ _ h.changed.same (λ u. not_idle (sym y ∙ u)) ∙ y) (λ d. entry_stays Announce h q t i o (λ c. d c.0 c.1)) e
-  frozen_entry_lasts Stamp x h q t i o e =
-      frozen_at (word z r.world) (word z r'.world) l.row s q t (λ y. not_exchanged _ _ _ _ h.changed.same (λ u. not_pending l.cell (sym y ∙ u)) ∙ y) (λ d. entry_stays Stamp h q t i o (λ c. d c.0 c.1)) e
-  frozen_entry_lasts LookHelp x h q t i o e =
-      frozen_at (word z r.world) (word z r'.world) l.row l.looked q t (λ y. not_exchanged _ _ _ _ h.changed.same (λ u. not_pending l.met (sym y ∙ u)) ∙ y) (λ d. entry_stays LookHelp h q t i o (λ c. d c.0 c.1)) e
-  frozen_entry_lasts (Freeze j) x h q t i o e = frozen_at (word z r.world) (word z r'.world) l.row j q t (here (cases_eq _ _)) (λ d. entry_stays (Freeze j) h q t i o (λ c. d c.0 c.1)) e
+  frozen_entry_lasts (Activity.Put Put.Announce) x h q t i o e =
+      frozen_at (word z r.world) (word z r'.world) l.row s q t (λ y. not_exchanged _ _ _ _ h.changed.same (λ u. not_idle (sym y ∙ u)) ∙ y) (λ d. entry_stays (Activity.Put Put.Announce) h q t i o (λ c. d c.0 c.1)) e
+  frozen_entry_lasts (Activity.Put Put.Stamp) x h q t i o e =
+      frozen_at (word z r.world) (word z r'.world) l.row s q t (λ y. not_exchanged _ _ _ _ h.changed.same (λ u. not_pending l.cell (sym y ∙ u)) ∙ y) (λ d. entry_stays (Activity.Put Put.Stamp) h q t i o (λ c. d c.0 c.1)) e
+  frozen_entry_lasts (Activity.Look Look.Help) x h q t i o e =
+      frozen_at (word z r.world) (word z r'.world) l.row l.looked q t (λ y. not_exchanged _ _ _ _ h.changed.same (λ u. not_pending l.met (sym y ∙ u)) ∙ y) (λ d. entry_stays (Activity.Look Look.Help) h q t i o (λ c. d c.0 c.1)) e
+  frozen_entry_lasts (Activity.Rebalance (Rebalance.Freeze (Freeze.Entry j))) x h q t i o e = frozen_at (word z r.world) (word z r'.world) l.row j q t (here (cases_eq _ _)) (λ d. entry_stays (Activity.Rebalance (Rebalance.Freeze (Freeze.Entry j))) h q t i o (λ c. d c.0 c.1)) e
     where
       here : (word z r.world (name.Pend l.row j) ≡ pend_word l.rebalance.entry) ⊎ (word z r.world (name.Pend l.row j) ≡ pend_word l.rebalance.entry → ⊥) → word z r.world (name.Pend l.row j) ≡ pend_word pend.Frozen → word z r'.world (name.Pend l.row j) ≡ pend_word pend.Frozen
       here (inl y) w = entry_frozen j h y

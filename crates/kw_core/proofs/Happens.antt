@@ -11,7 +11,6 @@ use Rattle.kw_words.specs.declared.layout.Name.TheVariants as name
 use Rattle.kw_words.specs.Layout.{IsWithin, place_of}
 use Rattle.kw_words.proofs.Places.{place_below}
 use Rattle.kw_world.specs.declared.activity.Activity.{Activity}
-use Rattle.kw_world.specs.declared.activity.Activity.TheVariants.{Idle}
 use Rattle.kw_world.specs.declared.local.Local.{Local}
 use Rattle.kw_world.specs.declared.event.Choice.{Choice}
 use Rattle.kw_world.specs.declared.event.Choice.TheVariants.{Begin, Go, Guess, Stop}
@@ -86,14 +85,14 @@ pub record Happens (z : Sizes) (r r' : Run) (s : ℕ) (choice : Choice) (l l' : 
 -- Every event that is noted happens.
 
 begun_offered : (a : Activity) (rows : ℕ) (choice : Choice) → IsBegun a choice → IsBegun a (offered rows choice)
-begun_offered Idle rows (Begin call) h = h
-begun_offered Idle rows Go h = tt
-begun_offered Idle rows (Guess q) h = met (nat_lt q rows)
+begun_offered Activity.Idle rows (Begin call) h = h
+begun_offered Activity.Idle rows Go h = tt
+begun_offered Activity.Idle rows (Guess q) h = met (nat_lt q rows)
   where
-    met : (b : Bool) → IsBegun Idle (if b then Guess q else Go)
+    met : (b : Bool) → IsBegun Activity.Idle (if b then Guess q else Go)
     met true = tt
     met false = tt
-begun_offered Idle rows Stop h = tt
+begun_offered Activity.Idle rows Stop h = tt
 begun_offered _ rows choice h = tt
 
 pub happens : (z : Sizes) (r : Run) (e : Event) (l : Local) → IsSane z r.world → IsBegun l.activity e.choice → slice_get r.world.locals e.seat ≡ Some l → is_skipped l.activity e.choice ≡ false →

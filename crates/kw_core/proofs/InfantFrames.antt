@@ -20,7 +20,20 @@ use Rattle.kw_words.specs.State.{state_word}
 use Rattle.kw_words.proofs.LinkWords.{link_of-link_word, link_word_of}
 use Rattle.kw_cells.specs.Cells.{value_in}
 use Rattle.kw_world.specs.declared.activity.Activity.{Activity}
-use Rattle.kw_world.specs.declared.activity.Activity.TheVariants.{Enter, ScanWait, ScanDraw, ScanSettle, Walk, LookHelp, ClearScan, PutAdd, PutKey, PutValue, Announce, Stamp, PutVersion, InsSet, Insert, PutClear, Leave, Again, BalNormal, Engage, MarkLink, Decide, FreezeCount, Freeze, HelpDraw, HelpSettle, Reclaim, TakeRow, GiveBack, WriteCount, WriteMin, WriteNext, WriteFirst, WritePend, WriteKey, WriteValue, WriteVersion, WriteAfter, Replace, Normalise, Number, Retire}
+use Rattle.kw_world.specs.declared.activity.draw.Draw.TheVariants as Draw
+use Rattle.kw_world.specs.declared.activity.rebalance.engage.Engage.TheVariants as Engage
+use Rattle.kw_world.specs.declared.activity.enter.Enter.TheVariants as Enter
+use Rattle.kw_world.specs.declared.activity.rebalance.freeze.Freeze.TheVariants as Freeze
+use Rattle.kw_world.specs.declared.activity.insert.Insert.TheVariants as Insert
+use Rattle.kw_world.specs.declared.activity.look.Look.TheVariants as Look
+use Rattle.kw_world.specs.declared.activity.put.Put.TheVariants as Put
+use Rattle.kw_world.specs.declared.activity.rebalance.Rebalance.TheVariants as Rebalance
+use Rattle.kw_world.specs.declared.activity.rebalance.replace.Replace.TheVariants as Replace
+use Rattle.kw_world.specs.declared.activity.rebalance.seek.Seek.TheVariants as Seek
+use Rattle.kw_world.specs.declared.activity.walk.Walk.TheVariants as Walk
+use Rattle.kw_world.specs.declared.activity.rebalance.write.Write.TheVariants as Write
+use Rattle.kw_world.specs.declared.activity.rebalance.gather.Gather.TheVariants as Gather
+use Rattle.kw_world.specs.declared.activity.read.Read.TheVariants as Read
 use Rattle.kw_world.specs.declared.event.Choice.{Choice}
 use Rattle.kw_world.specs.declared.local.Local.{Local}
 use Rattle.kw_world.specs.ListTransitions.{link_name}
@@ -40,79 +53,79 @@ use Rattle.kw_core.proofs.Happens.{Happens, exchanged, not_exchanged}
 
 -- the head
 abbrev pub ChangesHead : Activity → ℕ → Local → Type 0
-ChangesHead Replace s l = l.rebalance.before ≡ None
+ChangesHead (Activity.Rebalance (Rebalance.Replace Replace.Exchange)) s l = l.rebalance.before ≡ None
 ChangesHead _ s l = ⊥
 
 -- the epoch
 abbrev pub ChangesEpoch : Activity → ℕ → Local → Type 0
-ChangesEpoch Number s l = Unit {0}
+ChangesEpoch (Activity.Rebalance (Rebalance.Replace Replace.Number)) s l = Unit {0}
 ChangesEpoch _ s l = ⊥
 
 -- the state of row q
 abbrev pub ChangesState : Activity → ℕ → Local → ℕ → Type 0
-ChangesState (BalNormal seat) s l q = q ≡ l.row
-ChangesState Engage s l q = q ≡ l.row
-ChangesState (Decide count) s l q = q ≡ l.row
-ChangesState Reclaim s l q = q ≡ l.rebalance.sought
-ChangesState TakeRow s l q = q ≡ l.rebalance.sought
-ChangesState GiveBack s l q = q ≡ infant l
-ChangesState Normalise s l q = q ≡ infant l
-ChangesState Retire s l q = q ≡ l.row
+ChangesState (Activity.Rebalance (Rebalance.Engage (Engage.Normal seat))) s l q = q ≡ l.row
+ChangesState (Activity.Rebalance (Rebalance.Engage Engage.Lead)) s l q = q ≡ l.row
+ChangesState (Activity.Rebalance (Rebalance.Engage (Engage.Decide count))) s l q = q ≡ l.row
+ChangesState (Activity.Rebalance (Rebalance.Seek Seek.Reclaim)) s l q = q ≡ l.rebalance.sought
+ChangesState (Activity.Rebalance (Rebalance.Seek Seek.Take)) s l q = q ≡ l.rebalance.sought
+ChangesState (Activity.Rebalance (Rebalance.Seek Seek.GiveBack)) s l q = q ≡ infant l
+ChangesState (Activity.Rebalance (Rebalance.Replace Replace.Normalise)) s l q = q ≡ infant l
+ChangesState (Activity.Rebalance (Rebalance.Replace Replace.Retire)) s l q = q ≡ l.row
 ChangesState _ s l q = ⊥
 
 -- its count
 abbrev pub ChangesCount : Activity → ℕ → Local → ℕ → Type 0
-ChangesCount PutAdd s l q = q ≡ l.row
-ChangesCount FreezeCount s l q = q ≡ l.row
-ChangesCount WriteCount s l q = q ≡ infant l
+ChangesCount (Activity.Put Put.Add) s l q = q ≡ l.row
+ChangesCount (Activity.Rebalance (Rebalance.Freeze Freeze.Count)) s l q = q ≡ l.row
+ChangesCount (Activity.Rebalance (Rebalance.Write Write.Count)) s l q = q ≡ infant l
 ChangesCount _ s l q = ⊥
 
 -- its least key
 abbrev pub ChangesLeast : Activity → ℕ → Local → ℕ → Type 0
-ChangesLeast WriteMin s l q = q ≡ infant l
+ChangesLeast (Activity.Rebalance (Rebalance.Write Write.Least)) s l q = q ≡ infant l
 ChangesLeast _ s l q = ⊥
 
 -- its link to the next row
 abbrev pub ChangesNext : Activity → ℕ → Local → ℕ → Type 0
-ChangesNext (MarkLink count) s l q = q ≡ l.row
-ChangesNext WriteNext s l q = q ≡ infant l
-ChangesNext Replace s l q = l.rebalance.before ≡ Some q
+ChangesNext (Activity.Rebalance (Rebalance.Engage (Engage.MarkLink count))) s l q = q ≡ l.row
+ChangesNext (Activity.Rebalance (Rebalance.Write Write.Next)) s l q = q ≡ infant l
+ChangesNext (Activity.Rebalance (Rebalance.Replace Replace.Exchange)) s l q = l.rebalance.before ≡ Some q
 ChangesNext _ s l q = ⊥
 
 -- the entry of seat t in it
 abbrev pub ChangesEntry : Activity → ℕ → Local → ℕ → ℕ → Type 0
-ChangesEntry LookHelp s l q t = (q ≡ l.row) × (t ≡ l.looked)
-ChangesEntry Announce s l q t = (q ≡ l.row) × (t ≡ s)
-ChangesEntry Stamp s l q t = (q ≡ l.row) × (t ≡ s)
-ChangesEntry PutClear s l q t = (q ≡ l.row) × (t ≡ s)
-ChangesEntry (Freeze i) s l q t = (q ≡ l.row) × (t ≡ i)
-ChangesEntry (WritePend i) s l q t = (q ≡ infant l) × (t ≡ i)
+ChangesEntry (Activity.Look Look.Help) s l q t = (q ≡ l.row) × (t ≡ l.looked)
+ChangesEntry (Activity.Put Put.Announce) s l q t = (q ≡ l.row) × (t ≡ s)
+ChangesEntry (Activity.Put Put.Stamp) s l q t = (q ≡ l.row) × (t ≡ s)
+ChangesEntry (Activity.Put Put.Clear) s l q t = (q ≡ l.row) × (t ≡ s)
+ChangesEntry (Activity.Rebalance (Rebalance.Freeze (Freeze.Entry i))) s l q t = (q ≡ l.row) × (t ≡ i)
+ChangesEntry (Activity.Rebalance (Rebalance.Write (Write.Entry i))) s l q t = (q ≡ infant l) × (t ≡ i)
 ChangesEntry _ s l q t = ⊥
 
 -- the key of its cell c
 abbrev pub ChangesKey : Activity → ℕ → Local → ℕ → ℕ → Type 0
-ChangesKey PutKey s l q c = (q ≡ l.row) × (c ≡ l.cell)
-ChangesKey (WriteKey j) s l q c = (q ≡ infant l) × (c ≡ j)
+ChangesKey (Activity.Put Put.Key) s l q c = (q ≡ l.row) × (c ≡ l.cell)
+ChangesKey (Activity.Rebalance (Rebalance.Write (Write.Key j))) s l q c = (q ≡ infant l) × (c ≡ j)
 ChangesKey _ s l q c = ⊥
 
 -- the value of that cell
 abbrev pub ChangesValue : Activity → ℕ → Local → ℕ → ℕ → Type 0
-ChangesValue PutValue s l q c = (q ≡ l.row) × (c ≡ l.cell)
-ChangesValue (WriteValue j) s l q c = (q ≡ infant l) × (c ≡ j)
+ChangesValue (Activity.Put Put.Value) s l q c = (q ≡ l.row) × (c ≡ l.cell)
+ChangesValue (Activity.Rebalance (Rebalance.Write (Write.Value j))) s l q c = (q ≡ infant l) × (c ≡ j)
 ChangesValue _ s l q c = ⊥
 
 -- its version
 abbrev pub ChangesVersion : Activity → ℕ → Local → ℕ → ℕ → Type 0
-ChangesVersion PutVersion s l q c = (q ≡ l.row) × (c ≡ l.cell)
-ChangesVersion (WriteVersion j) s l q c = (q ≡ infant l) × (c ≡ j)
+ChangesVersion (Activity.Put Put.Version) s l q c = (q ≡ l.row) × (c ≡ l.cell)
+ChangesVersion (Activity.Rebalance (Rebalance.Write (Write.Version j))) s l q c = (q ≡ infant l) × (c ≡ j)
 ChangesVersion _ s l q c = ⊥
 
 -- the link between its cells that stands there
 abbrev pub ChangesLink : Activity → ℕ → Local → ℕ → Option ℕ → Type 0
-ChangesLink InsSet s l q at = (q ≡ l.row) × (at ≡ Some l.cell)
-ChangesLink Insert s l q at = (q ≡ l.row) × (at ≡ l.link)
-ChangesLink WriteFirst s l q at = (q ≡ infant l) × (at ≡ None)
-ChangesLink (WriteAfter j) s l q at = (q ≡ infant l) × (at ≡ Some j)
+ChangesLink (Activity.Insert Insert.Set) s l q at = (q ≡ l.row) × (at ≡ Some l.cell)
+ChangesLink (Activity.Insert Insert.Exchange) s l q at = (q ≡ l.row) × (at ≡ l.link)
+ChangesLink (Activity.Rebalance (Rebalance.Write Write.First)) s l q at = (q ≡ infant l) × (at ≡ None)
+ChangesLink (Activity.Rebalance (Rebalance.Write (Write.After j))) s l q at = (q ≡ infant l) × (at ≡ Some j)
 ChangesLink _ s l q at = ⊥
 
 -- Names of one family that are the same.
@@ -160,100 +173,182 @@ replaces_head None e = refl
 -- Elsewhere no event writes.
 
 not_head : (a : Activity) (s : ℕ) (b : Bool) (l : Local) → (ChangesHead a s l → ⊥) → writes a s b l ≢ Some name.Head
-not_head Replace s b l f e = f (replaces_head l.rebalance.before e)
-not_head Insert s b l f e = no_link l.row l.link name.Head refl e
-not_head Walk s true l f e = let x : Some (name.Scan s) ≡ Some name.Head = e in cc
-not_head Walk s false l f e = let x : None ≡ Some name.Head = e in cc
+not_head (Activity.Rebalance (Rebalance.Replace Replace.Exchange)) s b l f e = f (replaces_head l.rebalance.before e)
+not_head (Activity.Insert Insert.Exchange) s b l f e = no_link l.row l.link name.Head refl e
+not_head (Activity.Walk Walk.Next) s true l f e = let x : Some (name.Scan s) ≡ Some name.Head = e in cc
+not_head (Activity.Walk Walk.Next) s false l f e = let x : None ≡ Some name.Head = e in cc
+not_head (Activity.Enter Enter.Announce) s b l f e = cc
+not_head (Activity.Draw Draw.Clock) s b l f e = cc
+not_head (Activity.Look Look.Key) s b l f e = cc
+not_head (Activity.Read Read.Link) s b l f e = cc
+not_head (Activity.Put Put.Count) s b l f e = cc
+not_head (Activity.Rebalance (Rebalance.Engage Engage.Clock)) s b l f e = cc
+not_head (Activity.Rebalance (Rebalance.Freeze Freeze.Count)) s b l f e = cc
+not_head (Activity.Rebalance (Rebalance.Gather Gather.Link)) s b l f e = cc
+not_head (Activity.Rebalance (Rebalance.Seek Seek.Next)) s b l f e = cc
+not_head (Activity.Rebalance (Rebalance.Write Write.Count)) s b l f e = cc
 not_head _ s b l f e = cc
 
 not_epoch : (a : Activity) (s : ℕ) (b : Bool) (l : Local) → (ChangesEpoch a s l → ⊥) → writes a s b l ≢ Some name.Epoch
-not_epoch Number s b l f e = f (tt)
-not_epoch Replace s b l f e = no_replaced l.rebalance.before name.Epoch refl e
-not_epoch Insert s b l f e = no_link l.row l.link name.Epoch refl e
-not_epoch Walk s true l f e = let x : Some (name.Scan s) ≡ Some name.Epoch = e in cc
-not_epoch Walk s false l f e = let x : None ≡ Some name.Epoch = e in cc
+not_epoch (Activity.Rebalance (Rebalance.Replace Replace.Number)) s b l f e = f (tt)
+not_epoch (Activity.Rebalance (Rebalance.Replace Replace.Exchange)) s b l f e = no_replaced l.rebalance.before name.Epoch refl e
+not_epoch (Activity.Insert Insert.Exchange) s b l f e = no_link l.row l.link name.Epoch refl e
+not_epoch (Activity.Walk Walk.Next) s true l f e = let x : Some (name.Scan s) ≡ Some name.Epoch = e in cc
+not_epoch (Activity.Walk Walk.Next) s false l f e = let x : None ≡ Some name.Epoch = e in cc
+not_epoch (Activity.Enter Enter.Announce) s b l f e = cc
+not_epoch (Activity.Draw Draw.Clock) s b l f e = cc
+not_epoch (Activity.Look Look.Key) s b l f e = cc
+not_epoch (Activity.Read Read.Link) s b l f e = cc
+not_epoch (Activity.Put Put.Count) s b l f e = cc
+not_epoch (Activity.Rebalance (Rebalance.Engage Engage.Clock)) s b l f e = cc
+not_epoch (Activity.Rebalance (Rebalance.Freeze Freeze.Count)) s b l f e = cc
+not_epoch (Activity.Rebalance (Rebalance.Gather Gather.Link)) s b l f e = cc
+not_epoch (Activity.Rebalance (Rebalance.Seek Seek.Next)) s b l f e = cc
+not_epoch (Activity.Rebalance (Rebalance.Write Write.Count)) s b l f e = cc
 not_epoch _ s b l f e = cc
 
 not_state : (a : Activity) (s : ℕ) (b : Bool) (l : Local) (q : ℕ) → (ChangesState a s l q → ⊥) → writes a s b l ≢ Some (name.State q)
-not_state (BalNormal seat) s b l q f e = f (same_state l.row q e)
-not_state Engage s b l q f e = f (same_state l.row q e)
-not_state (Decide count) s b l q f e = f (same_state l.row q e)
-not_state Reclaim s b l q f e = f (same_state l.rebalance.sought q e)
-not_state TakeRow s b l q f e = f (same_state l.rebalance.sought q e)
-not_state GiveBack s b l q f e = f (same_state (infant l) q e)
-not_state Normalise s b l q f e = f (same_state (infant l) q e)
-not_state Retire s b l q f e = f (same_state l.row q e)
-not_state Replace s b l q f e = no_replaced l.rebalance.before (name.State q) refl e
-not_state Insert s b l q f e = no_link l.row l.link (name.State q) refl e
-not_state Walk s true l q f e = let x : Some (name.Scan s) ≡ Some (name.State q) = e in cc
-not_state Walk s false l q f e = let x : None ≡ Some (name.State q) = e in cc
+not_state (Activity.Rebalance (Rebalance.Engage (Engage.Normal seat))) s b l q f e = f (same_state l.row q e)
+not_state (Activity.Rebalance (Rebalance.Engage Engage.Lead)) s b l q f e = f (same_state l.row q e)
+not_state (Activity.Rebalance (Rebalance.Engage (Engage.Decide count))) s b l q f e = f (same_state l.row q e)
+not_state (Activity.Rebalance (Rebalance.Seek Seek.Reclaim)) s b l q f e = f (same_state l.rebalance.sought q e)
+not_state (Activity.Rebalance (Rebalance.Seek Seek.Take)) s b l q f e = f (same_state l.rebalance.sought q e)
+not_state (Activity.Rebalance (Rebalance.Seek Seek.GiveBack)) s b l q f e = f (same_state (infant l) q e)
+not_state (Activity.Rebalance (Rebalance.Replace Replace.Normalise)) s b l q f e = f (same_state (infant l) q e)
+not_state (Activity.Rebalance (Rebalance.Replace Replace.Retire)) s b l q f e = f (same_state l.row q e)
+not_state (Activity.Rebalance (Rebalance.Replace Replace.Exchange)) s b l q f e = no_replaced l.rebalance.before (name.State q) refl e
+not_state (Activity.Insert Insert.Exchange) s b l q f e = no_link l.row l.link (name.State q) refl e
+not_state (Activity.Walk Walk.Next) s true l q f e = let x : Some (name.Scan s) ≡ Some (name.State q) = e in cc
+not_state (Activity.Walk Walk.Next) s false l q f e = let x : None ≡ Some (name.State q) = e in cc
+not_state (Activity.Enter Enter.Announce) s b l q f e = cc
+not_state (Activity.Draw Draw.Clock) s b l q f e = cc
+not_state (Activity.Look Look.Key) s b l q f e = cc
+not_state (Activity.Read Read.Link) s b l q f e = cc
+not_state (Activity.Put Put.Count) s b l q f e = cc
+not_state (Activity.Rebalance (Rebalance.Freeze Freeze.Count)) s b l q f e = cc
+not_state (Activity.Rebalance (Rebalance.Gather Gather.Link)) s b l q f e = cc
+not_state (Activity.Rebalance (Rebalance.Write Write.Count)) s b l q f e = cc
 not_state _ s b l q f e = cc
 
 not_count : (a : Activity) (s : ℕ) (b : Bool) (l : Local) (q : ℕ) → (ChangesCount a s l q → ⊥) → writes a s b l ≢ Some (name.Count q)
-not_count PutAdd s b l q f e = f (same_count l.row q e)
-not_count FreezeCount s b l q f e = f (same_count l.row q e)
-not_count WriteCount s b l q f e = f (same_count (infant l) q e)
-not_count Replace s b l q f e = no_replaced l.rebalance.before (name.Count q) refl e
-not_count Insert s b l q f e = no_link l.row l.link (name.Count q) refl e
-not_count Walk s true l q f e = let x : Some (name.Scan s) ≡ Some (name.Count q) = e in cc
-not_count Walk s false l q f e = let x : None ≡ Some (name.Count q) = e in cc
+not_count (Activity.Put Put.Add) s b l q f e = f (same_count l.row q e)
+not_count (Activity.Rebalance (Rebalance.Freeze Freeze.Count)) s b l q f e = f (same_count l.row q e)
+not_count (Activity.Rebalance (Rebalance.Write Write.Count)) s b l q f e = f (same_count (infant l) q e)
+not_count (Activity.Rebalance (Rebalance.Replace Replace.Exchange)) s b l q f e = no_replaced l.rebalance.before (name.Count q) refl e
+not_count (Activity.Insert Insert.Exchange) s b l q f e = no_link l.row l.link (name.Count q) refl e
+not_count (Activity.Walk Walk.Next) s true l q f e = let x : Some (name.Scan s) ≡ Some (name.Count q) = e in cc
+not_count (Activity.Walk Walk.Next) s false l q f e = let x : None ≡ Some (name.Count q) = e in cc
+not_count (Activity.Enter Enter.Announce) s b l q f e = cc
+not_count (Activity.Draw Draw.Clock) s b l q f e = cc
+not_count (Activity.Look Look.Key) s b l q f e = cc
+not_count (Activity.Read Read.Link) s b l q f e = cc
+not_count (Activity.Rebalance (Rebalance.Engage Engage.Clock)) s b l q f e = cc
+not_count (Activity.Rebalance (Rebalance.Gather Gather.Link)) s b l q f e = cc
+not_count (Activity.Rebalance (Rebalance.Seek Seek.Next)) s b l q f e = cc
 not_count _ s b l q f e = cc
 
 not_least : (a : Activity) (s : ℕ) (b : Bool) (l : Local) (q : ℕ) → (ChangesLeast a s l q → ⊥) → writes a s b l ≢ Some (name.Min q)
-not_least WriteMin s b l q f e = f (same_least (infant l) q e)
-not_least Replace s b l q f e = no_replaced l.rebalance.before (name.Min q) refl e
-not_least Insert s b l q f e = no_link l.row l.link (name.Min q) refl e
-not_least Walk s true l q f e = let x : Some (name.Scan s) ≡ Some (name.Min q) = e in cc
-not_least Walk s false l q f e = let x : None ≡ Some (name.Min q) = e in cc
+not_least (Activity.Rebalance (Rebalance.Write Write.Least)) s b l q f e = f (same_least (infant l) q e)
+not_least (Activity.Rebalance (Rebalance.Replace Replace.Exchange)) s b l q f e = no_replaced l.rebalance.before (name.Min q) refl e
+not_least (Activity.Insert Insert.Exchange) s b l q f e = no_link l.row l.link (name.Min q) refl e
+not_least (Activity.Walk Walk.Next) s true l q f e = let x : Some (name.Scan s) ≡ Some (name.Min q) = e in cc
+not_least (Activity.Walk Walk.Next) s false l q f e = let x : None ≡ Some (name.Min q) = e in cc
+not_least (Activity.Enter Enter.Announce) s b l q f e = cc
+not_least (Activity.Draw Draw.Clock) s b l q f e = cc
+not_least (Activity.Look Look.Key) s b l q f e = cc
+not_least (Activity.Read Read.Link) s b l q f e = cc
+not_least (Activity.Put Put.Count) s b l q f e = cc
+not_least (Activity.Rebalance (Rebalance.Engage Engage.Clock)) s b l q f e = cc
+not_least (Activity.Rebalance (Rebalance.Freeze Freeze.Count)) s b l q f e = cc
+not_least (Activity.Rebalance (Rebalance.Gather Gather.Link)) s b l q f e = cc
+not_least (Activity.Rebalance (Rebalance.Seek Seek.Next)) s b l q f e = cc
 not_least _ s b l q f e = cc
 
 not_next : (a : Activity) (s : ℕ) (b : Bool) (l : Local) (q : ℕ) → (ChangesNext a s l q → ⊥) → writes a s b l ≢ Some (name.Next q)
-not_next (MarkLink count) s b l q f e = f (same_next l.row q e)
-not_next WriteNext s b l q f e = f (same_next (infant l) q e)
-not_next Replace s b l q f e = f (replaces_next l.rebalance.before q e)
-not_next Insert s b l q f e = no_link l.row l.link (name.Next q) refl e
-not_next Walk s true l q f e = let x : Some (name.Scan s) ≡ Some (name.Next q) = e in cc
-not_next Walk s false l q f e = let x : None ≡ Some (name.Next q) = e in cc
+not_next (Activity.Rebalance (Rebalance.Engage (Engage.MarkLink count))) s b l q f e = f (same_next l.row q e)
+not_next (Activity.Rebalance (Rebalance.Write Write.Next)) s b l q f e = f (same_next (infant l) q e)
+not_next (Activity.Rebalance (Rebalance.Replace Replace.Exchange)) s b l q f e = f (replaces_next l.rebalance.before q e)
+not_next (Activity.Insert Insert.Exchange) s b l q f e = no_link l.row l.link (name.Next q) refl e
+not_next (Activity.Walk Walk.Next) s true l q f e = let x : Some (name.Scan s) ≡ Some (name.Next q) = e in cc
+not_next (Activity.Walk Walk.Next) s false l q f e = let x : None ≡ Some (name.Next q) = e in cc
+not_next (Activity.Enter Enter.Announce) s b l q f e = cc
+not_next (Activity.Draw Draw.Clock) s b l q f e = cc
+not_next (Activity.Look Look.Key) s b l q f e = cc
+not_next (Activity.Read Read.Link) s b l q f e = cc
+not_next (Activity.Put Put.Count) s b l q f e = cc
+not_next (Activity.Rebalance (Rebalance.Freeze Freeze.Count)) s b l q f e = cc
+not_next (Activity.Rebalance (Rebalance.Gather Gather.Link)) s b l q f e = cc
+not_next (Activity.Rebalance (Rebalance.Seek Seek.Next)) s b l q f e = cc
 not_next _ s b l q f e = cc
 
 not_entry : (a : Activity) (s : ℕ) (b : Bool) (l : Local) (q : ℕ) (t : ℕ) → (ChangesEntry a s l q t → ⊥) → writes a s b l ≢ Some (name.Pend q t)
-not_entry LookHelp s b l q t f e = f (same_entry l.row l.looked q t e)
-not_entry Announce s b l q t f e = f (same_entry l.row s q t e)
-not_entry Stamp s b l q t f e = f (same_entry l.row s q t e)
-not_entry PutClear s b l q t f e = f (same_entry l.row s q t e)
-not_entry (Freeze i) s b l q t f e = f (same_entry l.row i q t e)
-not_entry (WritePend i) s b l q t f e = f (same_entry (infant l) i q t e)
-not_entry Replace s b l q t f e = no_replaced l.rebalance.before (name.Pend q t) refl e
-not_entry Insert s b l q t f e = no_link l.row l.link (name.Pend q t) refl e
-not_entry Walk s true l q t f e = let x : Some (name.Scan s) ≡ Some (name.Pend q t) = e in cc
-not_entry Walk s false l q t f e = let x : None ≡ Some (name.Pend q t) = e in cc
+not_entry (Activity.Look Look.Help) s b l q t f e = f (same_entry l.row l.looked q t e)
+not_entry (Activity.Put Put.Announce) s b l q t f e = f (same_entry l.row s q t e)
+not_entry (Activity.Put Put.Stamp) s b l q t f e = f (same_entry l.row s q t e)
+not_entry (Activity.Put Put.Clear) s b l q t f e = f (same_entry l.row s q t e)
+not_entry (Activity.Rebalance (Rebalance.Freeze (Freeze.Entry i))) s b l q t f e = f (same_entry l.row i q t e)
+not_entry (Activity.Rebalance (Rebalance.Write (Write.Entry i))) s b l q t f e = f (same_entry (infant l) i q t e)
+not_entry (Activity.Rebalance (Rebalance.Replace Replace.Exchange)) s b l q t f e = no_replaced l.rebalance.before (name.Pend q t) refl e
+not_entry (Activity.Insert Insert.Exchange) s b l q t f e = no_link l.row l.link (name.Pend q t) refl e
+not_entry (Activity.Walk Walk.Next) s true l q t f e = let x : Some (name.Scan s) ≡ Some (name.Pend q t) = e in cc
+not_entry (Activity.Walk Walk.Next) s false l q t f e = let x : None ≡ Some (name.Pend q t) = e in cc
+not_entry (Activity.Enter Enter.Announce) s b l q t f e = cc
+not_entry (Activity.Draw Draw.Clock) s b l q t f e = cc
+not_entry (Activity.Read Read.Link) s b l q t f e = cc
+not_entry (Activity.Rebalance (Rebalance.Engage Engage.Clock)) s b l q t f e = cc
+not_entry (Activity.Rebalance (Rebalance.Gather Gather.Link)) s b l q t f e = cc
+not_entry (Activity.Rebalance (Rebalance.Seek Seek.Next)) s b l q t f e = cc
 not_entry _ s b l q t f e = cc
 
 not_key : (a : Activity) (s : ℕ) (b : Bool) (l : Local) (q : ℕ) (c : ℕ) → (ChangesKey a s l q c → ⊥) → writes a s b l ≢ Some (name.Key q c)
-not_key PutKey s b l q c f e = f (same_key l.row l.cell q c e)
-not_key (WriteKey j) s b l q c f e = f (same_key (infant l) j q c e)
-not_key Replace s b l q c f e = no_replaced l.rebalance.before (name.Key q c) refl e
-not_key Insert s b l q c f e = no_link l.row l.link (name.Key q c) refl e
-not_key Walk s true l q c f e = let x : Some (name.Scan s) ≡ Some (name.Key q c) = e in cc
-not_key Walk s false l q c f e = let x : None ≡ Some (name.Key q c) = e in cc
+not_key (Activity.Put Put.Key) s b l q c f e = f (same_key l.row l.cell q c e)
+not_key (Activity.Rebalance (Rebalance.Write (Write.Key j))) s b l q c f e = f (same_key (infant l) j q c e)
+not_key (Activity.Rebalance (Rebalance.Replace Replace.Exchange)) s b l q c f e = no_replaced l.rebalance.before (name.Key q c) refl e
+not_key (Activity.Insert Insert.Exchange) s b l q c f e = no_link l.row l.link (name.Key q c) refl e
+not_key (Activity.Walk Walk.Next) s true l q c f e = let x : Some (name.Scan s) ≡ Some (name.Key q c) = e in cc
+not_key (Activity.Walk Walk.Next) s false l q c f e = let x : None ≡ Some (name.Key q c) = e in cc
+not_key (Activity.Enter Enter.Announce) s b l q c f e = cc
+not_key (Activity.Draw Draw.Clock) s b l q c f e = cc
+not_key (Activity.Look Look.Key) s b l q c f e = cc
+not_key (Activity.Read Read.Link) s b l q c f e = cc
+not_key (Activity.Rebalance (Rebalance.Engage Engage.Clock)) s b l q c f e = cc
+not_key (Activity.Rebalance (Rebalance.Freeze Freeze.Count)) s b l q c f e = cc
+not_key (Activity.Rebalance (Rebalance.Gather Gather.Link)) s b l q c f e = cc
+not_key (Activity.Rebalance (Rebalance.Seek Seek.Next)) s b l q c f e = cc
 not_key _ s b l q c f e = cc
 
 not_value : (a : Activity) (s : ℕ) (b : Bool) (l : Local) (q : ℕ) (c : ℕ) → (ChangesValue a s l q c → ⊥) → writes a s b l ≢ Some (name.Value q c)
-not_value PutValue s b l q c f e = f (same_value l.row l.cell q c e)
-not_value (WriteValue j) s b l q c f e = f (same_value (infant l) j q c e)
-not_value Replace s b l q c f e = no_replaced l.rebalance.before (name.Value q c) refl e
-not_value Insert s b l q c f e = no_link l.row l.link (name.Value q c) refl e
-not_value Walk s true l q c f e = let x : Some (name.Scan s) ≡ Some (name.Value q c) = e in cc
-not_value Walk s false l q c f e = let x : None ≡ Some (name.Value q c) = e in cc
+not_value (Activity.Put Put.Value) s b l q c f e = f (same_value l.row l.cell q c e)
+not_value (Activity.Rebalance (Rebalance.Write (Write.Value j))) s b l q c f e = f (same_value (infant l) j q c e)
+not_value (Activity.Rebalance (Rebalance.Replace Replace.Exchange)) s b l q c f e = no_replaced l.rebalance.before (name.Value q c) refl e
+not_value (Activity.Insert Insert.Exchange) s b l q c f e = no_link l.row l.link (name.Value q c) refl e
+not_value (Activity.Walk Walk.Next) s true l q c f e = let x : Some (name.Scan s) ≡ Some (name.Value q c) = e in cc
+not_value (Activity.Walk Walk.Next) s false l q c f e = let x : None ≡ Some (name.Value q c) = e in cc
+not_value (Activity.Enter Enter.Announce) s b l q c f e = cc
+not_value (Activity.Draw Draw.Clock) s b l q c f e = cc
+not_value (Activity.Look Look.Key) s b l q c f e = cc
+not_value (Activity.Read Read.Link) s b l q c f e = cc
+not_value (Activity.Rebalance (Rebalance.Engage Engage.Clock)) s b l q c f e = cc
+not_value (Activity.Rebalance (Rebalance.Freeze Freeze.Count)) s b l q c f e = cc
+not_value (Activity.Rebalance (Rebalance.Gather Gather.Link)) s b l q c f e = cc
+not_value (Activity.Rebalance (Rebalance.Seek Seek.Next)) s b l q c f e = cc
 not_value _ s b l q c f e = cc
 
 not_version : (a : Activity) (s : ℕ) (b : Bool) (l : Local) (q : ℕ) (c : ℕ) → (ChangesVersion a s l q c → ⊥) → writes a s b l ≢ Some (name.Version q c)
-not_version PutVersion s b l q c f e = f (same_version l.row l.cell q c e)
-not_version (WriteVersion j) s b l q c f e = f (same_version (infant l) j q c e)
-not_version Replace s b l q c f e = no_replaced l.rebalance.before (name.Version q c) refl e
-not_version Insert s b l q c f e = no_link l.row l.link (name.Version q c) refl e
-not_version Walk s true l q c f e = let x : Some (name.Scan s) ≡ Some (name.Version q c) = e in cc
-not_version Walk s false l q c f e = let x : None ≡ Some (name.Version q c) = e in cc
+not_version (Activity.Put Put.Version) s b l q c f e = f (same_version l.row l.cell q c e)
+not_version (Activity.Rebalance (Rebalance.Write (Write.Version j))) s b l q c f e = f (same_version (infant l) j q c e)
+not_version (Activity.Rebalance (Rebalance.Replace Replace.Exchange)) s b l q c f e = no_replaced l.rebalance.before (name.Version q c) refl e
+not_version (Activity.Insert Insert.Exchange) s b l q c f e = no_link l.row l.link (name.Version q c) refl e
+not_version (Activity.Walk Walk.Next) s true l q c f e = let x : Some (name.Scan s) ≡ Some (name.Version q c) = e in cc
+not_version (Activity.Walk Walk.Next) s false l q c f e = let x : None ≡ Some (name.Version q c) = e in cc
+not_version (Activity.Enter Enter.Announce) s b l q c f e = cc
+not_version (Activity.Draw Draw.Clock) s b l q c f e = cc
+not_version (Activity.Look Look.Key) s b l q c f e = cc
+not_version (Activity.Read Read.Link) s b l q c f e = cc
+not_version (Activity.Rebalance (Rebalance.Engage Engage.Clock)) s b l q c f e = cc
+not_version (Activity.Rebalance (Rebalance.Freeze Freeze.Count)) s b l q c f e = cc
+not_version (Activity.Rebalance (Rebalance.Gather Gather.Link)) s b l q c f e = cc
+not_version (Activity.Rebalance (Rebalance.Seek Seek.Next)) s b l q c f e = cc
 not_version _ s b l q c f e = cc
 
 -- a word that is no link between cells
@@ -271,13 +366,22 @@ no_cell_link_replaced (Some p) q at e = no_cell_link q at _ e refl
 no_cell_link_replaced None q at e = no_cell_link q at _ e refl
 
 not_link : (a : Activity) (s : ℕ) (b : Bool) (l : Local) (q : ℕ) (at : Option ℕ) → (ChangesLink a s l q at → ⊥) → writes a s b l ≢ Some (link_name q at)
-not_link InsSet s b l q at f e = f (same_link l.row (Some l.cell) q at e)
-not_link Insert s b l q at f e = f (same_link l.row l.link q at e)
-not_link WriteFirst s b l q at f e = f (same_link (infant l) None q at e)
-not_link (WriteAfter j) s b l q at f e = f (same_link (infant l) (Some j) q at e)
-not_link Replace s b l q at f e = no_cell_link_replaced l.rebalance.before q at e
-not_link Walk s true l q at f e = no_cell_link q at _ e refl
-not_link Walk s false l q at f e = no_cell_link q at _ e refl
+not_link (Activity.Insert Insert.Set) s b l q at f e = f (same_link l.row (Some l.cell) q at e)
+not_link (Activity.Insert Insert.Exchange) s b l q at f e = f (same_link l.row l.link q at e)
+not_link (Activity.Rebalance (Rebalance.Write Write.First)) s b l q at f e = f (same_link (infant l) None q at e)
+not_link (Activity.Rebalance (Rebalance.Write (Write.After j))) s b l q at f e = f (same_link (infant l) (Some j) q at e)
+not_link (Activity.Rebalance (Rebalance.Replace Replace.Exchange)) s b l q at f e = no_cell_link_replaced l.rebalance.before q at e
+not_link (Activity.Walk Walk.Next) s true l q at f e = no_cell_link q at _ e refl
+not_link (Activity.Walk Walk.Next) s false l q at f e = no_cell_link q at _ e refl
+not_link (Activity.Enter Enter.Announce) s b l q at f e = no_cell_link q at _ e refl
+not_link (Activity.Draw Draw.Clock) s b l q at f e = no_cell_link q at _ e refl
+not_link (Activity.Look Look.Key) s b l q at f e = no_cell_link q at _ e refl
+not_link (Activity.Read Read.Link) s b l q at f e = no_cell_link q at _ e refl
+not_link (Activity.Put Put.Count) s b l q at f e = no_cell_link q at _ e refl
+not_link (Activity.Rebalance (Rebalance.Engage Engage.Clock)) s b l q at f e = no_cell_link q at _ e refl
+not_link (Activity.Rebalance (Rebalance.Freeze Freeze.Count)) s b l q at f e = no_cell_link q at _ e refl
+not_link (Activity.Rebalance (Rebalance.Gather Gather.Link)) s b l q at f e = no_cell_link q at _ e refl
+not_link (Activity.Rebalance (Rebalance.Seek Seek.Next)) s b l q at f e = no_cell_link q at _ e refl
 not_link _ s b l q at f e = no_cell_link q at _ e refl
 
 module _ {z : Sizes} {r r' : Run} {s : ℕ} {choice : Choice} {l l' : Local} where
@@ -330,37 +434,29 @@ pub data Target : Type 0 where
   RowBefore : Target
 
 abbrev pub target_of : Activity → Target
-target_of PutAdd = OwnRow
-target_of PutKey = OwnRow
-target_of PutValue = OwnRow
-target_of Announce = OwnRow
-target_of Stamp = OwnRow
-target_of PutVersion = OwnRow
-target_of InsSet = OwnRow
-target_of Insert = OwnRow
-target_of PutClear = OwnRow
-target_of LookHelp = OwnRow
-target_of (BalNormal seat) = OwnRow
-target_of Engage = OwnRow
-target_of (MarkLink count) = OwnRow
-target_of (Decide count) = OwnRow
-target_of FreezeCount = OwnRow
-target_of (Freeze i) = OwnRow
-target_of Retire = OwnRow
-target_of GiveBack = NewRow
-target_of WriteCount = NewRow
-target_of WriteMin = NewRow
-target_of WriteNext = NewRow
-target_of WriteFirst = NewRow
-target_of (WritePend i) = NewRow
-target_of (WriteKey j) = NewRow
-target_of (WriteValue j) = NewRow
-target_of (WriteVersion j) = NewRow
-target_of (WriteAfter j) = NewRow
-target_of Normalise = NewRow
-target_of Reclaim = SoughtRow
-target_of TakeRow = SoughtRow
-target_of Replace = RowBefore
+target_of (Activity.Put Put.Add) = OwnRow
+target_of (Activity.Put Put.Key) = OwnRow
+target_of (Activity.Put Put.Value) = OwnRow
+target_of (Activity.Put Put.Announce) = OwnRow
+target_of (Activity.Put Put.Stamp) = OwnRow
+target_of (Activity.Put Put.Version) = OwnRow
+target_of (Activity.Insert Insert.Set) = OwnRow
+target_of (Activity.Insert Insert.Exchange) = OwnRow
+target_of (Activity.Put Put.Clear) = OwnRow
+target_of (Activity.Look Look.Help) = OwnRow
+target_of (Activity.Rebalance (Rebalance.Engage (Engage.Normal seat))) = OwnRow
+target_of (Activity.Rebalance (Rebalance.Engage Engage.Lead)) = OwnRow
+target_of (Activity.Rebalance (Rebalance.Engage (Engage.MarkLink count))) = OwnRow
+target_of (Activity.Rebalance (Rebalance.Engage (Engage.Decide count))) = OwnRow
+target_of (Activity.Rebalance (Rebalance.Freeze Freeze.Count)) = OwnRow
+target_of (Activity.Rebalance (Rebalance.Freeze (Freeze.Entry i))) = OwnRow
+target_of (Activity.Rebalance (Rebalance.Replace Replace.Retire)) = OwnRow
+target_of (Activity.Rebalance (Rebalance.Seek Seek.GiveBack)) = NewRow
+target_of (Activity.Rebalance (Rebalance.Write _)) = NewRow
+target_of (Activity.Rebalance (Rebalance.Replace Replace.Normalise)) = NewRow
+target_of (Activity.Rebalance (Rebalance.Seek Seek.Reclaim)) = SoughtRow
+target_of (Activity.Rebalance (Rebalance.Seek Seek.Take)) = SoughtRow
+target_of (Activity.Rebalance (Rebalance.Replace Replace.Exchange)) = RowBefore
 target_of _ = NoRow
 
 -- q is that row
@@ -403,49 +499,49 @@ before_of_row None n q f e = of_none name.Head n q refl f e
 
 -- a word of a row that is written is one of such a row
 targets : (a : Activity) (s : ℕ) (b : Bool) (l : Local) (n : Name) (q : ℕ) → row_in n ≡ Some q → writes a s b l ≡ Some n → IsTarget (target_of a) l q
-targets PutAdd s b l n q f e = of_row (name.Count l.row) n l.row q refl f e
-targets PutKey s b l n q f e = of_row (name.Key l.row l.cell) n l.row q refl f e
-targets PutValue s b l n q f e = of_row (name.Value l.row l.cell) n l.row q refl f e
-targets Announce s b l n q f e = of_row (name.Pend l.row s) n l.row q refl f e
-targets Stamp s b l n q f e = of_row (name.Pend l.row s) n l.row q refl f e
-targets PutVersion s b l n q f e = of_row (name.Version l.row l.cell) n l.row q refl f e
-targets InsSet s b l n q f e = of_row (name.After l.row l.cell) n l.row q refl f e
-targets Insert s b l n q f e = of_row (link_name l.row l.link) n l.row q (link_of_row l.row l.link) f e
-targets PutClear s b l n q f e = of_row (name.Pend l.row s) n l.row q refl f e
-targets LookHelp s b l n q f e = of_row (name.Pend l.row l.looked) n l.row q refl f e
-targets (BalNormal seat) s b l n q f e = of_row (name.State l.row) n l.row q refl f e
-targets Engage s b l n q f e = of_row (name.State l.row) n l.row q refl f e
-targets (MarkLink count) s b l n q f e = of_row (name.Next l.row) n l.row q refl f e
-targets (Decide count) s b l n q f e = of_row (name.State l.row) n l.row q refl f e
-targets FreezeCount s b l n q f e = of_row (name.Count l.row) n l.row q refl f e
-targets (Freeze i) s b l n q f e = of_row (name.Pend l.row i) n l.row q refl f e
-targets Retire s b l n q f e = of_row (name.State l.row) n l.row q refl f e
-targets GiveBack s b l n q f e = of_row (name.State (infant l)) n (infant l) q refl f e
-targets WriteCount s b l n q f e = of_row (name.Count (infant l)) n (infant l) q refl f e
-targets WriteMin s b l n q f e = of_row (name.Min (infant l)) n (infant l) q refl f e
-targets WriteNext s b l n q f e = of_row (name.Next (infant l)) n (infant l) q refl f e
-targets WriteFirst s b l n q f e = of_row (name.First (infant l)) n (infant l) q refl f e
-targets (WritePend i) s b l n q f e = of_row (name.Pend (infant l) i) n (infant l) q refl f e
-targets (WriteKey j) s b l n q f e = of_row (name.Key (infant l) j) n (infant l) q refl f e
-targets (WriteValue j) s b l n q f e = of_row (name.Value (infant l) j) n (infant l) q refl f e
-targets (WriteVersion j) s b l n q f e = of_row (name.Version (infant l) j) n (infant l) q refl f e
-targets (WriteAfter j) s b l n q f e = of_row (name.After (infant l) j) n (infant l) q refl f e
-targets Normalise s b l n q f e = of_row (name.State (infant l)) n (infant l) q refl f e
-targets Reclaim s b l n q f e = of_row (name.State l.rebalance.sought) n l.rebalance.sought q refl f e
-targets TakeRow s b l n q f e = of_row (name.State l.rebalance.sought) n l.rebalance.sought q refl f e
-targets Replace s b l n q f e = before_of_row l.rebalance.before n q f e
-targets Enter s b l n q f e = of_none (name.Pass s) n q refl f e
-targets ScanWait s b l n q f e = of_none (name.Scan s) n q refl f e
-targets ScanDraw s b l n q f e = of_none name.Clock n q refl f e
-targets ScanSettle s b l n q f e = of_none (name.Scan s) n q refl f e
-targets Walk s true l n q f e = of_none (name.Scan s) n q refl f e
-targets Walk s false l n q f e = let x : None ≡ Some n = e in absurd (cc)
-targets (ClearScan answer) s b l n q f e = of_none (name.Scan s) n q refl f e
-targets (Leave answer) s b l n q f e = of_none (name.Pass s) n q refl f e
-targets Again s b l n q f e = of_none (name.Pass s) n q refl f e
-targets (HelpDraw i) s b l n q f e = of_none name.Clock n q refl f e
-targets (HelpSettle i) s b l n q f e = of_none (name.Scan i) n q refl f e
-targets Number s b l n q f e = of_none name.Epoch n q refl f e
+targets (Activity.Put Put.Add) s b l n q f e = of_row (name.Count l.row) n l.row q refl f e
+targets (Activity.Put Put.Key) s b l n q f e = of_row (name.Key l.row l.cell) n l.row q refl f e
+targets (Activity.Put Put.Value) s b l n q f e = of_row (name.Value l.row l.cell) n l.row q refl f e
+targets (Activity.Put Put.Announce) s b l n q f e = of_row (name.Pend l.row s) n l.row q refl f e
+targets (Activity.Put Put.Stamp) s b l n q f e = of_row (name.Pend l.row s) n l.row q refl f e
+targets (Activity.Put Put.Version) s b l n q f e = of_row (name.Version l.row l.cell) n l.row q refl f e
+targets (Activity.Insert Insert.Set) s b l n q f e = of_row (name.After l.row l.cell) n l.row q refl f e
+targets (Activity.Insert Insert.Exchange) s b l n q f e = of_row (link_name l.row l.link) n l.row q (link_of_row l.row l.link) f e
+targets (Activity.Put Put.Clear) s b l n q f e = of_row (name.Pend l.row s) n l.row q refl f e
+targets (Activity.Look Look.Help) s b l n q f e = of_row (name.Pend l.row l.looked) n l.row q refl f e
+targets (Activity.Rebalance (Rebalance.Engage (Engage.Normal seat))) s b l n q f e = of_row (name.State l.row) n l.row q refl f e
+targets (Activity.Rebalance (Rebalance.Engage Engage.Lead)) s b l n q f e = of_row (name.State l.row) n l.row q refl f e
+targets (Activity.Rebalance (Rebalance.Engage (Engage.MarkLink count))) s b l n q f e = of_row (name.Next l.row) n l.row q refl f e
+targets (Activity.Rebalance (Rebalance.Engage (Engage.Decide count))) s b l n q f e = of_row (name.State l.row) n l.row q refl f e
+targets (Activity.Rebalance (Rebalance.Freeze Freeze.Count)) s b l n q f e = of_row (name.Count l.row) n l.row q refl f e
+targets (Activity.Rebalance (Rebalance.Freeze (Freeze.Entry i))) s b l n q f e = of_row (name.Pend l.row i) n l.row q refl f e
+targets (Activity.Rebalance (Rebalance.Replace Replace.Retire)) s b l n q f e = of_row (name.State l.row) n l.row q refl f e
+targets (Activity.Rebalance (Rebalance.Seek Seek.GiveBack)) s b l n q f e = of_row (name.State (infant l)) n (infant l) q refl f e
+targets (Activity.Rebalance (Rebalance.Write Write.Count)) s b l n q f e = of_row (name.Count (infant l)) n (infant l) q refl f e
+targets (Activity.Rebalance (Rebalance.Write Write.Least)) s b l n q f e = of_row (name.Min (infant l)) n (infant l) q refl f e
+targets (Activity.Rebalance (Rebalance.Write Write.Next)) s b l n q f e = of_row (name.Next (infant l)) n (infant l) q refl f e
+targets (Activity.Rebalance (Rebalance.Write Write.First)) s b l n q f e = of_row (name.First (infant l)) n (infant l) q refl f e
+targets (Activity.Rebalance (Rebalance.Write (Write.Entry i))) s b l n q f e = of_row (name.Pend (infant l) i) n (infant l) q refl f e
+targets (Activity.Rebalance (Rebalance.Write (Write.Key j))) s b l n q f e = of_row (name.Key (infant l) j) n (infant l) q refl f e
+targets (Activity.Rebalance (Rebalance.Write (Write.Value j))) s b l n q f e = of_row (name.Value (infant l) j) n (infant l) q refl f e
+targets (Activity.Rebalance (Rebalance.Write (Write.Version j))) s b l n q f e = of_row (name.Version (infant l) j) n (infant l) q refl f e
+targets (Activity.Rebalance (Rebalance.Write (Write.After j))) s b l n q f e = of_row (name.After (infant l) j) n (infant l) q refl f e
+targets (Activity.Rebalance (Rebalance.Replace Replace.Normalise)) s b l n q f e = of_row (name.State (infant l)) n (infant l) q refl f e
+targets (Activity.Rebalance (Rebalance.Seek Seek.Reclaim)) s b l n q f e = of_row (name.State l.rebalance.sought) n l.rebalance.sought q refl f e
+targets (Activity.Rebalance (Rebalance.Seek Seek.Take)) s b l n q f e = of_row (name.State l.rebalance.sought) n l.rebalance.sought q refl f e
+targets (Activity.Rebalance (Rebalance.Replace Replace.Exchange)) s b l n q f e = before_of_row l.rebalance.before n q f e
+targets (Activity.Enter Enter.Announce) s b l n q f e = of_none (name.Pass s) n q refl f e
+targets (Activity.Draw Draw.Wait) s b l n q f e = of_none (name.Scan s) n q refl f e
+targets (Activity.Draw Draw.Version) s b l n q f e = of_none name.Clock n q refl f e
+targets (Activity.Draw Draw.Settle) s b l n q f e = of_none (name.Scan s) n q refl f e
+targets (Activity.Walk Walk.Next) s true l n q f e = of_none (name.Scan s) n q refl f e
+targets (Activity.Walk Walk.Next) s false l n q f e = let x : None ≡ Some n = e in absurd (cc)
+targets (Activity.EndScan answer) s b l n q f e = of_none (name.Scan s) n q refl f e
+targets (Activity.Leave answer) s b l n q f e = of_none (name.Pass s) n q refl f e
+targets Activity.Retry s b l n q f e = of_none (name.Pass s) n q refl f e
+targets (Activity.Rebalance (Rebalance.Freeze (Freeze.Draw i))) s b l n q f e = of_none name.Clock n q refl f e
+targets (Activity.Rebalance (Rebalance.Freeze (Freeze.Settle i))) s b l n q f e = of_none (name.Scan i) n q refl f e
+targets (Activity.Rebalance (Rebalance.Replace Replace.Number)) s b l n q f e = of_none name.Epoch n q refl f e
 targets _ s b l n q f e = let x : None ≡ Some n = e in absurd (cc)
 
 -- a row that is none of those that the seat knows is no such row
@@ -464,71 +560,71 @@ module _ {z : Sizes} {r r' : Run} {s : ℕ} {choice : Choice} {l l' : Local} whe
   -- What is left in the word that is written.
 
   -- a row that was retired with the number that the seat knows is free, and any other state stays
-  pub freed : Happens z r r' s choice l l' Reclaim → word z r.world (name.State l.rebalance.sought) ≡ state_word (Retired l.rebalance.number) → word z r'.world (name.State l.rebalance.sought) ≡ state_word Free
+  pub freed : Happens z r r' s choice l l' (Activity.Rebalance (Rebalance.Seek Seek.Reclaim)) → word z r.world (name.State l.rebalance.sought) ≡ state_word (Retired l.rebalance.number) → word z r'.world (name.State l.rebalance.sought) ≡ state_word Free
   freed h e = exchanged _ _ _ _ h.changed.same e
 
-  pub not_freed : Happens z r r' s choice l l' Reclaim → word z r.world (name.State l.rebalance.sought) ≢ state_word (Retired l.rebalance.number) → word z r'.world (name.State l.rebalance.sought) ≡ word z r.world (name.State l.rebalance.sought)
+  pub not_freed : Happens z r r' s choice l l' (Activity.Rebalance (Rebalance.Seek Seek.Reclaim)) → word z r.world (name.State l.rebalance.sought) ≢ state_word (Retired l.rebalance.number) → word z r'.world (name.State l.rebalance.sought) ≡ word z r.world (name.State l.rebalance.sought)
   not_freed h d = not_exchanged _ _ _ _ h.changed.same d
 
   -- a row that was free is the seat's, and another one is not
-  pub taken_won : Happens z r r' s choice l l' TakeRow → word z r.world (name.State l.rebalance.sought) ≡ state_word Free → word z r'.world (name.State l.rebalance.sought) ≡ state_word (Infant s)
+  pub taken_won : Happens z r r' s choice l l' (Activity.Rebalance (Rebalance.Seek Seek.Take)) → word z r.world (name.State l.rebalance.sought) ≡ state_word Free → word z r'.world (name.State l.rebalance.sought) ≡ state_word (Infant s)
   taken_won h e = exchanged _ _ _ _ h.changed.same e
 
-  pub taken_lost : Happens z r r' s choice l l' TakeRow → word z r.world (name.State l.rebalance.sought) ≢ state_word Free → word z r'.world (name.State l.rebalance.sought) ≡ word z r.world (name.State l.rebalance.sought)
+  pub taken_lost : Happens z r r' s choice l l' (Activity.Rebalance (Rebalance.Seek Seek.Take)) → word z r.world (name.State l.rebalance.sought) ≢ state_word Free → word z r'.world (name.State l.rebalance.sought) ≡ word z r.world (name.State l.rebalance.sought)
   taken_lost h d = not_exchanged _ _ _ _ h.changed.same d
 
   -- a row that is given back is free
-  pub given_back : Happens z r r' s choice l l' GiveBack → word z r'.world (name.State (infant l)) ≡ state_word Free
+  pub given_back : Happens z r r' s choice l l' (Activity.Rebalance (Rebalance.Seek Seek.GiveBack)) → word z r'.world (name.State (infant l)) ≡ state_word Free
   given_back h = h.changed.same
 
   -- a new row that the seat took is normal, and another one stays as it was
-  pub normal_won : Happens z r r' s choice l l' Normalise → word z r.world (name.State (infant l)) ≡ state_word (Infant s) → word z r'.world (name.State (infant l)) ≡ state_word Normal
+  pub normal_won : Happens z r r' s choice l l' (Activity.Rebalance (Rebalance.Replace Replace.Normalise)) → word z r.world (name.State (infant l)) ≡ state_word (Infant s) → word z r'.world (name.State (infant l)) ≡ state_word Normal
   normal_won h e = exchanged _ _ _ _ h.changed.same e
 
-  pub normal_lost : Happens z r r' s choice l l' Normalise → word z r.world (name.State (infant l)) ≢ state_word (Infant s) → word z r'.world (name.State (infant l)) ≡ word z r.world (name.State (infant l))
+  pub normal_lost : Happens z r r' s choice l l' (Activity.Rebalance (Rebalance.Replace Replace.Normalise)) → word z r.world (name.State (infant l)) ≢ state_word (Infant s) → word z r'.world (name.State (infant l)) ≡ word z r.world (name.State (infant l))
   normal_lost h d = not_exchanged _ _ _ _ h.changed.same d
 
   -- the full row has its number
-  pub retired : Happens z r r' s choice l l' Retire → word z r'.world (name.State l.row) ≡ state_word (Retired l.rebalance.number)
+  pub retired : Happens z r r' s choice l l' (Activity.Rebalance (Rebalance.Replace Replace.Retire)) → word z r'.world (name.State l.row) ≡ state_word (Retired l.rebalance.number)
   retired h = h.changed.same
 
   -- one more number is drawn
-  pub number_drawn : Happens z r r' s choice l l' Number → word z r'.world name.Epoch ≡ word z r.world name.Epoch + 1
+  pub number_drawn : Happens z r r' s choice l l' (Activity.Rebalance (Rebalance.Replace Replace.Number)) → word z r'.world name.Epoch ≡ word z r.world name.Epoch + 1
   number_drawn h = h.changed.same
 
   -- the link that led to the full row, unmarked, leads to the first new one, unmarked
-  pub replaced_won : Happens z r r' s choice l l' Replace → link_of (word z r.world (replaced_link l.rebalance.before)) ≡ Some (unmarked_link (Some l.row)) → word z r'.world (replaced_link l.rebalance.before) ≡ link_word (unmarked_link (Some (first_infant l)))
+  pub replaced_won : Happens z r r' s choice l l' (Activity.Rebalance (Rebalance.Replace Replace.Exchange)) → link_of (word z r.world (replaced_link l.rebalance.before)) ≡ Some (unmarked_link (Some l.row)) → word z r'.world (replaced_link l.rebalance.before) ≡ link_word (unmarked_link (Some (first_infant l)))
   replaced_won h e = exchanged _ _ _ _ h.changed.same (sym (link_word_of (word z r.world (replaced_link l.rebalance.before)) (unmarked_link (Some l.row)) e))
 
   -- and every other one stays
-  pub replaced_lost : Happens z r r' s choice l l' Replace → IsLink (unmarked_link (Some l.row)) → link_of (word z r.world (replaced_link l.rebalance.before)) ≢ Some (unmarked_link (Some l.row)) →
+  pub replaced_lost : Happens z r r' s choice l l' (Activity.Rebalance (Rebalance.Replace Replace.Exchange)) → IsLink (unmarked_link (Some l.row)) → link_of (word z r.world (replaced_link l.rebalance.before)) ≢ Some (unmarked_link (Some l.row)) →
       word z r'.world (replaced_link l.rebalance.before) ≡ word z r.world (replaced_link l.rebalance.before)
   replaced_lost h i d = not_exchanged _ _ _ _ h.changed.same (λ e. d (ap link_of e ∙ link_of-link_word (unmarked_link (Some l.row)) i))
 
   -- a new row has what is written
-  pub count_written : Happens z r r' s choice l l' WriteCount → word z r'.world (name.Count (infant l)) ≡ count_word (infant_count l)
+  pub count_written : Happens z r r' s choice l l' (Activity.Rebalance (Rebalance.Write Write.Count)) → word z r'.world (name.Count (infant l)) ≡ count_word (infant_count l)
   count_written h = h.changed.same
 
-  pub least_written : Happens z r r' s choice l l' WriteMin → word z r'.world (name.Min (infant l)) ≡ key_word (infant_least l)
+  pub least_written : Happens z r r' s choice l l' (Activity.Rebalance (Rebalance.Write Write.Least)) → word z r'.world (name.Min (infant l)) ≡ key_word (infant_least l)
   least_written h = h.changed.same
 
-  pub next_written : Happens z r r' s choice l l' WriteNext → word z r'.world (name.Next (infant l)) ≡ link_word (infant_link l)
+  pub next_written : Happens z r r' s choice l l' (Activity.Rebalance (Rebalance.Write Write.Next)) → word z r'.world (name.Next (infant l)) ≡ link_word (infant_link l)
   next_written h = h.changed.same
 
-  pub first_written : Happens z r r' s choice l l' WriteFirst → word z r'.world (name.First (infant l)) ≡ cell_link_word (first_listed (infant_cells l))
+  pub first_written : Happens z r r' s choice l l' (Activity.Rebalance (Rebalance.Write Write.First)) → word z r'.world (name.First (infant l)) ≡ cell_link_word (first_listed (infant_cells l))
   first_written h = h.changed.same
 
-  pub entry_written : (i : ℕ) → Happens z r r' s choice l l' (WritePend i) → word z r'.world (name.Pend (infant l) i) ≡ pend_word pend.Idle
+  pub entry_written : (i : ℕ) → Happens z r r' s choice l l' (Activity.Rebalance (Rebalance.Write (Write.Entry i))) → word z r'.world (name.Pend (infant l) i) ≡ pend_word pend.Idle
   entry_written i h = h.changed.same
 
-  pub key_written : (j : ℕ) → Happens z r r' s choice l l' (WriteKey j) → word z r'.world (name.Key (infant l) j) ≡ key_word (key_in (slice_get (infant_cells l) j))
+  pub key_written : (j : ℕ) → Happens z r r' s choice l l' (Activity.Rebalance (Rebalance.Write (Write.Key j))) → word z r'.world (name.Key (infant l) j) ≡ key_word (key_in (slice_get (infant_cells l) j))
   key_written j h = h.changed.same
 
-  pub value_written : (j : ℕ) → Happens z r r' s choice l l' (WriteValue j) → word z r'.world (name.Value (infant l) j) ≡ value_word (value_in (slice_get (infant_cells l) j))
+  pub value_written : (j : ℕ) → Happens z r r' s choice l l' (Activity.Rebalance (Rebalance.Write (Write.Value j))) → word z r'.world (name.Value (infant l) j) ≡ value_word (value_in (slice_get (infant_cells l) j))
   value_written j h = h.changed.same
 
-  pub version_written : (j : ℕ) → Happens z r r' s choice l l' (WriteVersion j) → word z r'.world (name.Version (infant l) j) ≡ version_word (version_in (slice_get (infant_cells l) j))
+  pub version_written : (j : ℕ) → Happens z r r' s choice l l' (Activity.Rebalance (Rebalance.Write (Write.Version j))) → word z r'.world (name.Version (infant l) j) ≡ version_word (version_in (slice_get (infant_cells l) j))
   version_written j h = h.changed.same
 
-  pub after_written : (j : ℕ) → Happens z r r' s choice l l' (WriteAfter j) → word z r'.world (name.After (infant l) j) ≡ cell_link_word (listed_after (infant_cells l) j)
+  pub after_written : (j : ℕ) → Happens z r r' s choice l l' (Activity.Rebalance (Rebalance.Write (Write.After j))) → word z r'.world (name.After (infant l) j) ≡ cell_link_word (listed_after (infant_cells l) j)
   after_written j h = h.changed.same

@@ -9,7 +9,6 @@ use Rattle.kw_model.specs.declared.call.Call.TheVariants.{Put, Del, Get, Scan}
 use Rattle.kw_world.specs.declared.event.Choice.{Choice}
 use Rattle.kw_world.specs.declared.event.Choice.TheVariants.{Begin}
 use Rattle.kw_world.specs.declared.activity.Activity.{Activity}
-use Rattle.kw_world.specs.declared.activity.Activity.TheVariants.{Idle}
 use Rattle.kw_world.specs.declared.event.Event.{Event}
 use Rattle.kw_world.specs.declared.opening.Opening.{Opening}
 use Rattle.kw_world.specs.declared.local.Local.{Local}
@@ -41,7 +40,7 @@ is_call_in_range (Scan from upto) = nat_lt from KEY_END && nat_lt upto KEY_END
 
 -- a call that a seat begins at this activity is in range; an idle seat alone begins one
 abbrev pub may_begin : Activity → Choice → Bool
-may_begin Idle (Begin call) = is_call_in_range call
+may_begin Activity.Idle (Begin call) = is_call_in_range call
 may_begin _ choice = true
 
 -- the event of a seat that knows this is not skipped, and a call that it begins is in range

@@ -12,7 +12,11 @@ use Rattle.kw_words.specs.Link.{link_word}
 use Rattle.kw_words.specs.State.{state_word}
 use Rattle.kw_rows.specs.Ledger as kw_rows
 use Rattle.kw_world.specs.declared.activity.Activity.{Activity}
-use Rattle.kw_world.specs.declared.activity.Activity.TheVariants.{Enter, ScanWait, Leave, Again, Reclaim, TakeRow, GiveBack, Replace, Number}
+use Rattle.kw_world.specs.declared.activity.draw.Draw.TheVariants as Draw
+use Rattle.kw_world.specs.declared.activity.enter.Enter.TheVariants as Enter
+use Rattle.kw_world.specs.declared.activity.rebalance.Rebalance.TheVariants as Rebalance
+use Rattle.kw_world.specs.declared.activity.rebalance.replace.Replace.TheVariants as Replace
+use Rattle.kw_world.specs.declared.activity.rebalance.seek.Seek.TheVariants as Seek
 use Rattle.kw_world.specs.declared.local.Local.{Local}
 use Rattle.kw_world.specs.declared.opening.Opening.{Opening}
 use Rattle.kw_world.specs.SeekTransitions.{infant}
@@ -96,13 +100,13 @@ with_number g m now = record g { numbered = λ n. if n == m then Some now else g
 -- unlinked and the taken ones are linked; and the epoch that it finds where it adds to it is the
 -- number that it draws
 abbrev pub ledger_after : Sizes → Activity → ℕ → Local → ℕ → Words → ℕ → Ledger → Ledger
-ledger_after z Enter s l found v now g = record g { rows = with_pass g.rows s (Some now) }
-ledger_after z ScanWait s l found v now g = record g { waits = with_wait g.waits s now }
-ledger_after z (Leave answer) s l found v now g = record g { rows = with_pass g.rows s None }
-ledger_after z Again s l found v now g = record g { rows = with_pass g.rows s None }
-ledger_after z TakeRow s l found v now g = if found == state_word state.Free then record g { rows = with_fate g.rows l.rebalance.sought (fate_taken s now (g.rows.fates l.rebalance.sought)) } else g
-ledger_after z Reclaim s l found v now g = if found == state_word (state.Retired l.rebalance.number) then record g { rows = with_fate g.rows l.rebalance.sought (fate_free (g.rows.fates l.rebalance.sought)) } else g
-ledger_after z GiveBack s l found v now g = record g { rows = with_fate g.rows (infant l) (fate_free (g.rows.fates (infant l))) }
-ledger_after z Replace s l found v now g = if found == link_word (unmarked_link (Some l.row)) then record g { rows = with_replaced v s now l g.rows } else g
-ledger_after z Number s l found v now g = record g { rows = with_number g.rows found now }
+ledger_after z (Activity.Enter Enter.Announce) s l found v now g = record g { rows = with_pass g.rows s (Some now) }
+ledger_after z (Activity.Draw Draw.Wait) s l found v now g = record g { waits = with_wait g.waits s now }
+ledger_after z (Activity.Leave answer) s l found v now g = record g { rows = with_pass g.rows s None }
+ledger_after z Activity.Retry s l found v now g = record g { rows = with_pass g.rows s None }
+ledger_after z (Activity.Rebalance (Rebalance.Seek Seek.Take)) s l found v now g = if found == state_word state.Free then record g { rows = with_fate g.rows l.rebalance.sought (fate_taken s now (g.rows.fates l.rebalance.sought)) } else g
+ledger_after z (Activity.Rebalance (Rebalance.Seek Seek.Reclaim)) s l found v now g = if found == state_word (state.Retired l.rebalance.number) then record g { rows = with_fate g.rows l.rebalance.sought (fate_free (g.rows.fates l.rebalance.sought)) } else g
+ledger_after z (Activity.Rebalance (Rebalance.Seek Seek.GiveBack)) s l found v now g = record g { rows = with_fate g.rows (infant l) (fate_free (g.rows.fates (infant l))) }
+ledger_after z (Activity.Rebalance (Rebalance.Replace Replace.Exchange)) s l found v now g = if found == link_word (unmarked_link (Some l.row)) then record g { rows = with_replaced v s now l g.rows } else g
+ledger_after z (Activity.Rebalance (Rebalance.Replace Replace.Number)) s l found v now g = record g { rows = with_number g.rows found now }
 ledger_after z _ s l found v now g = g

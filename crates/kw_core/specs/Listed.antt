@@ -10,7 +10,9 @@ use Rattle.std.specs.Prelude.{ℕ, ◌==◌, Bool, false, nat_lt, if◌then◌el
 use Rattle.kw_lists.specs.Changes.{with_cell}
 use Rattle.kw_words.specs.Plain.{cell_link_word}
 use Rattle.kw_world.specs.declared.activity.Activity.{Activity}
-use Rattle.kw_world.specs.declared.activity.Activity.TheVariants.{Insert, WriteCount, WriteAfter}
+use Rattle.kw_world.specs.declared.activity.insert.Insert.TheVariants as Insert
+use Rattle.kw_world.specs.declared.activity.rebalance.Rebalance.TheVariants as Rebalance
+use Rattle.kw_world.specs.declared.activity.rebalance.write.Write.TheVariants as Write
 use Rattle.kw_world.specs.declared.local.Local.{Local}
 use Rattle.kw_world.specs.SeekTransitions.{infant}
 use Rattle.kw_world.specs.WriteTransitions.{infant_cells}
@@ -33,7 +35,7 @@ without_listed f r q = if q == r then (λ c. false) else f q
 
 -- the listed cells after the event of an activity, of a seat that knew l and found this word
 abbrev pub listed_after : Activity → Local → ℕ → Listed → Listed
-listed_after Insert l found f = if found == cell_link_word l.held then with_listed f l.row l.cell else f
-listed_after WriteCount l found f = without_listed f (infant l)
-listed_after (WriteAfter j) l found f = if nat_lt j (length (infant_cells l)) then with_listed f (infant l) j else f
+listed_after (Activity.Insert Insert.Exchange) l found f = if found == cell_link_word l.held then with_listed f l.row l.cell else f
+listed_after (Activity.Rebalance (Rebalance.Write Write.Count)) l found f = without_listed f (infant l)
+listed_after (Activity.Rebalance (Rebalance.Write (Write.After j))) l found f = if nat_lt j (length (infant_cells l)) then with_listed f (infant l) j else f
 listed_after _ l found f = f

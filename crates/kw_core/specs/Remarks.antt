@@ -5,7 +5,13 @@ use Rattle.kw_words.specs.declared.scan.ScanWord.TheVariants.{Waiting}
 use Rattle.kw_words.specs.Scan.{scan_word}
 use Rattle.kw_words.specs.Count.{count_of}
 use Rattle.kw_world.specs.declared.activity.Activity.{Activity}
-use Rattle.kw_world.specs.declared.activity.Activity.TheVariants.{Idle, ScanClock, ScanDraw, Look, LookClock, ListFrom, ListKey, ListVal, RestKey, RestVal, PutAdd, PutClock, BalClock, HelpDraw, ScanSettle}
+use Rattle.kw_world.specs.declared.activity.draw.Draw.TheVariants as Draw
+use Rattle.kw_world.specs.declared.activity.rebalance.engage.Engage.TheVariants as Engage
+use Rattle.kw_world.specs.declared.activity.rebalance.freeze.Freeze.TheVariants as Freeze
+use Rattle.kw_world.specs.declared.activity.look.Look.TheVariants as Look
+use Rattle.kw_world.specs.declared.activity.put.Put.TheVariants as Put
+use Rattle.kw_world.specs.declared.activity.read.Read.TheVariants as Read
+use Rattle.kw_world.specs.declared.activity.rebalance.Rebalance.TheVariants as Rebalance
 use Rattle.kw_world.specs.declared.local.Local.{Local}
 use Rattle.kw_world.specs.declared.event.Choice.{Choice}
 use Rattle.kw_world.specs.declared.event.Choice.TheVariants.{Begin, Go, Guess, Stop}
@@ -26,21 +32,21 @@ remark_begun Stop h = Same
 -- what the event of an activity adds, where the seat with this choice and local found this word,
 -- and the version in the word of its scan was drawn at `settled`
 abbrev pub remark_of : Sizes → Activity → Choice → Local → ℕ → Origins → History → ℕ → Remark
-remark_of z Idle choice l found o h settled = remark_begun choice h
-remark_of z ScanClock choice l found o h settled = LoadsClock (length h.log)
-remark_of z ScanDraw choice l found o h settled = DrawsVersion (length h.log)
-remark_of z ScanSettle choice l found o h settled = if found == scan_word (Waiting l.waiting) then Same else DrawsVersion settled
-remark_of z (Look i) choice l found o h settled = if i == 0 then LooksFirst (length h.log) else Same
-remark_of z LookClock choice l found o h settled = LoadsClock (length h.log)
-remark_of z ListFrom choice l found o h settled = ReadsRow l.row
-remark_of z ListKey choice l found o h settled = ReadsRow l.row
-remark_of z ListVal choice l found o h settled = GathersListed (unwrap_or (o l.row l.place) 0) (place_gathered l found)
-remark_of z RestKey choice l found o h settled = ReadsRow l.row
-remark_of z RestVal choice l found o h settled = GathersRest (unwrap_or (o l.row l.place) 0) (place_gathered l found) l.row
-remark_of z PutAdd choice l found o h settled = if has_room z (count_of found) then GetsCell (length h.attempts) else Same
-remark_of z PutClock choice l found o h settled = LoadsClock (length h.log)
-remark_of z BalClock choice l found o h settled = LoadsClock (length h.log)
-remark_of z (HelpDraw i) choice l found o h settled = DrawsVersion (length h.log)
+remark_of z Activity.Idle choice l found o h settled = remark_begun choice h
+remark_of z (Activity.Draw Draw.Clock) choice l found o h settled = LoadsClock (length h.log)
+remark_of z (Activity.Draw Draw.Version) choice l found o h settled = DrawsVersion (length h.log)
+remark_of z (Activity.Draw Draw.Settle) choice l found o h settled = if found == scan_word (Waiting l.waiting) then Same else DrawsVersion settled
+remark_of z (Activity.Look (Look.Entry i)) choice l found o h settled = if i == 0 then LooksFirst (length h.log) else Same
+remark_of z (Activity.Look Look.Clock) choice l found o h settled = LoadsClock (length h.log)
+remark_of z (Activity.Read Read.Link) choice l found o h settled = ReadsRow l.row
+remark_of z (Activity.Read Read.Key) choice l found o h settled = ReadsRow l.row
+remark_of z (Activity.Read Read.Value) choice l found o h settled = GathersListed (unwrap_or (o l.row l.place) 0) (place_gathered l found)
+remark_of z (Activity.Read Read.LeftOverKey) choice l found o h settled = ReadsRow l.row
+remark_of z (Activity.Read Read.LeftOverValue) choice l found o h settled = GathersRest (unwrap_or (o l.row l.place) 0) (place_gathered l found) l.row
+remark_of z (Activity.Put Put.Add) choice l found o h settled = if has_room z (count_of found) then GetsCell (length h.attempts) else Same
+remark_of z (Activity.Put Put.Clock) choice l found o h settled = LoadsClock (length h.log)
+remark_of z (Activity.Rebalance (Rebalance.Engage Engage.Clock)) choice l found o h settled = LoadsClock (length h.log)
+remark_of z (Activity.Rebalance (Rebalance.Freeze (Freeze.Draw i))) choice l found o h settled = DrawsVersion (length h.log)
 remark_of z _ choice l found o h settled = Same
 
 -- the log with what an event adds after which the seat goes on to the activity `next`

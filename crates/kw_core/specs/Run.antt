@@ -26,7 +26,14 @@ use Rattle.kw_world.specs.declared.answer.Answer.{Answer}
 use Rattle.kw_world.specs.declared.answer.Answer.TheVariants.{Done, Value, Absent, Pairs, NoRows, Spent, Stopped}
 use Rattle.kw_world.specs.Answers.{reply_of}
 use Rattle.kw_world.specs.declared.activity.Activity.{Activity}
-use Rattle.kw_world.specs.declared.activity.Activity.TheVariants.{Idle, ScanClock, ScanDraw, Look, LookClock, LookHelp, ListFrom, ListKey, ListVer, ListVal, RestKey, RestVal, PutAdd, Announce, PutClock, Stamp, Leave, BalClock, Freeze, HelpDraw, WriteVersion, ScanSettle, HelpSettle}
+use Rattle.kw_world.specs.declared.activity.draw.Draw.TheVariants as Draw
+use Rattle.kw_world.specs.declared.activity.rebalance.engage.Engage.TheVariants as Engage
+use Rattle.kw_world.specs.declared.activity.rebalance.freeze.Freeze.TheVariants as Freeze
+use Rattle.kw_world.specs.declared.activity.look.Look.TheVariants as Look
+use Rattle.kw_world.specs.declared.activity.put.Put.TheVariants as Put
+use Rattle.kw_world.specs.declared.activity.read.Read.TheVariants as Read
+use Rattle.kw_world.specs.declared.activity.rebalance.Rebalance.TheVariants as Rebalance
+use Rattle.kw_world.specs.declared.activity.rebalance.write.Write.TheVariants as Write
 use Rattle.kw_world.specs.declared.local.Local.{Local}
 use Rattle.kw_world.specs.declared.limits.TheConstants.{NEWEST}
 use Rattle.kw_world.specs.declared.event.Choice.{Choice}
@@ -147,13 +154,13 @@ drawing Stopped l g = None
 -- what the event of an activity adds, where the seat s with this choice, local and log found this
 -- word
 abbrev pub change_of : Sizes → Activity → ℕ → Choice → Local → ℕ → SeatLog → Origins → Change
-change_of z Idle s choice l found g o = beginning choice s l
-change_of z LookHelp s choice l found g o = if found == pend_word (pend.Pending l.met) then helping (o l.row l.met) l.helping g.loaded else Nothing
-change_of z PutAdd s choice l found g o = if has_room z (count_of found) then Adds g.call s (first_key l.call) (put_value l.call) l.row (given_of (count_of found)) else Nothing
-change_of z Announce s choice l found g o = if found == pend_word pend.Idle then Announces g.own else Nothing
-change_of z Stamp s choice l found g o = if found == pend_word (pend.Pending l.cell) then Stamps g.own l.version g.loaded else Nothing
-change_of z (Leave answer) s choice l found g o = Ends g.call (reply_of answer l.pairs) (answering l.call l g) (drawing answer l g)
-change_of z (Freeze i) s choice l found g o = if found == pend_word l.rebalance.entry then freezing l.rebalance.entry l.row o else Nothing
+change_of z Activity.Idle s choice l found g o = beginning choice s l
+change_of z (Activity.Look Look.Help) s choice l found g o = if found == pend_word (pend.Pending l.met) then helping (o l.row l.met) l.helping g.loaded else Nothing
+change_of z (Activity.Put Put.Add) s choice l found g o = if has_room z (count_of found) then Adds g.call s (first_key l.call) (put_value l.call) l.row (given_of (count_of found)) else Nothing
+change_of z (Activity.Put Put.Announce) s choice l found g o = if found == pend_word pend.Idle then Announces g.own else Nothing
+change_of z (Activity.Put Put.Stamp) s choice l found g o = if found == pend_word (pend.Pending l.cell) then Stamps g.own l.version g.loaded else Nothing
+change_of z (Activity.Leave answer) s choice l found g o = Ends g.call (reply_of answer l.pairs) (answering l.call l g) (drawing answer l g)
+change_of z (Activity.Rebalance (Rebalance.Freeze (Freeze.Entry i))) s choice l found g o = if found == pend_word l.rebalance.entry then freezing l.rebalance.entry l.row o else Nothing
 change_of z _ s choice l found g o = Nothing
 
 -- What an event adds to the log of its seat.
@@ -171,12 +178,7 @@ log_look i now g = if i == 0 then record g { looked = now; ids = []; read = None
 
 -- the seat goes on to a cell of the row
 abbrev pub is_at_cell : Activity → Bool
-is_at_cell ListFrom = true
-is_at_cell ListKey = true
-is_at_cell ListVer = true
-is_at_cell ListVal = true
-is_at_cell RestKey = true
-is_at_cell RestVal = true
+is_at_cell (Activity.Read _) = true
 is_at_cell _ = false
 
 -- a seat that does not go on to a cell of the row has read it
@@ -199,21 +201,21 @@ log_settled clock found settled g = if found == scan_word (Waiting clock) then g
 -- the log after the event of an activity, where the seat goes on to the activity `next`, and the
 -- version in the word of its scan was drawn at `settled`
 abbrev pub seat_after : Sizes → Activity → Choice → Local → ℕ → Activity → SeatLog → Origins → History → ℕ → SeatLog
-seat_after z Idle choice l found next g o h settled = log_begun choice (length h.calls) g
-seat_after z ScanClock choice l found next g o h settled = record g { loaded = length h.log }
-seat_after z ScanDraw choice l found next g o h settled = record g { drawn = length h.log }
-seat_after z ScanSettle choice l found next g o h settled = log_settled l.waiting found settled g
-seat_after z (Look i) choice l found next g o h settled = log_look i (length h.log) g
-seat_after z LookClock choice l found next g o h settled = record g { loaded = length h.log }
-seat_after z ListFrom choice l found next g o h settled = log_read next l.row g
-seat_after z ListKey choice l found next g o h settled = log_read next l.row g
-seat_after z ListVal choice l found next g o h settled = log_gathered (o l.row l.place) (place_gathered l found) g
-seat_after z RestKey choice l found next g o h settled = log_read next l.row g
-seat_after z RestVal choice l found next g o h settled = log_read next l.row (log_gathered (o l.row l.place) (place_gathered l found) g)
-seat_after z PutAdd choice l found next g o h settled = if has_room z (count_of found) then record g { own = length h.attempts } else g
-seat_after z PutClock choice l found next g o h settled = record g { loaded = length h.log }
-seat_after z BalClock choice l found next g o h settled = record g { loaded = length h.log }
-seat_after z (HelpDraw i) choice l found next g o h settled = record g { drawn = length h.log }
+seat_after z Activity.Idle choice l found next g o h settled = log_begun choice (length h.calls) g
+seat_after z (Activity.Draw Draw.Clock) choice l found next g o h settled = record g { loaded = length h.log }
+seat_after z (Activity.Draw Draw.Version) choice l found next g o h settled = record g { drawn = length h.log }
+seat_after z (Activity.Draw Draw.Settle) choice l found next g o h settled = log_settled l.waiting found settled g
+seat_after z (Activity.Look (Look.Entry i)) choice l found next g o h settled = log_look i (length h.log) g
+seat_after z (Activity.Look Look.Clock) choice l found next g o h settled = record g { loaded = length h.log }
+seat_after z (Activity.Read Read.Link) choice l found next g o h settled = log_read next l.row g
+seat_after z (Activity.Read Read.Key) choice l found next g o h settled = log_read next l.row g
+seat_after z (Activity.Read Read.Value) choice l found next g o h settled = log_gathered (o l.row l.place) (place_gathered l found) g
+seat_after z (Activity.Read Read.LeftOverKey) choice l found next g o h settled = log_read next l.row g
+seat_after z (Activity.Read Read.LeftOverValue) choice l found next g o h settled = log_read next l.row (log_gathered (o l.row l.place) (place_gathered l found) g)
+seat_after z (Activity.Put Put.Add) choice l found next g o h settled = if has_room z (count_of found) then record g { own = length h.attempts } else g
+seat_after z (Activity.Put Put.Clock) choice l found next g o h settled = record g { loaded = length h.log }
+seat_after z (Activity.Rebalance (Rebalance.Engage Engage.Clock)) choice l found next g o h settled = record g { loaded = length h.log }
+seat_after z (Activity.Rebalance (Rebalance.Freeze (Freeze.Draw i))) choice l found next g o h settled = record g { drawn = length h.log }
 seat_after z _ choice l found next g o h settled = g
 
 -- What an event says of the scans.
@@ -225,8 +227,8 @@ settling seat clock found g = if found == scan_word (Waiting clock) then Some (r
 
 -- which scan the event of an activity settles: its own, or the one that it helps
 abbrev pub settled_scan : Activity → ℕ → Local → ℕ → SeatLog → Option Settled
-settled_scan ScanSettle s l found g = settling s l.waiting found g
-settled_scan (HelpSettle i) s l found g = settling i l.rebalance.waiting found g
+settled_scan (Activity.Draw Draw.Settle) s l found g = settling s l.waiting found g
+settled_scan (Activity.Rebalance (Rebalance.Freeze (Freeze.Settle i))) s l found g = settling i l.rebalance.waiting found g
 settled_scan _ s l found g = None
 
 -- where the versions of scans were drawn, with that of one that is settled
@@ -243,7 +245,7 @@ copied o row None = None
 -- the cell whose origin an event of a seat that knows l sets: the one whose version it writes, of
 -- the row that it builds
 abbrev pub copied_cell : Activity → Local → Origins → Option Copied
-copied_cell (WriteVersion j) l o = Some (record { row = infant l; cell = j; attempt = copied o l.row (slice_get (infant_cells l) j) })
+copied_cell (Activity.Rebalance (Rebalance.Write (Write.Version j))) l o = Some (record { row = infant l; cell = j; attempt = copied o l.row (slice_get (infant_cells l) j) })
 copied_cell _ l o = None
 
 -- the origins with that of a cell that is written
@@ -254,8 +256,8 @@ with_copied None o = o
 -- the origins after the event of an activity: a cell is given to a put by the sum that asks for it,
 -- and stands for a copied attempt from the event on that writes its version
 abbrev pub origins_after : Sizes → Activity → Local → ℕ → Origins → History → Origins
-origins_after z PutAdd l found o h = if has_room z (count_of found) then with_origin o l.row (given_of (count_of found)) (length h.attempts) else o
-origins_after z (WriteVersion j) l found o h = with_copy o (infant l) j (copied o l.row (slice_get (infant_cells l) j))
+origins_after z (Activity.Put Put.Add) l found o h = if has_room z (count_of found) then with_origin o l.row (given_of (count_of found)) (length h.attempts) else o
+origins_after z (Activity.Rebalance (Rebalance.Write (Write.Version j))) l found o h = with_copy o (infant l) j (copied o l.row (slice_get (infant_cells l) j))
 origins_after z _ l found o h = o
 
 -- One event, and lists of events.

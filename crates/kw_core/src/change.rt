@@ -34,6 +34,12 @@ use kw_words::pend::Pend;
 use kw_words::scan::ScanWord;
 use kw_words::sizes::{CELLS, SEATS};
 use kw_world::activity::Activity;
+use kw_world::activity::draw::Draw;
+use kw_world::activity::look::Look;
+use kw_world::activity::put::Put;
+use kw_world::activity::rebalance::Rebalance;
+use kw_world::activity::rebalance::freeze::Freeze;
+use kw_world::activity::rebalance::write::Write;
 use kw_world::answer::Answer;
 use kw_world::calls::{first_key, put_value};
 use kw_world::event::{Choice, Event};
@@ -106,8 +112,13 @@ pub fn settled_scan(local: &Local, happening: Happening, log: &SeatLog) -> Optio
         log.now }
 {
     match local.activity {
-        Activity::ScanSettle => settling(happening.seat, local.waiting, happening.found, log),
-        Activity::HelpSettle(seat) => {
+        Activity::Draw(Draw::Settle) => settling(
+            happening.seat,
+            local.waiting,
+            happening.found,
+            log,
+        ),
+        Activity::Rebalance(Rebalance::Freeze(Freeze::Settle(seat))) => {
             settling(seat, local.rebalance.waiting, happening.found, log)
         }
         _ => None,
@@ -148,7 +159,7 @@ pub fn copied_cell(local: &Local, origins: &[Option<usize>]) -> Option<Copied>
     ensures { result ≡ copied_cell local.now.activity local.now (origin_in product origins.now) }
 {
     match local.activity {
-        Activity::WriteVersion(cell) => Some(Copied {
+        Activity::Rebalance(Rebalance::Write(Write::Version(cell))) => Some(Copied {
             row: infant(local),
             cell,
             attempt: attempt_copied(local, cell, origins),
@@ -197,12 +208,16 @@ pub fn change_of(
 {
     Ok(match local.activity {
         Activity::Idle => beginning(happening, local),
-        Activity::LookHelp => helping(local, happening.found, log, origins),
-        Activity::PutAdd => adding(local, happening, log),
-        Activity::Announce => announcing(happening.found, log),
-        Activity::Stamp => stamping(local, happening.found, log),
+        Activity::Look(Look::Help) => helping(local, happening.found, log, origins),
+        Activity::Put(Put::Add) => adding(local, happening, log),
+        Activity::Put(Put::Announce) => announcing(happening.found, log),
+        Activity::Put(Put::Stamp) => stamping(local, happening.found, log),
         Activity::Leave(answer) => ending(local, answer, log)?,
-        Activity::Freeze(_) => freezing(local, happening.found, origins),
+        Activity::Rebalance(Rebalance::Freeze(Freeze::Entry(_))) => freezing(
+            local,
+            happening.found,
+            origins,
+        ),
         _ => Change::Nothing,
     })
 }

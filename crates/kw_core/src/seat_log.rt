@@ -13,15 +13,22 @@ ghost use Rattle.kw_core.specs.Run.{is_at_cell, log_read, no_log, place_gathered
 ghost use Rattle.kw_core.specs.Recording.{origin_in};
 ghost use Rattle.kw_core.specs.Remarks.{remark_of, remarked, HasRoomFor};
 
-use crate::attempt_ids::AttemptIds;
 use crate::change::{Happening, origin_at};
 use crate::history::History;
 use kw_cells::cell::Cell;
+use kw_cells::short_list::ShortList;
 use kw_step_put::resume_put::room;
 use kw_words::plain::unpack_value;
 use kw_words::scan::ScanWord;
 use kw_words::sizes::CELLS;
 use kw_world::activity::Activity;
+use kw_world::activity::draw::Draw;
+use kw_world::activity::look::Look;
+use kw_world::activity::put::Put;
+use kw_world::activity::read::Read;
+use kw_world::activity::rebalance::Rebalance;
+use kw_world::activity::rebalance::engage::Engage;
+use kw_world::activity::rebalance::freeze::Freeze;
 use kw_world::event::Choice;
 use kw_world::local::Local;
 
@@ -30,8 +37,8 @@ use kw_world::local::Local;
 /// `call` is the place of its call in the history and `own` the attempt of its put; `looked`,
 /// `loaded` and `drawn` are the positions at which it looked at the first entry of a row, loaded
 /// the clock, and drew a version, for its own scan or for one that it helps. `ids` are the attempts
-/// of the cells that it has gathered, and `read` is the row that it has read, once it has come to
-/// the end of its cells.
+/// of the cells that it has gathered, by their places in the history and in the order of their
+/// cells, and `read` is the row that it has read, once it has come to the end of its cells.
 #[derive(Debug, Drop)]
 pub struct SeatLog {
     pub call: usize,
@@ -39,7 +46,7 @@ pub struct SeatLog {
     pub looked: u64,
     pub loaded: u64,
     pub drawn: u64,
-    pub ids: AttemptIds,
+    pub ids: ShortList<usize, CELLS>,
     pub read: Option<u32>,
 }
 
@@ -79,7 +86,7 @@ impl SeatLog {
             looked: 0,
             loaded: 0,
             drawn: 0,
-            ids: AttemptIds::new(),
+            ids: ShortList::new(),
             read: None,
         }
     }
@@ -144,25 +151,31 @@ impl Remark {
                 Choice::Begin(_) => Remark::BeginsCall(history.calls().len()),
                 _ => Remark::Same,
             },
-            Activity::Look(0) => Remark::LooksFirst(history.now()),
-            Activity::ScanClock | Activity::LookClock | Activity::PutClock | Activity::BalClock => {
+            Activity::Look(Look::Entry(0)) => Remark::LooksFirst(history.now()),
+            Activity::Draw(Draw::Clock)
+            | Activity::Look(Look::Clock)
+            | Activity::Put(Put::Clock)
+            | Activity::Rebalance(Rebalance::Engage(Engage::Clock)) => {
                 Remark::LoadsClock(history.now())
             }
-            Activity::ScanSettle => tries_to_settle(local, happening.found, settled),
-            Activity::ScanDraw | Activity::HelpDraw(_) => { Remark::DrawsVersion(history.now()) }
-            Activity::ListFrom | Activity::ListKey | Activity::RestKey => {
-                Remark::ReadsRow(local.row)
+            Activity::Draw(Draw::Settle) => tries_to_settle(local, happening.found, settled),
+            Activity::Draw(Draw::Version)
+            | Activity::Rebalance(Rebalance::Freeze(Freeze::Draw(_))) => {
+                Remark::DrawsVersion(history.now())
             }
-            Activity::ListVal => {
+            Activity::Read(Read::Link)
+            | Activity::Read(Read::Key)
+            | Activity::Read(Read::LeftOverKey) => { Remark::ReadsRow(local.row) }
+            Activity::Read(Read::Value) => {
                 let attempt = origin_at(origins, local.row, local.place).unwrap_or(0);
                 Remark::GathersListed(attempt, place_gathered(local, happening.found))
             }
-            Activity::RestVal => {
+            Activity::Read(Read::LeftOverValue) => {
                 let attempt = origin_at(origins, local.row, local.place).unwrap_or(0);
                 let at = place_gathered(local, happening.found);
                 Remark::GathersRest(attempt, at, local.row)
             }
-            Activity::PutAdd if room(happening.found).is_some() => {
+            Activity::Put(Put::Add) if room(happening.found).is_some() => {
                 Remark::GetsCell(history.attempts().len())
             }
             _ => Remark::Same,
@@ -188,12 +201,7 @@ fn is_at_cell(next: &Activity) -> bool
     ensures { result ≡ is_at_cell next.now }
 {
     match next {
-        Activity::ListFrom
-        | Activity::ListKey
-        | Activity::ListVer
-        | Activity::ListVal
-        | Activity::RestKey
-        | Activity::RestVal => true,
+        Activity::Read(_) => true,
         _ => false,
     }
 }

@@ -53,81 +53,15 @@ impl Stage {
     {
         match activity {
             Activity::Idle => Stage::Resting,
-            Activity::Enter | Activity::AgainEpoch => Stage::Entering,
-            Activity::ScanClock | Activity::ScanWait | Activity::ScanDraw | Activity::ScanSettle =>
-                Stage::Drawing,
-            Activity::Start
-            | Activity::Head
-            | Activity::GuessMin
-            | Activity::Walk
-            | Activity::WalkMin => Stage::Walking,
-            Activity::Look(_) | Activity::LookKey | Activity::LookClock | Activity::LookHelp =>
-                Stage::Looking,
-            Activity::ListFrom
-            | Activity::ListKey
-            | Activity::ListVer
-            | Activity::ListVal
-            | Activity::RestKey
-            | Activity::RestVal => Stage::Taking,
-            Activity::ClearScan(_) => Stage::Clearing,
-            Activity::PutCount
-            | Activity::PutAdd
-            | Activity::PutKey
-            | Activity::PutValue
-            | Activity::Announce
-            | Activity::PutClock
-            | Activity::Stamp
-            | Activity::PutVersion
-            | Activity::InsFrom
-            | Activity::InsKey
-            | Activity::InsVer
-            | Activity::InsSet
-            | Activity::Insert
-            | Activity::PutClear => Stage::Putting,
-            Activity::BalClock
-            | Activity::BalEpoch
-            | Activity::BalState
-            | Activity::BalNormal(_)
-            | Activity::Engage
-            | Activity::MarkLink(_)
-            | Activity::Decide(_)
-            | Activity::FreezeCount
-            | Activity::FreezeLook(_)
-            | Activity::Freeze(_)
-            | Activity::ScanLook(_)
-            | Activity::HelpDraw(_)
-            | Activity::HelpSettle(_)
-            | Activity::TakeFrom
-            | Activity::TakeKey
-            | Activity::TakeVersion
-            | Activity::TakeValue
-            | Activity::TakeRestKey
-            | Activity::TakeRestValue
-            | Activity::SeekFirst
-            | Activity::Seek
-            | Activity::SeekPass(_)
-            | Activity::Reclaim
-            | Activity::TakeRow
-            | Activity::GiveBack
-            | Activity::WriteCount
-            | Activity::WriteMin
-            | Activity::WriteNext
-            | Activity::WriteFirst
-            | Activity::WritePend(_)
-            | Activity::WriteKey(_)
-            | Activity::WriteValue(_)
-            | Activity::WriteVersion(_)
-            | Activity::WriteAfter(_)
-            | Activity::Before
-            | Activity::BeforeGuess
-            | Activity::BeforeHead
-            | Activity::BeforeLink
-            | Activity::BeforeMin
-            | Activity::Replace
-            | Activity::Normalise
-            | Activity::Number
-            | Activity::Retire => Stage::Rebalancing,
-            Activity::Again => Stage::Retrying,
+            Activity::Enter(_) => Stage::Entering,
+            Activity::Draw(_) => Stage::Drawing,
+            Activity::Walk(_) => Stage::Walking,
+            Activity::Look(_) => Stage::Looking,
+            Activity::Read(_) => Stage::Taking,
+            Activity::EndScan(_) => Stage::Clearing,
+            Activity::Put(_) | Activity::Insert(_) => Stage::Putting,
+            Activity::Rebalance(_) => Stage::Rebalancing,
+            Activity::Retry => Stage::Retrying,
             Activity::Leave(_) => Stage::Leaving,
         }
     }

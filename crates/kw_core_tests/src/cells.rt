@@ -5,9 +5,6 @@ ghost use Rattle.kw_cells.specs.InOrder.{AreBelow, AreInOrder};
 use kw_cells::cell::{Cell, best, next_pair};
 use kw_cells::in_order::{first_fit, is_behind, next_in_order, place_in};
 use kw_cells::limits::{MOST_GATHERED, MOST_NEEDED, MOST_STARTS};
-use kw_cells::memory::Memory;
-use std::process::Abort;
-use std::test::Fail;
 
 fn put(key: u32, version: u64, place: u32, value: u64) -> Cell {
     Cell {
@@ -41,76 +38,51 @@ fn row() -> [Cell; 7] {
     ]
 }
 
-// expects this best cell of the cells for each key and version
-fn expect_best(rt: &impl Abort, cells: &[Cell], table: &[(u32, u64, Option<Cell>)]) {
-    for (key, version, want) in table {
-        let found = best(cells, *key, *version);
-        assert_eq!(rt; found, *want, "of key {key} at {version}");
-    }
-}
-
+// the greatest version in the bound, of one version the greatest place, which may be a tombstone,
+// and none where no cell fits
 #[test]
-fn best_is_the_greatest_version_in_the_bound(rt: HostRuntime) {
+fn best_is_the_last_cell_of_the_key_in_the_bound(rt: HostRuntime) {
     let table = [
         (5, 1, Some(put(5, 1, 0, 51))),
         (9, 8, Some(put(9, 8, 3, 98))),
         (9, 18446744073709551615, Some(put(9, 8, 3, 98))),
-    ];
-    expect_best(&rt, &row(), &table);
-}
-
-#[test]
-fn best_of_one_version_has_the_greatest_place(rt: HostRuntime) {
-    let table = [
         (5, 2, Some(put(5, 2, 6, 52))),
         (5, 7, Some(put(5, 2, 6, 52))),
-    ];
-    expect_best(&rt, &row(), &table);
-}
-
-#[test]
-fn best_may_be_a_tombstone(rt: HostRuntime) {
-    let table = [
         (7, 2, Some(put(7, 1, 1, 71))),
         (7, 3, Some(tombstone(7, 3, 5))),
+        (6, 9, None),
+        (9, 7, None),
+        (5, 0, None),
     ];
-    expect_best(&rt, &row(), &table);
-}
-
-#[test]
-fn best_is_none_where_no_cell_fits(rt: HostRuntime) {
-    expect_best(&rt, &row(), &[(6, 9, None), (9, 7, None), (5, 0, None)]);
-    expect_best(&rt, &[], &[(5, 9, None)]);
-}
-
-// expects this next pair of the row's for each range and version
-fn expect_pairs(rt: &impl Abort, table: &[(u32, u32, u64, Option<(u32, u64)>)]) {
-    for (from, to, version, want) in table {
-        let found = next_pair(&row(), *from, *to, *version);
-        assert_eq!(rt; found, *want, "from {from} to {to} at {version}");
+    for (key, version, want) in table {
+        assert_eq!(rt;
+            best(&row(), key, version),
+            want,
+            "of key {key} at {version}"
+        );
     }
+    assert_eq!(rt; best(&[], 5, 9), None);
 }
 
 #[test]
-fn pairs_come_by_rising_key(rt: HostRuntime) {
+fn pairs_come_by_rising_key_and_end_with_the_range(rt: HostRuntime) {
     let table = [
         (0, 4294967295, 8, Some((5, 52))),
         (6, 4294967295, 8, Some((9, 98))),
         (10, 4294967295, 8, Some((4294967295, 9223372036854775807))),
-    ];
-    expect_pairs(&rt, &table);
-}
-
-#[test]
-fn pairs_end_with_the_range(rt: HostRuntime) {
-    let table = [
         (6, 8, 8, None),
         (6, 8, 2, Some((7, 71))),
         (0, 5, 1, Some((5, 51))),
         (0, 4, 8, None),
         (9, 5, 8, None),
     ];
-    expect_pairs(&rt, &table);
+    for (from, to, version, want) in table {
+        assert_eq!(rt;
+            next_pair(&row(), from, to, version),
+            want,
+            "from {from} to {to} at {version}"
+        );
+    }
 }
 
 // the same without the last cell, in order
@@ -233,11 +205,4 @@ fn a_cell_belongs_behind_those_before_it(rt: HostRuntime) {
 #[test]
 fn the_room_of_a_rebuild(rt: HostRuntime) {
     assert_eq!(rt; [MOST_GATHERED, MOST_NEEDED, MOST_STARTS], [128, 8, 7]);
-}
-
-#[test]
-fn says_what_was_wanted(rt: HostRuntime) -> Result<(), Fail> {
-    let text = Memory.to_string(rt.alloc())?;
-    assert_eq!(rt; text.as_str(), "out of memory");
-    Ok(())
 }

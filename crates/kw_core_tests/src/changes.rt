@@ -17,6 +17,10 @@ use kw_words::kind::Kind;
 use kw_words::pend::Pend;
 use kw_words::sizes::CELLS;
 use kw_world::activity::Activity;
+use kw_world::activity::draw::Draw;
+use kw_world::activity::rebalance::Rebalance;
+use kw_world::activity::rebalance::freeze::Freeze;
+use kw_world::activity::rebalance::write::Write;
 use kw_world::event::Choice;
 use kw_world::local::Local;
 use kw_world::rebuilt::{KeptCells, Starts};
@@ -27,11 +31,11 @@ use std::test::Fail;
 fn at_an_entry(alloc: Global, entry: Pend) -> Local
     requires { IsEntry product (Some entry) }
     ensures ranges { IsLocal product result }
-    ensures at { result.activity ≡ Activity.Freeze 3 }
+    ensures at { result.activity ≡ Activity.Rebalance (Rebalance.Freeze (Freeze.Entry 3)) }
     ensures row { result.row ≡ 0 }
 {
     let mut local = Local::idle(alloc);
-    local.activity = Activity::Freeze(3);
+    local.activity = Activity::Rebalance(Rebalance::Freeze(Freeze::Entry(3)));
     local.rebalance.entry = entry;
     local
 }
@@ -82,11 +86,11 @@ fn a_frozen_entry_loses_its_attempt_where_it_is_pending_still(rt: HostRuntime) -
 // A scan that waits since the clock 4 tries to settle.
 fn at_a_scan(alloc: Global) -> Local
     ensures ranges { IsLocal product result }
-    ensures at { result.activity ≡ Activity.ScanSettle }
+    ensures at { result.activity ≡ Activity.Draw Draw.Settle }
     ensures row { result.row ≡ 0 }
 {
     let mut local = Local::idle(alloc);
-    local.activity = Activity::ScanSettle;
+    local.activity = Activity::Draw(Draw::Settle);
     local.waiting = 4;
     local
 }
@@ -125,7 +129,7 @@ fn at_a_helped_scan(alloc: Global) -> Local
     ensures ranges { IsLocal product result }
 {
     let mut local = Local::idle(alloc);
-    local.activity = Activity::HelpSettle(2);
+    local.activity = Activity::Rebalance(Rebalance::Freeze(Freeze::Settle(2)));
     local.rebalance.waiting = 4;
     local
 }
@@ -157,7 +161,7 @@ fn at_a_copy(alloc: Global, cell: u32) -> Local
     let mut starts = RowCuts::new();
     starts.push(0);
     let mut local = Local::idle(alloc);
-    local.activity = Activity::WriteVersion(cell);
+    local.activity = Activity::Rebalance(Rebalance::Write(Write::Version(cell)));
     local.rebalance.kept = KeptCells::of(kept);
     local.rebalance.starts = Starts::of(starts);
     local.rebalance.taken.push(3);

@@ -1,7 +1,7 @@
 //! The plain list, and its pairs.
-use kw_cells::memory::Memory;
 use kw_cells::plain::Plain;
 use kw_cells::plain_pairs::PlainPairs;
+use kw_model::memory::Memory;
 use std::process::Abort;
 use std::test::Fail;
 

@@ -14,6 +14,11 @@ use kw_step_put::resume::put_resume;
 use kw_step_put::step::put_step;
 use kw_words::plain::pack_value;
 use kw_world::activity::Activity;
+use kw_world::activity::enter::Enter;
+use kw_world::activity::put::Put;
+use kw_world::activity::read::Read;
+use kw_world::activity::rebalance::Rebalance;
+use kw_world::activity::rebalance::engage::Engage;
 use kw_world::answer::Answer;
 use kw_world::event::{Choice, Event, StepDone};
 use kw_world::local::Local;
@@ -39,10 +44,10 @@ fn idle(alloc: Global) -> Result<World, Memory>
 fn at_a_value(alloc: Global) -> Local
     ensures ranges { IsLocal product result }
     ensures room { HasRoom product result }
-    ensures at { result.activity ≡ Activity.RestVal }
+    ensures at { result.activity ≡ Activity.Read Read.LeftOverValue }
 {
     let mut local = Local::idle(alloc);
-    local.activity = Activity::RestVal;
+    local.activity = Activity::Read(Read::LeftOverValue);
     local.call = Some(Call::Scan(2, 9));
     local.want = 2;
     local.version = 5;
@@ -55,10 +60,10 @@ fn at_a_value(alloc: Global) -> Local
 fn at_its_end(alloc: Global) -> Local
     ensures ranges { IsLocal product result }
     ensures room { HasRoom product result }
-    ensures at { result.activity ≡ Activity.PutClear }
+    ensures at { result.activity ≡ Activity.Put Put.Clear }
 {
     let mut local = Local::idle(alloc);
-    local.activity = Activity::PutClear;
+    local.activity = Activity::Put(Put::Clear);
     local.call = Some(Call::Put(5, 10));
     local.epoch = 2;
     local.row = 2;
@@ -92,7 +97,11 @@ fn an_idle_seat_begins_a_put(rt: HostRuntime) -> Result<(), Fail> {
     let seat = world.local(1);
     assert_eq!(rt;
         (done, seat.activity, world.local(0).activity),
-        (StepDone::Moved, Activity::Enter, Activity::Idle)
+        (
+            StepDone::Moved,
+            Activity::Enter(Enter::Announce),
+            Activity::Idle
+        )
     );
     assert_eq!(rt; (seat.call, seat.number, seat.epoch), (Some(call), 1, 9));
     Ok(())
@@ -116,7 +125,7 @@ fn a_scan_has_the_pairs_of_a_row_at_its_last_cell(rt: HostRuntime) -> Result<(),
     let done = put_resume(&mut local, 3, Choice::Go, pack_value(Some(42)))?;
     assert_eq!(rt;
         (done, local.activity),
-        (StepDone::Moved, Activity::ClearScan(Answer::Pairs))
+        (StepDone::Moved, Activity::EndScan(Answer::Pairs))
     );
     assert_eq!(rt; local.pairs.pairs(), [(4, 42)].as_slice());
     Ok(())
@@ -132,7 +141,11 @@ fn a_done_put_tidies_its_own_row_in_a_table_of_few_enough(rt: HostRuntime) -> Re
     let leaves = (Activity::Leave(Answer::Done), false);
     assert_eq!(rt;
         (few, many, other),
-        ((Activity::BalClock, true), leaves, leaves)
+        (
+            (Activity::Rebalance(Rebalance::Engage(Engage::Clock)), true),
+            leaves,
+            leaves
+        )
     );
     Ok(())
 }

@@ -17,6 +17,13 @@ use kw_step_rebal::step::rebalance_step;
 use kw_words::kind::Kind;
 use kw_words::layout::Name;
 use kw_world::activity::Activity;
+use kw_world::activity::rebalance::Rebalance;
+use kw_world::activity::rebalance::engage::Engage;
+use kw_world::activity::rebalance::freeze::Freeze;
+use kw_world::activity::rebalance::gather::Gather;
+use kw_world::activity::rebalance::replace::Replace;
+use kw_world::activity::rebalance::seek::Seek;
+use kw_world::activity::rebalance::write::Write;
 use kw_world::event::{Choice, Event, StepDone};
 use kw_world::local::Local;
 use kw_world::marks::Mark;
@@ -35,7 +42,7 @@ fn before_a_rebalance(alloc: Global) -> Result<World, Memory>
         IsOfPart Part.Rebalance world (record { seat = 1; choice = choice })) }
 {
     let mut world = World::open(alloc, 3, 2, 7, 9)?;
-    world.local_mut(1).activity = Activity::BalClock;
+    world.local_mut(1).activity = Activity::Rebalance(Rebalance::Engage(Engage::Clock));
     Ok(world)
 }
 
@@ -57,7 +64,11 @@ fn a_rebalance_begins_with_the_clock(rt: HostRuntime) -> Result<(), Fail> {
     let done = go_on(&mut world)?;
     assert_eq!(rt;
         (done, world.local(1).activity, world.local(0).activity),
-        (StepDone::Moved, Activity::BalEpoch, Activity::Idle)
+        (
+            StepDone::Moved,
+            Activity::Rebalance(Rebalance::Engage(Engage::Epoch)),
+            Activity::Idle
+        )
     );
     Ok(())
 }
@@ -77,10 +88,10 @@ fn told(before: Local, word: u64) -> Local
 fn at_a_state(alloc: Global) -> Local
     ensures ranges { IsLocal product result }
     ensures room { HasRoom product result }
-    ensures at { result.activity ≡ Activity.BalState }
+    ensures at { result.activity ≡ Activity.Rebalance (Rebalance.Engage Engage.State) }
 {
     let mut local = Local::idle(alloc);
-    local.activity = Activity::BalState;
+    local.activity = Activity::Rebalance(Rebalance::Engage(Engage::State));
     local.row = 2;
     local.lower = 40;
     local
@@ -90,11 +101,14 @@ fn at_a_state(alloc: Global) -> Local
 #[test]
 fn a_leader_of_one_row_is_helped(rt: HostRuntime) {
     let helping = told(at_a_state(rt.alloc()), 11);
-    assert_eq!(rt; helping.activity, Activity::MarkLink(1));
+    assert_eq!(rt;
+        helping.activity,
+        Activity::Rebalance(Rebalance::Engage(Engage::MarkLink(1)))
+    );
     let anew = told(at_a_state(rt.alloc()), 19);
     assert_eq!(rt;
         (anew.activity, anew.row, anew.lower),
-        (Activity::Again, 0, 0)
+        (Activity::Retry, 0, 0)
     );
 }
 
@@ -102,10 +116,10 @@ fn a_leader_of_one_row_is_helped(rt: HostRuntime) {
 fn at_an_entry(alloc: Global) -> Local
     ensures ranges { IsLocal product result }
     ensures room { HasRoom product result }
-    ensures at { result.activity ≡ Activity.FreezeLook 3 }
+    ensures at { result.activity ≡ Activity.Rebalance (Rebalance.Freeze (Freeze.Look 3)) }
 {
     let mut local = Local::idle(alloc);
-    local.activity = Activity::FreezeLook(3);
+    local.activity = Activity::Rebalance(Rebalance::Freeze(Freeze::Look(3)));
     local.row = 2;
     local
 }
@@ -114,7 +128,10 @@ fn at_an_entry(alloc: Global) -> Local
 #[test]
 fn a_stamped_cell_is_remembered(rt: HostRuntime) {
     let local = told(at_an_entry(rt.alloc()), 98_326);
-    assert_eq!(rt; local.activity, Activity::FreezeLook(4));
+    assert_eq!(rt;
+        local.activity,
+        Activity::Rebalance(Rebalance::Freeze(Freeze::Look(4)))
+    );
     let mark = Mark {
         cell: 5,
         version: 3,
@@ -127,10 +144,10 @@ fn a_stamped_cell_is_remembered(rt: HostRuntime) {
 fn at_a_scan(alloc: Global) -> Local
     ensures ranges { IsLocal product result }
     ensures room { HasRoom product result }
-    ensures at { result.activity ≡ Activity.HelpSettle 7 }
+    ensures at { result.activity ≡ Activity.Rebalance (Rebalance.Freeze (Freeze.Settle 7)) }
 {
     let mut local = Local::idle(alloc);
-    local.activity = Activity::HelpSettle(7);
+    local.activity = Activity::Rebalance(Rebalance::Freeze(Freeze::Settle(7)));
     local.rebalance.waiting = 4;
     local.rebalance.drawn = 6;
     local
@@ -140,7 +157,10 @@ fn at_a_scan(alloc: Global) -> Local
 #[test]
 fn the_version_of_a_helped_scan_is_needed(rt: HostRuntime) {
     let local = told(at_a_scan(rt.alloc()), 17);
-    assert_eq!(rt; local.activity, Activity::TakeFrom);
+    assert_eq!(rt;
+        local.activity,
+        Activity::Rebalance(Rebalance::Gather(Gather::Link))
+    );
     assert_eq!(rt; local.rebalance.needed.as_slice(), [6].as_slice());
 }
 
@@ -149,10 +169,10 @@ fn the_version_of_a_helped_scan_is_needed(rt: HostRuntime) {
 fn at_the_last_cell(alloc: Global) -> Local
     ensures ranges { IsLocal product result }
     ensures room { HasRoom product result }
-    ensures at { result.activity ≡ Activity.TakeRestValue }
+    ensures at { result.activity ≡ Activity.Rebalance (Rebalance.Gather Gather.LeftOverValue) }
 {
     let mut local = Local::idle(alloc);
-    local.activity = Activity::TakeRestValue;
+    local.activity = Activity::Rebalance(Rebalance::Gather(Gather::LeftOverValue));
     local.place = 9;
     local.place_key = 45;
     local.place_version = 3;
@@ -169,7 +189,7 @@ fn the_last_cell_is_kept_in_one_new_row(rt: HostRuntime) {
             local.rebalance.sought,
             local.rebalance.asked
         ),
-        (Activity::SeekFirst, 0, 1)
+        (Activity::Rebalance(Rebalance::Seek(Seek::First)), 0, 1)
     );
     let kept = Cell {
         key: 45,
@@ -203,34 +223,49 @@ fn asking(alloc: Global, activity: Activity) -> Local
 // a free row has the word 0, and a normal one the word 2
 #[test]
 fn a_row_is_taken_where_it_was_free(rt: HostRuntime) {
-    let taking = told(asking(rt.alloc(), Activity::TakeRow), 0);
-    assert_eq!(rt; taking.activity, Activity::WriteCount);
+    let taking = told(
+        asking(rt.alloc(), Activity::Rebalance(Rebalance::Seek(Seek::Take))),
+        0,
+    );
+    assert_eq!(rt;
+        taking.activity,
+        Activity::Rebalance(Rebalance::Write(Write::Count))
+    );
     assert_eq!(rt; taking.rebalance.taken.as_slice(), [1].as_slice());
-    let lost = told(asking(rt.alloc(), Activity::TakeRow), 2);
+    let lost = told(
+        asking(rt.alloc(), Activity::Rebalance(Rebalance::Seek(Seek::Take))),
+        2,
+    );
     assert_eq!(rt;
         (lost.activity, lost.rebalance.sought, lost.rebalance.asked),
-        (Activity::Seek, 2, 3)
+        (Activity::Rebalance(Rebalance::Seek(Seek::Next)), 2, 3)
     );
 }
 
 // a row that was retired with the number 9 has the word 5 + 8 * 9
 #[test]
 fn the_number_of_a_retired_row_is_remembered(rt: HostRuntime) {
-    let local = told(asking(rt.alloc(), Activity::Seek), 77);
+    let local = told(
+        asking(rt.alloc(), Activity::Rebalance(Rebalance::Seek(Seek::Next))),
+        77,
+    );
     assert_eq!(rt;
         (
             local.activity,
             local.rebalance.sought,
             local.rebalance.number
         ),
-        (Activity::SeekPass(0), 1, 9)
+        (Activity::Rebalance(Rebalance::Seek(Seek::Pass(0))), 1, 9)
     );
 }
 
 // a seat that announces no epoch has the word 0 for its pass, and any other one its epoch
 #[test]
 fn the_pass_of_each_seat_is_looked_at(rt: HostRuntime) {
-    let looking = asking(rt.alloc(), Activity::SeekPass(2));
+    let looking = asking(
+        rt.alloc(),
+        Activity::Rebalance(Rebalance::Seek(Seek::Pass(2))),
+    );
     let load = Operation {
         kind: Kind::LoadPass,
         name: Name::Pass(2),
@@ -238,34 +273,64 @@ fn the_pass_of_each_seat_is_looked_at(rt: HostRuntime) {
     };
     assert_eq!(rt; rebalance_operation(1, &looking, Choice::Go), load);
     let quiet = told(looking, 0);
-    let later = told(asking(rt.alloc(), Activity::SeekPass(2)), 7);
-    let last = told(asking(rt.alloc(), Activity::SeekPass(7)), 7);
+    let later = told(
+        asking(
+            rt.alloc(),
+            Activity::Rebalance(Rebalance::Seek(Seek::Pass(2))),
+        ),
+        7,
+    );
+    let last = told(
+        asking(
+            rt.alloc(),
+            Activity::Rebalance(Rebalance::Seek(Seek::Pass(7))),
+        ),
+        7,
+    );
     assert_eq!(rt;
         [quiet.activity, later.activity, last.activity],
         [
-            Activity::SeekPass(3),
-            Activity::SeekPass(3),
-            Activity::Reclaim
+            Activity::Rebalance(Rebalance::Seek(Seek::Pass(3))),
+            Activity::Rebalance(Rebalance::Seek(Seek::Pass(3))),
+            Activity::Rebalance(Rebalance::Seek(Seek::Reclaim))
         ]
     );
 }
 
 #[test]
 fn a_pass_up_to_the_number_keeps_the_row_from_use(rt: HostRuntime) {
-    let kept = told(asking(rt.alloc(), Activity::SeekPass(2)), 6);
+    let kept = told(
+        asking(
+            rt.alloc(),
+            Activity::Rebalance(Rebalance::Seek(Seek::Pass(2))),
+        ),
+        6,
+    );
     assert_eq!(rt;
         (kept.activity, kept.rebalance.sought, kept.rebalance.asked),
-        (Activity::Seek, 2, 3)
+        (Activity::Rebalance(Rebalance::Seek(Seek::Next)), 2, 3)
     );
-    let by_the_last = told(asking(rt.alloc(), Activity::SeekPass(7)), 5);
-    assert_eq!(rt; by_the_last.activity, Activity::Seek);
+    let by_the_last = told(
+        asking(
+            rt.alloc(),
+            Activity::Rebalance(Rebalance::Seek(Seek::Pass(7))),
+        ),
+        5,
+    );
+    assert_eq!(rt;
+        by_the_last.activity,
+        Activity::Rebalance(Rebalance::Seek(Seek::Next))
+    );
 }
 
 // a row that was retired with the number 6 has the word 5 + 8 * 6, a free one the word 0, and a
 // normal one the word 2
 #[test]
 fn a_row_that_is_freed_is_tried(rt: HostRuntime) {
-    let freeing = asking(rt.alloc(), Activity::Reclaim);
+    let freeing = asking(
+        rt.alloc(),
+        Activity::Rebalance(Rebalance::Seek(Seek::Reclaim)),
+    );
     let reclaim = Operation {
         kind: Kind::Reclaim,
         name: Name::State(1),
@@ -273,13 +338,22 @@ fn a_row_that_is_freed_is_tried(rt: HostRuntime) {
     };
     assert_eq!(rt; rebalance_operation(1, &freeing, Choice::Go), reclaim);
     let freed = told(freeing, 53);
-    let lost = told(asking(rt.alloc(), Activity::Reclaim), 2);
+    let lost = told(
+        asking(
+            rt.alloc(),
+            Activity::Rebalance(Rebalance::Seek(Seek::Reclaim)),
+        ),
+        2,
+    );
     assert_eq!(rt;
         [
             (freed.activity, freed.rebalance.sought),
             (lost.activity, lost.rebalance.sought)
         ],
-        [(Activity::TakeRow, 1), (Activity::TakeRow, 1)]
+        [
+            (Activity::Rebalance(Rebalance::Seek(Seek::Take)), 1),
+            (Activity::Rebalance(Rebalance::Seek(Seek::Take)), 1)
+        ]
     );
 }
 
@@ -347,10 +421,26 @@ fn stored(local: Local) -> Option<(Name, u64)>
 #[test]
 fn a_new_row_is_listed_by_falling_version(rt: HostRuntime) {
     let links = [
-        stored(with_new_rows(rt.alloc(), Activity::WriteFirst, 0)),
-        stored(with_new_rows(rt.alloc(), Activity::WriteAfter(1), 0)),
-        stored(with_new_rows(rt.alloc(), Activity::WriteAfter(0), 0)),
-        stored(with_new_rows(rt.alloc(), Activity::WriteAfter(2), 0)),
+        stored(with_new_rows(
+            rt.alloc(),
+            Activity::Rebalance(Rebalance::Write(Write::First)),
+            0,
+        )),
+        stored(with_new_rows(
+            rt.alloc(),
+            Activity::Rebalance(Rebalance::Write(Write::After(1))),
+            0,
+        )),
+        stored(with_new_rows(
+            rt.alloc(),
+            Activity::Rebalance(Rebalance::Write(Write::After(0))),
+            0,
+        )),
+        stored(with_new_rows(
+            rt.alloc(),
+            Activity::Rebalance(Rebalance::Write(Write::After(2))),
+            0,
+        )),
     ];
     let wanted = [
         Some((Name::First(3), 2)),
@@ -365,11 +455,31 @@ fn a_new_row_is_listed_by_falling_version(rt: HostRuntime) {
 #[test]
 fn new_rows_are_linked_before_the_row_after_the_full_one(rt: HostRuntime) {
     let words = [
-        stored(with_new_rows(rt.alloc(), Activity::WriteCount, 0)),
-        stored(with_new_rows(rt.alloc(), Activity::WriteMin, 0)),
-        stored(with_new_rows(rt.alloc(), Activity::WriteNext, 0)),
-        stored(with_new_rows(rt.alloc(), Activity::WriteNext, 1)),
-        stored(with_new_rows(rt.alloc(), Activity::WriteMin, 1)),
+        stored(with_new_rows(
+            rt.alloc(),
+            Activity::Rebalance(Rebalance::Write(Write::Count)),
+            0,
+        )),
+        stored(with_new_rows(
+            rt.alloc(),
+            Activity::Rebalance(Rebalance::Write(Write::Least)),
+            0,
+        )),
+        stored(with_new_rows(
+            rt.alloc(),
+            Activity::Rebalance(Rebalance::Write(Write::Next)),
+            0,
+        )),
+        stored(with_new_rows(
+            rt.alloc(),
+            Activity::Rebalance(Rebalance::Write(Write::Next)),
+            1,
+        )),
+        stored(with_new_rows(
+            rt.alloc(),
+            Activity::Rebalance(Rebalance::Write(Write::Least)),
+            1,
+        )),
     ];
     let wanted = [
         Some((Name::Count(3), 3)),
@@ -384,7 +494,11 @@ fn new_rows_are_linked_before_the_row_after_the_full_one(rt: HostRuntime) {
 // an unmarked link to the full row has the word 3, and a marked one 2^32 more
 #[test]
 fn new_rows_are_made_normal_once_they_are_linked(rt: HostRuntime) {
-    let mut linked = with_new_rows(rt.alloc(), Activity::Replace, 0);
+    let mut linked = with_new_rows(
+        rt.alloc(),
+        Activity::Rebalance(Rebalance::Replace(Replace::Exchange)),
+        0,
+    );
     let replace = Operation {
         kind: Kind::Replace,
         name: Name::Head,
@@ -394,12 +508,22 @@ fn new_rows_are_made_normal_once_they_are_linked(rt: HostRuntime) {
     rebalance_resume(&mut linked, 9, Choice::Go, 3);
     assert_eq!(rt;
         (linked.activity, linked.rebalance.at),
-        (Activity::Normalise, 0)
+        (
+            Activity::Rebalance(Rebalance::Replace(Replace::Normalise)),
+            0
+        )
     );
-    let mut lost = with_new_rows(rt.alloc(), Activity::Replace, 0);
+    let mut lost = with_new_rows(
+        rt.alloc(),
+        Activity::Rebalance(Rebalance::Replace(Replace::Exchange)),
+        0,
+    );
     rebalance_resume(&mut lost, 9, Choice::Go, 4_294_967_299);
     assert_eq!(rt;
         (lost.activity, lost.rebalance.afterwards),
-        (Activity::GiveBack, Afterwards::MoveLeft)
+        (
+            Activity::Rebalance(Rebalance::Seek(Seek::GiveBack)),
+            Afterwards::MoveLeft
+        )
     );
 }

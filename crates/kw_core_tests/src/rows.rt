@@ -8,6 +8,7 @@ ghost use Rattle.kw_world.specs.declared.part.Part.{Part};
 use kw_model::memory::Memory;
 use kw_step_rows::step::rows_step;
 use kw_world::activity::Activity;
+use kw_world::activity::walk::Walk;
 use kw_world::event::{Choice, Event, StepDone};
 use kw_world::world::World;
 use std::alloc::Global;
@@ -21,7 +22,7 @@ fn before_a_walk(alloc: Global) -> Result<World, Memory>
         IsOfPart Part.Rows world (record { seat = 1; choice = choice })) }
 {
     let mut world = World::open(alloc, 3, 2, 7, 9)?;
-    world.local_mut(1).activity = Activity::Start;
+    world.local_mut(1).activity = Activity::Walk(Walk::Start);
     Ok(world)
 }
 
@@ -43,7 +44,7 @@ fn a_walk_begins_at_the_first_row_of_the_list(rt: HostRuntime) -> Result<(), Fai
     let seat = world.local(1);
     assert_eq!(rt;
         (done, seat.activity, world.local(0).activity),
-        (StepDone::Moved, Activity::Walk, Activity::Idle)
+        (StepDone::Moved, Activity::Walk(Walk::Next), Activity::Idle)
     );
     assert_eq!(rt; (seat.row, seat.lower), (0, 0));
     Ok(())
@@ -52,7 +53,10 @@ fn a_walk_begins_at_the_first_row_of_the_list(rt: HostRuntime) -> Result<(), Fai
 // row 2 is free, row 0 normal
 #[test]
 fn a_guess_is_taken_at_a_normal_row_and_not_at_a_free_one(rt: HostRuntime) -> Result<(), Fail> {
-    for (row, next) in [(2, Activity::Head), (0, Activity::GuessMin)] {
+    for (row, next) in [
+        (2, Activity::Walk(Walk::First)),
+        (0, Activity::Walk(Walk::GuessedLeast)),
+    ] {
         let mut world = before_a_walk(rt.alloc())?;
         let done = walk(&mut world, Choice::Guess(row))?;
         assert_eq!(rt;

@@ -9,6 +9,7 @@ use kw_words::link::Link;
 use kw_words::sizes::{CELLS, SEATS};
 use kw_words::state::State;
 use kw_world::activity::Activity;
+use kw_world::activity::enter::Enter;
 use kw_world::limits::{GIVEN_END, MOST_CALLS, NEWEST};
 use kw_world::world::World;
 use std::alloc::Global;
@@ -51,11 +52,11 @@ fn a_clone_is_a_world_of_its_own(rt: HostRuntime) -> Result<(), Fail> {
     let mut copy = world.clone_world()?;
     let place = Layout::<SEATS, CELLS>::place(3, Name::Clock);
     copy.set_word(place, 8);
-    copy.local_mut(1).activity = Activity::Enter;
+    copy.local_mut(1).activity = Activity::Enter(Enter::Announce);
     assert_eq!(rt; (copy.word(place), world.word(place)), (8, 7));
     assert_eq!(rt;
         (copy.local(1).activity, world.local(1).activity),
-        (Activity::Enter, Activity::Idle)
+        (Activity::Enter(Enter::Announce), Activity::Idle)
     );
     assert_eq!(rt; (copy.rows(), copy.seats()), (3, 2));
     Ok(())

@@ -10,7 +10,10 @@ use Rattle.kw_words.specs.Pend.{IsPend}
 use Rattle.kw_cells.specs.Kept.{AreRising, kept_of}
 use Rattle.kw_cells.proofs.KeptOf.{kept_of-rising}
 use Rattle.kw_world.specs.declared.activity.Activity.{Activity}
-use Rattle.kw_world.specs.declared.activity.Activity.TheVariants.{FreezeLook, ScanLook, TakeFrom, WriteAfter}
+use Rattle.kw_world.specs.declared.activity.rebalance.freeze.Freeze.TheVariants as Freeze
+use Rattle.kw_world.specs.declared.activity.rebalance.gather.Gather.TheVariants as Gather
+use Rattle.kw_world.specs.declared.activity.rebalance.Rebalance.TheVariants as Rebalance
+use Rattle.kw_world.specs.declared.activity.rebalance.write.Write.TheVariants as Write
 use Rattle.kw_world.specs.declared.event.Choice.TheVariants.{Go}
 use Rattle.kw_world.specs.declared.local.Local.{Local}
 use Rattle.kw_world.specs.declared.operation.Action.TheVariants.{Load}
@@ -39,15 +42,15 @@ module _ (s : Shared) (p : Pass) (l : Local) (f : Follows s p l) where
   named_below a is = subst (IsActivity product) is (follows_ranges s p l f).activity
 
   -- so many cells are remembered at most, and so many versions needed
-  pub marks_room : (i : ℕ) → l.activity ≡ FreezeLook i → length l.rebalance.marks < SEATS
+  pub marks_room : (i : ℕ) → l.activity ≡ Activity.Rebalance (Rebalance.Freeze (Freeze.Look i)) → length l.rebalance.marks < SEATS
   marks_room i is =
-      let below : i < SEATS = named_below (FreezeLook i) is in
+      let below : i < SEATS = named_below (Activity.Rebalance (Rebalance.Freeze (Freeze.Look i))) is in
       let room : length l.rebalance.marks ≤ i = subst (λ a. length l.rebalance.marks ≤ frozen_by product a) is (follows_room s p l f).rebalance.marks in
       omega (arith, below, room)
 
-  pub needed_room : (i : ℕ) → l.activity ≡ ScanLook i → length l.rebalance.needed < SEATS
+  pub needed_room : (i : ℕ) → l.activity ≡ Activity.Rebalance (Rebalance.Freeze (Freeze.Scan i)) → length l.rebalance.needed < SEATS
   needed_room i is =
-      let below : i < SEATS = named_below (ScanLook i) is in
+      let below : i < SEATS = named_below (Activity.Rebalance (Rebalance.Freeze (Freeze.Scan i))) is in
       let room : length l.rebalance.needed ≤ i = subst (λ a. length l.rebalance.needed ≤ needed_by product a) is (follows_room s p l f).rebalance.needed in
       omega (arith, below, room)
 
@@ -55,7 +58,7 @@ module _ (s : Shared) (p : Pass) (l : Local) (f : Follows s p l) where
   needed_few a is most = subst (λ n. length l.rebalance.needed ≤ n) most (subst (λ b. length l.rebalance.needed ≤ needed_by product b) is (follows_room s p l f).rebalance.needed)
 
   -- the kept cells rise where a row is written
-  pub kept_rises : (j : ℕ) → l.activity ≡ WriteAfter j → AreRising l.rebalance.kept
+  pub kept_rises : (j : ℕ) → l.activity ≡ Activity.Rebalance (Rebalance.Write (Write.After j)) → AreRising l.rebalance.kept
   kept_rises j is = subst (λ (k : Local). AreRising k.rebalance.kept) (sym f.carries) (subst AreRising (sym kept) (kept_of-rising seat.rebalance.gathered seat.rebalance.needed))
     where
       seat : Local
@@ -76,5 +79,5 @@ entry_fits (Stamped cell version) k = (omega (arith, k.0), k.1.0, k.1.1)
 entry_fits Frozen k = tt
 
 -- the load of a link
-pub asks_taken_link : (s : Shared) (p : Pass) (l : Local) (n : Name) → Follows s p l → l.activity ≡ TakeFrom → n ≡ link_name l.row l.link → Asks s p Go (operation kind.LoadAfter n Load)
-asks_taken_link s p l n f is name = subst (λ (m : Name). Asks s p Go (operation kind.LoadAfter m Load)) (sym name) (asks_at s p l TakeFrom f is tt)
+pub asks_taken_link : (s : Shared) (p : Pass) (l : Local) (n : Name) → Follows s p l → l.activity ≡ Activity.Rebalance (Rebalance.Gather Gather.Link) → n ≡ link_name l.row l.link → Asks s p Go (operation kind.LoadAfter n Load)
+asks_taken_link s p l n f is name = subst (λ (m : Name). Asks s p Go (operation kind.LoadAfter m Load)) (sym name) (asks_at s p l (Activity.Rebalance (Rebalance.Gather Gather.Link)) f is tt)

@@ -19,7 +19,20 @@ use Rattle.kw_model.specs.declared.call.Call.{Call}
 use Rattle.kw_model.specs.declared.call.Call.TheVariants.{Put, Del, Get, Scan}
 use Rattle.kw_world.specs.declared.answer.Answer.{Answer}
 use Rattle.kw_world.specs.declared.activity.Activity.{Activity}
-use Rattle.kw_world.specs.declared.activity.Activity.TheVariants.{Idle, Enter, ScanClock, ScanWait, ScanDraw, ScanSettle, Start, Head, GuessMin, Walk, WalkMin, Look, LookKey, LookClock, LookHelp, ListFrom, ListKey, ListVer, ListVal, RestKey, RestVal, ClearScan, PutCount, PutAdd, PutKey, PutValue, Announce, PutClock, Stamp, PutVersion, InsFrom, InsKey, InsVer, InsSet, Insert, PutClear, Leave, Again, AgainEpoch, BalClock, BalEpoch, BalState, BalNormal, Engage, MarkLink, Decide, FreezeCount, FreezeLook, Freeze, ScanLook, HelpDraw, HelpSettle, TakeFrom, TakeKey, TakeVersion, TakeValue, TakeRestKey, TakeRestValue, SeekFirst, Seek, SeekPass, Reclaim, TakeRow, GiveBack, WriteCount, WriteMin, WriteNext, WriteFirst, WritePend, WriteKey, WriteValue, WriteVersion, WriteAfter, Before, BeforeGuess, BeforeHead, BeforeLink, BeforeMin, Replace, Normalise, Number, Retire}
+use Rattle.kw_world.specs.declared.activity.draw.Draw.TheVariants as Draw
+use Rattle.kw_world.specs.declared.activity.rebalance.engage.Engage.TheVariants as Engage
+use Rattle.kw_world.specs.declared.activity.enter.Enter.TheVariants as Enter
+use Rattle.kw_world.specs.declared.activity.rebalance.freeze.Freeze.TheVariants as Freeze
+use Rattle.kw_world.specs.declared.activity.rebalance.gather.Gather.TheVariants as Gather
+use Rattle.kw_world.specs.declared.activity.insert.Insert.TheVariants as Insert
+use Rattle.kw_world.specs.declared.activity.look.Look.TheVariants as Look
+use Rattle.kw_world.specs.declared.activity.put.Put.TheVariants as Put
+use Rattle.kw_world.specs.declared.activity.read.Read.TheVariants as Read
+use Rattle.kw_world.specs.declared.activity.rebalance.Rebalance.TheVariants as Rebalance
+use Rattle.kw_world.specs.declared.activity.rebalance.replace.Replace.TheVariants as Replace
+use Rattle.kw_world.specs.declared.activity.rebalance.seek.Seek.TheVariants as Seek
+use Rattle.kw_world.specs.declared.activity.walk.Walk.TheVariants as Walk
+use Rattle.kw_world.specs.declared.activity.rebalance.write.Write.TheVariants as Write
 use Rattle.kw_world.specs.declared.event.Choice.{Choice}
 use Rattle.kw_world.specs.declared.event.Choice.TheVariants.{Begin, Go, Guess, Stop}
 use Rattle.kw_world.specs.declared.local.Local.{Local}
@@ -147,127 +160,124 @@ clears Stop answer l = record { local = refl; done = refl; held = λ g. refl }
 
 -- the seat is in the middle of a call, and reads no cell
 abbrev pub IsGoingOn : Activity → Type 0
-IsGoingOn Idle = ⊥
-IsGoingOn ListFrom = ⊥
-IsGoingOn ListKey = ⊥
-IsGoingOn ListVer = ⊥
-IsGoingOn ListVal = ⊥
-IsGoingOn RestKey = ⊥
-IsGoingOn RestVal = ⊥
-IsGoingOn (Leave answer) = ⊥
+IsGoingOn Activity.Idle = ⊥
+IsGoingOn (Activity.Read _) = ⊥
+IsGoingOn (Activity.Leave answer) = ⊥
 IsGoingOn _ = Unit {0}
 
 -- what follows from an event there
 pub carries : (z : Sizes) (a : Activity) (s : ℕ) (c : Choice) (l : Local) (rows told : ℕ) → IsGoingOn a → Carries c l.pairs ((transition z a s c l).next rows told) ((transition z a s c (carried l)).next rows told)
-carries z Idle s c l rows told u = absurd u
-carries z Enter s c l rows told u = enters c l.call l
-carries z ScanClock s c l rows told u = either c (nat_le SPENT told) l.pairs _ _ _ _ (record { local = refl; done = refl; held = λ g. refl }) (record { local = refl; done = refl; held = λ g. refl })
-carries z ScanWait s c l rows told u = record { local = refl; done = refl; held = λ g. refl }
-carries z ScanDraw s c l rows told u = record { local = refl; done = refl; held = λ g. refl }
-carries z ScanSettle s c l rows told u = settles c (version_settled (scan_of told) l.drawn) l
-carries z Start s c l rows told u = starts c c l rows told
-carries z Head s c l rows told u = record { local = refl; done = refl; held = λ g. refl }
-carries z GuessMin s c l rows told u = either c (nat_le (key_of_word told) l.want) l.pairs _ _ _ _ (record { local = refl; done = refl; held = λ g. refl }) (record { local = refl; done = refl; held = λ g. refl })
-carries z Walk s c l rows told u = walks c (is_stopped c l) s l rows told (not_stopped c l)
-carries z WalkMin s c l rows told u = walks_on c (key_of_word told) l
-carries z (Look i) s c l rows told u = meets c z i (pend_of told) l
-carries z LookKey s c l rows told u = either c (is_in_range l.call (key_of_word told)) l.pairs _ _ _ _ (record { local = refl; done = refl; held = λ g. refl }) (looks c z (l.looked + 1) l)
-carries z LookClock s c l rows told u = record { local = refl; done = refl; held = λ g. refl }
-carries z LookHelp s c l rows told u = helps c z (pend_of told) l
-carries z ListFrom s c l rows told u = absurd u
-carries z ListKey s c l rows told u = absurd u
-carries z ListVer s c l rows told u = absurd u
-carries z ListVal s c l rows told u = absurd u
-carries z RestKey s c l rows told u = absurd u
-carries z RestVal s c l rows told u = absurd u
-carries z (ClearScan answer) s c l rows told u = clears c answer l
-carries z PutCount s c l rows told u = either c (has_room z (count_of told)) l.pairs _ _ _ _ (record { local = refl; done = refl; held = λ g. refl }) (record { local = refl; done = refl; held = λ g. refl })
-carries z PutAdd s c l rows told u = either c (has_room z (count_of told)) l.pairs _ _ _ _ (record { local = refl; done = refl; held = λ g. refl }) (record { local = refl; done = refl; held = λ g. refl })
-carries z PutKey s c l rows told u = record { local = refl; done = refl; held = λ g. refl }
-carries z PutValue s c l rows told u = record { local = refl; done = refl; held = λ g. refl }
-carries z Announce s c l rows told u = either c (told == pend_word pend.Idle) l.pairs _ _ _ _ (record { local = refl; done = refl; held = λ g. refl }) (record { local = refl; done = refl; held = λ g. refl })
-carries z PutClock s c l rows told u = record { local = refl; done = refl; held = λ g. refl }
-carries z Stamp s c l rows told u = stamps c (pend_of told) l
-carries z PutVersion s c l rows told u = record { local = refl; done = refl; held = λ g. refl }
-carries z InsFrom s c l rows told u = inserts_from c z (cell_of_link_word told) l
-carries z InsKey s c l rows told u = either c (nat_lt (key_of_word told) (first_key l.call)) l.pairs _ _ _ _ (record { local = refl; done = refl; held = λ g. refl }) (either c (key_of_word told == first_key l.call) l.pairs _ _ _ _ (record { local = refl; done = refl; held = λ g. refl }) (record { local = refl; done = refl; held = λ g. refl }))
-carries z InsVer s c l rows told u = either c (is_newer (unwrap_or (version_of_word told) 0) l.place l) l.pairs _ _ _ _ (record { local = refl; done = refl; held = λ g. refl }) (record { local = refl; done = refl; held = λ g. refl })
-carries z InsSet s c l rows told u = record { local = refl; done = refl; held = λ g. refl }
-carries z Insert s c l rows told u = inserts_tried c z (told == cell_link_word l.held) l
-carries z PutClear s c l rows told u = tidies c c rows l
-carries z (Leave answer) s c l rows told u = absurd u
-carries z Again s c l rows told u = rebalance_carries c z Again s l rows told tt
-carries z AgainEpoch s c l rows told u = rebalance_carries c z AgainEpoch s l rows told tt
-carries z BalClock s c l rows told u = rebalance_carries c z BalClock s l rows told tt
-carries z BalEpoch s c l rows told u = rebalance_carries c z BalEpoch s l rows told tt
-carries z BalState s c l rows told u = rebalance_carries c z BalState s l rows told tt
-carries z (BalNormal seat) s c l rows told u = rebalance_carries c z (BalNormal seat) s l rows told tt
-carries z Engage s c l rows told u = rebalance_carries c z Engage s l rows told tt
-carries z (MarkLink count) s c l rows told u = rebalance_carries c z (MarkLink count) s l rows told tt
-carries z (Decide count) s c l rows told u = rebalance_carries c z (Decide count) s l rows told tt
-carries z FreezeCount s c l rows told u = rebalance_carries c z FreezeCount s l rows told tt
-carries z (FreezeLook i) s c l rows told u = rebalance_carries c z (FreezeLook i) s l rows told tt
-carries z (Freeze i) s c l rows told u = rebalance_carries c z (Freeze i) s l rows told tt
-carries z (ScanLook i) s c l rows told u = rebalance_carries c z (ScanLook i) s l rows told tt
-carries z (HelpDraw i) s c l rows told u = rebalance_carries c z (HelpDraw i) s l rows told tt
-carries z (HelpSettle i) s c l rows told u = rebalance_carries c z (HelpSettle i) s l rows told tt
-carries z TakeFrom s c l rows told u = rebalance_carries c z TakeFrom s l rows told tt
-carries z TakeKey s c l rows told u = rebalance_carries c z TakeKey s l rows told tt
-carries z TakeVersion s c l rows told u = rebalance_carries c z TakeVersion s l rows told tt
-carries z TakeValue s c l rows told u = rebalance_carries c z TakeValue s l rows told tt
-carries z TakeRestKey s c l rows told u = rebalance_carries c z TakeRestKey s l rows told tt
-carries z TakeRestValue s c l rows told u = rebalance_carries c z TakeRestValue s l rows told tt
-carries z SeekFirst s c l rows told u = rebalance_carries c z SeekFirst s l rows told tt
-carries z Seek s c l rows told u = rebalance_carries c z Seek s l rows told tt
-carries z (SeekPass i) s c l rows told u = rebalance_carries c z (SeekPass i) s l rows told tt
-carries z Reclaim s c l rows told u = rebalance_carries c z Reclaim s l rows told tt
-carries z TakeRow s c l rows told u = rebalance_carries c z TakeRow s l rows told tt
-carries z GiveBack s c l rows told u = rebalance_carries c z GiveBack s l rows told tt
-carries z WriteCount s c l rows told u = rebalance_carries c z WriteCount s l rows told tt
-carries z WriteMin s c l rows told u = rebalance_carries c z WriteMin s l rows told tt
-carries z WriteNext s c l rows told u = rebalance_carries c z WriteNext s l rows told tt
-carries z WriteFirst s c l rows told u = rebalance_carries c z WriteFirst s l rows told tt
-carries z (WritePend i) s c l rows told u = rebalance_carries c z (WritePend i) s l rows told tt
-carries z (WriteKey j) s c l rows told u = rebalance_carries c z (WriteKey j) s l rows told tt
-carries z (WriteValue j) s c l rows told u = rebalance_carries c z (WriteValue j) s l rows told tt
-carries z (WriteVersion j) s c l rows told u = rebalance_carries c z (WriteVersion j) s l rows told tt
-carries z (WriteAfter j) s c l rows told u = rebalance_carries c z (WriteAfter j) s l rows told tt
-carries z Before s c l rows told u = rebalance_carries c z Before s l rows told tt
-carries z BeforeGuess s c l rows told u = rebalance_carries c z BeforeGuess s l rows told tt
-carries z BeforeHead s c l rows told u = rebalance_carries c z BeforeHead s l rows told tt
-carries z BeforeLink s c l rows told u = rebalance_carries c z BeforeLink s l rows told tt
-carries z BeforeMin s c l rows told u = rebalance_carries c z BeforeMin s l rows told tt
-carries z Replace s c l rows told u = rebalance_carries c z Replace s l rows told tt
-carries z Normalise s c l rows told u = rebalance_carries c z Normalise s l rows told tt
-carries z Number s c l rows told u = rebalance_carries c z Number s l rows told tt
-carries z Retire s c l rows told u = rebalance_carries c z Retire s l rows told tt
+carries z Activity.Idle s c l rows told u = absurd u
+carries z (Activity.Enter Enter.Announce) s c l rows told u = enters c l.call l
+carries z (Activity.Draw Draw.Clock) s c l rows told u = either c (nat_le SPENT told) l.pairs _ _ _ _ (record { local = refl; done = refl; held = λ g. refl }) (record { local = refl; done = refl; held = λ g. refl })
+carries z (Activity.Draw Draw.Wait) s c l rows told u = record { local = refl; done = refl; held = λ g. refl }
+carries z (Activity.Draw Draw.Version) s c l rows told u = record { local = refl; done = refl; held = λ g. refl }
+carries z (Activity.Draw Draw.Settle) s c l rows told u = settles c (version_settled (scan_of told) l.drawn) l
+carries z (Activity.Walk Walk.Start) s c l rows told u = starts c c l rows told
+carries z (Activity.Walk Walk.First) s c l rows told u = record { local = refl; done = refl; held = λ g. refl }
+carries z (Activity.Walk Walk.GuessedLeast) s c l rows told u = either c (nat_le (key_of_word told) l.want) l.pairs _ _ _ _ (record { local = refl; done = refl; held = λ g. refl }) (record { local = refl; done = refl; held = λ g. refl })
+carries z (Activity.Walk Walk.Next) s c l rows told u = walks c (is_stopped c l) s l rows told (not_stopped c l)
+carries z (Activity.Walk Walk.NextLeast) s c l rows told u = walks_on c (key_of_word told) l
+carries z (Activity.Look (Look.Entry i)) s c l rows told u = meets c z i (pend_of told) l
+carries z (Activity.Look Look.Key) s c l rows told u = either c (is_in_range l.call (key_of_word told)) l.pairs _ _ _ _ (record { local = refl; done = refl; held = λ g. refl }) (looks c z (l.looked + 1) l)
+carries z (Activity.Look Look.Clock) s c l rows told u = record { local = refl; done = refl; held = λ g. refl }
+carries z (Activity.Look Look.Help) s c l rows told u = helps c z (pend_of told) l
+carries z (Activity.Read _) s c l rows told u = absurd u
+carries z (Activity.EndScan answer) s c l rows told u = clears c answer l
+carries z (Activity.Put Put.Count) s c l rows told u = either c (has_room z (count_of told)) l.pairs _ _ _ _ (record { local = refl; done = refl; held = λ g. refl }) (record { local = refl; done = refl; held = λ g. refl })
+carries z (Activity.Put Put.Add) s c l rows told u = either c (has_room z (count_of told)) l.pairs _ _ _ _ (record { local = refl; done = refl; held = λ g. refl }) (record { local = refl; done = refl; held = λ g. refl })
+carries z (Activity.Put Put.Announce) s c l rows told u = either c (told == pend_word pend.Idle) l.pairs _ _ _ _ (record { local = refl; done = refl; held = λ g. refl }) (record { local = refl; done = refl; held = λ g. refl })
+carries z (Activity.Put Put.Stamp) s c l rows told u = stamps c (pend_of told) l
+carries z (Activity.Insert Insert.Link) s c l rows told u = inserts_from c z (cell_of_link_word told) l
+carries z (Activity.Insert Insert.Key) s c l rows told u = either c (nat_lt (key_of_word told) (first_key l.call)) l.pairs _ _ _ _ (record { local = refl; done = refl; held = λ g. refl }) (either c (key_of_word told == first_key l.call) l.pairs _ _ _ _ (record { local = refl; done = refl; held = λ g. refl }) (record { local = refl; done = refl; held = λ g. refl }))
+carries z (Activity.Insert Insert.Version) s c l rows told u = either c (is_newer (unwrap_or (version_of_word told) 0) l.place l) l.pairs _ _ _ _ (record { local = refl; done = refl; held = λ g. refl }) (record { local = refl; done = refl; held = λ g. refl })
+carries z (Activity.Insert Insert.Set) s c l rows told u = record { local = refl; done = refl; held = λ g. refl }
+carries z (Activity.Insert Insert.Exchange) s c l rows told u = inserts_tried c z (told == cell_link_word l.held) l
+carries z (Activity.Put Put.Clear) s c l rows told u = tidies c c rows l
+carries z (Activity.Put _) s c l rows told u = record { local = refl; done = refl; held = λ g. refl }
+carries z (Activity.Leave answer) s c l rows told u = absurd u
+carries z Activity.Retry s c l rows told u = rebalance_carries c z Activity.Retry s l rows told tt
+carries z (Activity.Enter Enter.LoadEpoch) s c l rows told u = rebalance_carries c z (Activity.Enter Enter.LoadEpoch) s l rows told tt
+carries z (Activity.Rebalance (Rebalance.Engage Engage.Clock)) s c l rows told u = rebalance_carries c z (Activity.Rebalance (Rebalance.Engage Engage.Clock)) s l rows told tt
+carries z (Activity.Rebalance (Rebalance.Engage Engage.Epoch)) s c l rows told u = rebalance_carries c z (Activity.Rebalance (Rebalance.Engage Engage.Epoch)) s l rows told tt
+carries z (Activity.Rebalance (Rebalance.Engage Engage.State)) s c l rows told u = rebalance_carries c z (Activity.Rebalance (Rebalance.Engage Engage.State)) s l rows told tt
+carries z (Activity.Rebalance (Rebalance.Engage (Engage.Normal seat))) s c l rows told u = rebalance_carries c z (Activity.Rebalance (Rebalance.Engage (Engage.Normal seat))) s l rows told tt
+carries z (Activity.Rebalance (Rebalance.Engage Engage.Lead)) s c l rows told u = rebalance_carries c z (Activity.Rebalance (Rebalance.Engage Engage.Lead)) s l rows told tt
+carries z (Activity.Rebalance (Rebalance.Engage (Engage.MarkLink count))) s c l rows told u = rebalance_carries c z (Activity.Rebalance (Rebalance.Engage (Engage.MarkLink count))) s l rows told tt
+carries z (Activity.Rebalance (Rebalance.Engage (Engage.Decide count))) s c l rows told u = rebalance_carries c z (Activity.Rebalance (Rebalance.Engage (Engage.Decide count))) s l rows told tt
+carries z (Activity.Rebalance (Rebalance.Freeze Freeze.Count)) s c l rows told u = rebalance_carries c z (Activity.Rebalance (Rebalance.Freeze Freeze.Count)) s l rows told tt
+carries z (Activity.Rebalance (Rebalance.Freeze (Freeze.Look i))) s c l rows told u = rebalance_carries c z (Activity.Rebalance (Rebalance.Freeze (Freeze.Look i))) s l rows told tt
+carries z (Activity.Rebalance (Rebalance.Freeze (Freeze.Entry i))) s c l rows told u = rebalance_carries c z (Activity.Rebalance (Rebalance.Freeze (Freeze.Entry i))) s l rows told tt
+carries z (Activity.Rebalance (Rebalance.Freeze (Freeze.Scan i))) s c l rows told u = rebalance_carries c z (Activity.Rebalance (Rebalance.Freeze (Freeze.Scan i))) s l rows told tt
+carries z (Activity.Rebalance (Rebalance.Freeze (Freeze.Draw i))) s c l rows told u = rebalance_carries c z (Activity.Rebalance (Rebalance.Freeze (Freeze.Draw i))) s l rows told tt
+carries z (Activity.Rebalance (Rebalance.Freeze (Freeze.Settle i))) s c l rows told u = rebalance_carries c z (Activity.Rebalance (Rebalance.Freeze (Freeze.Settle i))) s l rows told tt
+carries z (Activity.Rebalance (Rebalance.Gather Gather.Link)) s c l rows told u = rebalance_carries c z (Activity.Rebalance (Rebalance.Gather Gather.Link)) s l rows told tt
+carries z (Activity.Rebalance (Rebalance.Gather Gather.Key)) s c l rows told u = rebalance_carries c z (Activity.Rebalance (Rebalance.Gather Gather.Key)) s l rows told tt
+carries z (Activity.Rebalance (Rebalance.Gather Gather.Version)) s c l rows told u = rebalance_carries c z (Activity.Rebalance (Rebalance.Gather Gather.Version)) s l rows told tt
+carries z (Activity.Rebalance (Rebalance.Gather Gather.Value)) s c l rows told u = rebalance_carries c z (Activity.Rebalance (Rebalance.Gather Gather.Value)) s l rows told tt
+carries z (Activity.Rebalance (Rebalance.Gather Gather.LeftOverKey)) s c l rows told u = rebalance_carries c z (Activity.Rebalance (Rebalance.Gather Gather.LeftOverKey)) s l rows told tt
+carries z (Activity.Rebalance (Rebalance.Gather Gather.LeftOverValue)) s c l rows told u = rebalance_carries c z (Activity.Rebalance (Rebalance.Gather Gather.LeftOverValue)) s l rows told tt
+carries z (Activity.Rebalance (Rebalance.Seek Seek.First)) s c l rows told u = rebalance_carries c z (Activity.Rebalance (Rebalance.Seek Seek.First)) s l rows told tt
+carries z (Activity.Rebalance (Rebalance.Seek Seek.Next)) s c l rows told u = rebalance_carries c z (Activity.Rebalance (Rebalance.Seek Seek.Next)) s l rows told tt
+carries z (Activity.Rebalance (Rebalance.Seek (Seek.Pass i))) s c l rows told u = rebalance_carries c z (Activity.Rebalance (Rebalance.Seek (Seek.Pass i))) s l rows told tt
+carries z (Activity.Rebalance (Rebalance.Seek Seek.Reclaim)) s c l rows told u = rebalance_carries c z (Activity.Rebalance (Rebalance.Seek Seek.Reclaim)) s l rows told tt
+carries z (Activity.Rebalance (Rebalance.Seek Seek.Take)) s c l rows told u = rebalance_carries c z (Activity.Rebalance (Rebalance.Seek Seek.Take)) s l rows told tt
+carries z (Activity.Rebalance (Rebalance.Seek Seek.GiveBack)) s c l rows told u = rebalance_carries c z (Activity.Rebalance (Rebalance.Seek Seek.GiveBack)) s l rows told tt
+carries z (Activity.Rebalance (Rebalance.Write Write.Count)) s c l rows told u = rebalance_carries c z (Activity.Rebalance (Rebalance.Write Write.Count)) s l rows told tt
+carries z (Activity.Rebalance (Rebalance.Write Write.Least)) s c l rows told u = rebalance_carries c z (Activity.Rebalance (Rebalance.Write Write.Least)) s l rows told tt
+carries z (Activity.Rebalance (Rebalance.Write Write.Next)) s c l rows told u = rebalance_carries c z (Activity.Rebalance (Rebalance.Write Write.Next)) s l rows told tt
+carries z (Activity.Rebalance (Rebalance.Write Write.First)) s c l rows told u = rebalance_carries c z (Activity.Rebalance (Rebalance.Write Write.First)) s l rows told tt
+carries z (Activity.Rebalance (Rebalance.Write (Write.Entry i))) s c l rows told u = rebalance_carries c z (Activity.Rebalance (Rebalance.Write (Write.Entry i))) s l rows told tt
+carries z (Activity.Rebalance (Rebalance.Write (Write.Key j))) s c l rows told u = rebalance_carries c z (Activity.Rebalance (Rebalance.Write (Write.Key j))) s l rows told tt
+carries z (Activity.Rebalance (Rebalance.Write (Write.Value j))) s c l rows told u = rebalance_carries c z (Activity.Rebalance (Rebalance.Write (Write.Value j))) s l rows told tt
+carries z (Activity.Rebalance (Rebalance.Write (Write.Version j))) s c l rows told u = rebalance_carries c z (Activity.Rebalance (Rebalance.Write (Write.Version j))) s l rows told tt
+carries z (Activity.Rebalance (Rebalance.Write (Write.After j))) s c l rows told u = rebalance_carries c z (Activity.Rebalance (Rebalance.Write (Write.After j))) s l rows told tt
+carries z (Activity.Rebalance (Rebalance.Replace Replace.Start)) s c l rows told u = rebalance_carries c z (Activity.Rebalance (Rebalance.Replace Replace.Start)) s l rows told tt
+carries z (Activity.Rebalance (Rebalance.Replace Replace.GuessedLeast)) s c l rows told u = rebalance_carries c z (Activity.Rebalance (Rebalance.Replace Replace.GuessedLeast)) s l rows told tt
+carries z (Activity.Rebalance (Rebalance.Replace Replace.First)) s c l rows told u = rebalance_carries c z (Activity.Rebalance (Rebalance.Replace Replace.First)) s l rows told tt
+carries z (Activity.Rebalance (Rebalance.Replace Replace.Next)) s c l rows told u = rebalance_carries c z (Activity.Rebalance (Rebalance.Replace Replace.Next)) s l rows told tt
+carries z (Activity.Rebalance (Rebalance.Replace Replace.NextLeast)) s c l rows told u = rebalance_carries c z (Activity.Rebalance (Rebalance.Replace Replace.NextLeast)) s l rows told tt
+carries z (Activity.Rebalance (Rebalance.Replace Replace.Exchange)) s c l rows told u = rebalance_carries c z (Activity.Rebalance (Rebalance.Replace Replace.Exchange)) s l rows told tt
+carries z (Activity.Rebalance (Rebalance.Replace Replace.Normalise)) s c l rows told u = rebalance_carries c z (Activity.Rebalance (Rebalance.Replace Replace.Normalise)) s l rows told tt
+carries z (Activity.Rebalance (Rebalance.Replace Replace.Number)) s c l rows told u = rebalance_carries c z (Activity.Rebalance (Rebalance.Replace Replace.Number)) s l rows told tt
+carries z (Activity.Rebalance (Rebalance.Replace Replace.Retire)) s c l rows told u = rebalance_carries c z (Activity.Rebalance (Rebalance.Replace Replace.Retire)) s l rows told tt
 
 -- the operation is the same for code as for the seat, at every activity
 pub operates : (z : Sizes) (a : Activity) (s : ℕ) (c : Choice) (l : Local) → (transition z a s c (carried l)).operation ≡ (transition z a s c l).operation
-operates z Start s c l = starting c
+operates z (Activity.Walk Walk.Start) s c l = starting c
   where
     starting : (x : Choice) → (start_transition x (carried l)).operation ≡ (start_transition x l).operation
     starting (Begin call) = refl
     starting Go = refl
     starting (Guess r) = refl
     starting Stop = refl
-operates z Walk s c l = walking (is_stopped c l)
+operates z (Activity.Walk Walk.Next) s c l = walking (is_stopped c l)
   where
     walking : (b : Bool) → (walk_transition b s (carried l)).operation ≡ (walk_transition b s l).operation
     walking true = refl
     walking false = refl
-operates z SeekFirst s c l = seeking c
+operates z (Activity.Rebalance (Rebalance.Seek Seek.First)) s c l = seeking c
   where
     seeking : (x : Choice) → (seek_first_transition x (carried l)).operation ≡ (seek_first_transition x l).operation
     seeking (Begin call) = refl
     seeking Go = refl
     seeking (Guess r) = refl
     seeking Stop = refl
-operates z Before s c l = begins c
+operates z (Activity.Rebalance (Rebalance.Replace Replace.Start)) s c l = begins c
   where
     begins : (x : Choice) → (before_transition x (carried l)).operation ≡ (before_transition x l).operation
     begins (Begin call) = refl
     begins Go = refl
     begins (Guess r) = refl
     begins Stop = refl
+operates z (Activity.Enter Enter.Announce) s c l = refl
+operates z (Activity.Draw Draw.Clock) s c l = refl
+operates z (Activity.Look Look.Key) s c l = refl
+operates z (Activity.Read Read.Link) s c l = refl
+operates z (Activity.Put Put.Count) s c l = refl
+operates z (Activity.Insert Insert.Link) s c l = refl
+operates z (Activity.Rebalance (Rebalance.Engage Engage.Clock)) s c l = refl
+operates z (Activity.Rebalance (Rebalance.Freeze Freeze.Count)) s c l = refl
+operates z (Activity.Rebalance (Rebalance.Gather Gather.Link)) s c l = refl
+operates z (Activity.Rebalance (Rebalance.Write Write.Count)) s c l = refl
 operates z _ s c l = refl

@@ -15,7 +15,14 @@ use Rattle.kw_words.specs.Plain.{key_of_word, value_of_word, pass_of_word, cell_
 use Rattle.kw_words.specs.Scan.{scan_of}
 use Rattle.kw_words.specs.State.{state_of, state_word}
 use Rattle.kw_world.specs.declared.activity.Activity.{Activity}
-use Rattle.kw_world.specs.declared.activity.Activity.TheVariants.{Again, AgainEpoch, BalClock, BalEpoch, BalState, BalNormal, Engage, MarkLink, Decide, FreezeCount, FreezeLook, Freeze, ScanLook, HelpDraw, HelpSettle, TakeFrom, TakeKey, TakeVersion, TakeValue, TakeRestKey, TakeRestValue, SeekFirst, Seek, SeekPass, Reclaim, TakeRow, GiveBack, WriteCount, WriteMin, WriteNext, WriteFirst, WritePend, WriteKey, WriteValue, WriteVersion, WriteAfter, Before, BeforeGuess, BeforeHead, BeforeLink, BeforeMin, Replace, Normalise, Number, Retire}
+use Rattle.kw_world.specs.declared.activity.rebalance.engage.Engage.TheVariants as Engage
+use Rattle.kw_world.specs.declared.activity.enter.Enter.TheVariants as Enter
+use Rattle.kw_world.specs.declared.activity.rebalance.freeze.Freeze.TheVariants as Freeze
+use Rattle.kw_world.specs.declared.activity.rebalance.gather.Gather.TheVariants as Gather
+use Rattle.kw_world.specs.declared.activity.rebalance.Rebalance.TheVariants as Rebalance
+use Rattle.kw_world.specs.declared.activity.rebalance.replace.Replace.TheVariants as Replace
+use Rattle.kw_world.specs.declared.activity.rebalance.seek.Seek.TheVariants as Seek
+use Rattle.kw_world.specs.declared.activity.rebalance.write.Write.TheVariants as Write
 use Rattle.kw_world.specs.declared.event.Choice.{Choice}
 use Rattle.kw_world.specs.declared.event.Choice.TheVariants.{Begin, Go, Guess, Stop}
 use Rattle.kw_world.specs.declared.local.Local.{Local}
@@ -37,51 +44,9 @@ use Rattle.kw_follow.proofs.Carries.{Carries, either}
 
 -- one of the activities of a rebalance
 abbrev pub IsRebalancing : Activity → Type 0
-IsRebalancing Again = Unit {0}
-IsRebalancing AgainEpoch = Unit {0}
-IsRebalancing BalClock = Unit {0}
-IsRebalancing BalEpoch = Unit {0}
-IsRebalancing BalState = Unit {0}
-IsRebalancing (BalNormal seat) = Unit {0}
-IsRebalancing Engage = Unit {0}
-IsRebalancing (MarkLink count) = Unit {0}
-IsRebalancing (Decide count) = Unit {0}
-IsRebalancing FreezeCount = Unit {0}
-IsRebalancing (FreezeLook i) = Unit {0}
-IsRebalancing (Freeze i) = Unit {0}
-IsRebalancing (ScanLook i) = Unit {0}
-IsRebalancing (HelpDraw i) = Unit {0}
-IsRebalancing (HelpSettle i) = Unit {0}
-IsRebalancing TakeFrom = Unit {0}
-IsRebalancing TakeKey = Unit {0}
-IsRebalancing TakeVersion = Unit {0}
-IsRebalancing TakeValue = Unit {0}
-IsRebalancing TakeRestKey = Unit {0}
-IsRebalancing TakeRestValue = Unit {0}
-IsRebalancing SeekFirst = Unit {0}
-IsRebalancing Seek = Unit {0}
-IsRebalancing (SeekPass i) = Unit {0}
-IsRebalancing Reclaim = Unit {0}
-IsRebalancing TakeRow = Unit {0}
-IsRebalancing GiveBack = Unit {0}
-IsRebalancing WriteCount = Unit {0}
-IsRebalancing WriteMin = Unit {0}
-IsRebalancing WriteNext = Unit {0}
-IsRebalancing WriteFirst = Unit {0}
-IsRebalancing (WritePend i) = Unit {0}
-IsRebalancing (WriteKey j) = Unit {0}
-IsRebalancing (WriteValue j) = Unit {0}
-IsRebalancing (WriteVersion j) = Unit {0}
-IsRebalancing (WriteAfter j) = Unit {0}
-IsRebalancing Before = Unit {0}
-IsRebalancing BeforeGuess = Unit {0}
-IsRebalancing BeforeHead = Unit {0}
-IsRebalancing BeforeLink = Unit {0}
-IsRebalancing BeforeMin = Unit {0}
-IsRebalancing Replace = Unit {0}
-IsRebalancing Normalise = Unit {0}
-IsRebalancing Number = Unit {0}
-IsRebalancing Retire = Unit {0}
+IsRebalancing Activity.Retry = Unit {0}
+IsRebalancing (Activity.Enter Enter.LoadEpoch) = Unit {0}
+IsRebalancing (Activity.Rebalance _) = Unit {0}
 IsRebalancing _ = ⊥
 
 module _ (c : Choice) where
@@ -236,49 +201,41 @@ module _ (c : Choice) where
 
   -- what follows from an event of a rebalance
   pub rebalance_carries : (z : Sizes) (a : Activity) (s : ℕ) (l : Local) (rows told : ℕ) → IsRebalancing a → Carries c l.pairs ((transition z a s c l).next rows told) ((transition z a s c (carried l)).next rows told)
-  rebalance_carries z Again s l rows told u = record { local = refl; done = refl; held = λ g. refl }
-  rebalance_carries z AgainEpoch s l rows told u = record { local = refl; done = refl; held = λ g. refl }
-  rebalance_carries z BalClock s l rows told u = either c (nat_le SPENT told) l.pairs _ _ _ _ (record { local = refl; done = refl; held = λ g. refl }) (record { local = refl; done = refl; held = λ g. refl })
-  rebalance_carries z BalEpoch s l rows told u = either c (nat_le SPENT told) l.pairs _ _ _ _ (record { local = refl; done = refl; held = λ g. refl }) (record { local = refl; done = refl; held = λ g. refl })
-  rebalance_carries z BalState s l rows told u = state_carries (state_of told) l
-  rebalance_carries z (BalNormal seat) s l rows told u = record { local = refl; done = refl; held = λ g. refl }
-  rebalance_carries z Engage s l rows told u = engaged_carries (told == state_word Normal) l
-  rebalance_carries z (MarkLink count) s l rows told u = marked_carries count (row_linked (link_of told)) l
-  rebalance_carries z (Decide count) s l rows told u = decided_carries (state_of told) l
-  rebalance_carries z FreezeCount s l rows told u = record { local = refl; done = refl; held = λ g. refl }
-  rebalance_carries z (FreezeLook i) s l rows told u = freeze_carries z i (pend_of told) l
-  rebalance_carries z (Freeze i) s l rows told u = entry_carries z i (told == pend_word l.rebalance.entry) l
-  rebalance_carries z (ScanLook i) s l rows told u = scan_met_carries z i (scan_of told) l
-  rebalance_carries z (HelpDraw i) s l rows told u = record { local = refl; done = refl; held = λ g. refl }
-  rebalance_carries z (HelpSettle i) s l rows told u = helped_carries z i (scan_of told) l
-  rebalance_carries z TakeFrom s l rows told u = take_carries z (cell_of_link_word told) l
-  rebalance_carries z TakeKey s l rows told u = record { local = refl; done = refl; held = λ g. refl }
-  rebalance_carries z TakeVersion s l rows told u = record { local = refl; done = refl; held = λ g. refl }
-  rebalance_carries z TakeValue s l rows told u = record { local = refl; done = refl; held = λ g. refl }
-  rebalance_carries z TakeRestKey s l rows told u = record { local = refl; done = refl; held = λ g. refl }
-  rebalance_carries z TakeRestValue s l rows told u = left_carries z (least_mark l.rebalance.marks) (keeping z (value_of_word told) l)
-  rebalance_carries z SeekFirst s l rows told u = seek_first_carries c l rows told
-  rebalance_carries z Seek s l rows told u = seek_carries rows (state_of told) (seeking l.rebalance.sought l)
-  rebalance_carries z (SeekPass i) s l rows told u = pass_carries z i rows (pass_of_word told) l
-  rebalance_carries z Reclaim s l rows told u = record { local = refl; done = refl; held = λ g. refl }
-  rebalance_carries z TakeRow s l rows told u = take_row_carries rows (told == state_word Free) l
-  rebalance_carries z GiveBack s l rows told u = gave_back_carries l
-  rebalance_carries z WriteCount s l rows told u = record { local = refl; done = refl; held = λ g. refl }
-  rebalance_carries z WriteMin s l rows told u = record { local = refl; done = refl; held = λ g. refl }
-  rebalance_carries z WriteNext s l rows told u = record { local = refl; done = refl; held = λ g. refl }
-  rebalance_carries z WriteFirst s l rows told u = write_entry_carries z 0 l
-  rebalance_carries z (WritePend i) s l rows told u = write_entry_carries z (i + 1) l
-  rebalance_carries z (WriteKey j) s l rows told u = record { local = refl; done = refl; held = λ g. refl }
-  rebalance_carries z (WriteValue j) s l rows told u = record { local = refl; done = refl; held = λ g. refl }
-  rebalance_carries z (WriteVersion j) s l rows told u = record { local = refl; done = refl; held = λ g. refl }
-  rebalance_carries z (WriteAfter j) s l rows told u = write_cell_carries z (j + 1) l
-  rebalance_carries z Before s l rows told u = before_carries c l rows told
-  rebalance_carries z BeforeGuess s l rows told u = either c (nat_lt (key_of_word told) l.lower) l.pairs _ _ _ _ (record { local = refl; done = refl; held = λ g. refl }) (record { local = refl; done = refl; held = λ g. refl })
-  rebalance_carries z BeforeHead s l rows told u = first_before_carries (row_or_first (row_linked (link_of told))) l
-  rebalance_carries z BeforeLink s l rows told u = link_before_carries (link_of told) l
-  rebalance_carries z BeforeMin s l rows told u = either c (nat_lt (key_of_word told) l.lower) l.pairs _ _ _ _ (record { local = refl; done = refl; held = λ g. refl }) (give_back_carries TryAgain l)
-  rebalance_carries z Replace s l rows told u = replaced_carries (link_of told) l
-  rebalance_carries z Normalise s l rows told u = either c (has_more l) l.pairs _ _ _ _ (record { local = refl; done = refl; held = λ g. refl }) (record { local = refl; done = refl; held = λ g. refl })
-  rebalance_carries z Number s l rows told u = record { local = refl; done = refl; held = λ g. refl }
-  rebalance_carries z Retire s l rows told u = record { local = refl; done = refl; held = λ g. refl }
+  rebalance_carries z Activity.Retry s l rows told u = record { local = refl; done = refl; held = λ g. refl }
+  rebalance_carries z (Activity.Enter Enter.LoadEpoch) s l rows told u = record { local = refl; done = refl; held = λ g. refl }
+  rebalance_carries z (Activity.Rebalance (Rebalance.Engage Engage.Clock)) s l rows told u = either c (nat_le SPENT told) l.pairs _ _ _ _ (record { local = refl; done = refl; held = λ g. refl }) (record { local = refl; done = refl; held = λ g. refl })
+  rebalance_carries z (Activity.Rebalance (Rebalance.Engage Engage.Epoch)) s l rows told u = either c (nat_le SPENT told) l.pairs _ _ _ _ (record { local = refl; done = refl; held = λ g. refl }) (record { local = refl; done = refl; held = λ g. refl })
+  rebalance_carries z (Activity.Rebalance (Rebalance.Engage Engage.State)) s l rows told u = state_carries (state_of told) l
+  rebalance_carries z (Activity.Rebalance (Rebalance.Engage (Engage.Normal seat))) s l rows told u = record { local = refl; done = refl; held = λ g. refl }
+  rebalance_carries z (Activity.Rebalance (Rebalance.Engage Engage.Lead)) s l rows told u = engaged_carries (told == state_word Normal) l
+  rebalance_carries z (Activity.Rebalance (Rebalance.Engage (Engage.MarkLink count))) s l rows told u = marked_carries count (row_linked (link_of told)) l
+  rebalance_carries z (Activity.Rebalance (Rebalance.Engage (Engage.Decide count))) s l rows told u = decided_carries (state_of told) l
+  rebalance_carries z (Activity.Rebalance (Rebalance.Freeze Freeze.Count)) s l rows told u = record { local = refl; done = refl; held = λ g. refl }
+  rebalance_carries z (Activity.Rebalance (Rebalance.Freeze (Freeze.Look i))) s l rows told u = freeze_carries z i (pend_of told) l
+  rebalance_carries z (Activity.Rebalance (Rebalance.Freeze (Freeze.Entry i))) s l rows told u = entry_carries z i (told == pend_word l.rebalance.entry) l
+  rebalance_carries z (Activity.Rebalance (Rebalance.Freeze (Freeze.Scan i))) s l rows told u = scan_met_carries z i (scan_of told) l
+  rebalance_carries z (Activity.Rebalance (Rebalance.Freeze (Freeze.Draw i))) s l rows told u = record { local = refl; done = refl; held = λ g. refl }
+  rebalance_carries z (Activity.Rebalance (Rebalance.Freeze (Freeze.Settle i))) s l rows told u = helped_carries z i (scan_of told) l
+  rebalance_carries z (Activity.Rebalance (Rebalance.Gather Gather.Link)) s l rows told u = take_carries z (cell_of_link_word told) l
+  rebalance_carries z (Activity.Rebalance (Rebalance.Gather Gather.LeftOverValue)) s l rows told u = left_carries z (least_mark l.rebalance.marks) (keeping z (value_of_word told) l)
+  rebalance_carries z (Activity.Rebalance (Rebalance.Gather _)) s l rows told u = record { local = refl; done = refl; held = λ g. refl }
+  rebalance_carries z (Activity.Rebalance (Rebalance.Seek Seek.First)) s l rows told u = seek_first_carries c l rows told
+  rebalance_carries z (Activity.Rebalance (Rebalance.Seek Seek.Next)) s l rows told u = seek_carries rows (state_of told) (seeking l.rebalance.sought l)
+  rebalance_carries z (Activity.Rebalance (Rebalance.Seek (Seek.Pass i))) s l rows told u = pass_carries z i rows (pass_of_word told) l
+  rebalance_carries z (Activity.Rebalance (Rebalance.Seek Seek.Reclaim)) s l rows told u = record { local = refl; done = refl; held = λ g. refl }
+  rebalance_carries z (Activity.Rebalance (Rebalance.Seek Seek.Take)) s l rows told u = take_row_carries rows (told == state_word Free) l
+  rebalance_carries z (Activity.Rebalance (Rebalance.Seek Seek.GiveBack)) s l rows told u = gave_back_carries l
+  rebalance_carries z (Activity.Rebalance (Rebalance.Write Write.First)) s l rows told u = write_entry_carries z 0 l
+  rebalance_carries z (Activity.Rebalance (Rebalance.Write (Write.Entry i))) s l rows told u = write_entry_carries z (i + 1) l
+  rebalance_carries z (Activity.Rebalance (Rebalance.Write (Write.After j))) s l rows told u = write_cell_carries z (j + 1) l
+  rebalance_carries z (Activity.Rebalance (Rebalance.Write _)) s l rows told u = record { local = refl; done = refl; held = λ g. refl }
+  rebalance_carries z (Activity.Rebalance (Rebalance.Replace Replace.Start)) s l rows told u = before_carries c l rows told
+  rebalance_carries z (Activity.Rebalance (Rebalance.Replace Replace.GuessedLeast)) s l rows told u = either c (nat_lt (key_of_word told) l.lower) l.pairs _ _ _ _ (record { local = refl; done = refl; held = λ g. refl }) (record { local = refl; done = refl; held = λ g. refl })
+  rebalance_carries z (Activity.Rebalance (Rebalance.Replace Replace.First)) s l rows told u = first_before_carries (row_or_first (row_linked (link_of told))) l
+  rebalance_carries z (Activity.Rebalance (Rebalance.Replace Replace.Next)) s l rows told u = link_before_carries (link_of told) l
+  rebalance_carries z (Activity.Rebalance (Rebalance.Replace Replace.NextLeast)) s l rows told u = either c (nat_lt (key_of_word told) l.lower) l.pairs _ _ _ _ (record { local = refl; done = refl; held = λ g. refl }) (give_back_carries TryAgain l)
+  rebalance_carries z (Activity.Rebalance (Rebalance.Replace Replace.Exchange)) s l rows told u = replaced_carries (link_of told) l
+  rebalance_carries z (Activity.Rebalance (Rebalance.Replace Replace.Normalise)) s l rows told u = either c (has_more l) l.pairs _ _ _ _ (record { local = refl; done = refl; held = λ g. refl }) (record { local = refl; done = refl; held = λ g. refl })
+  rebalance_carries z (Activity.Rebalance (Rebalance.Replace Replace.Number)) s l rows told u = record { local = refl; done = refl; held = λ g. refl }
+  rebalance_carries z (Activity.Rebalance (Rebalance.Replace Replace.Retire)) s l rows told u = record { local = refl; done = refl; held = λ g. refl }
   rebalance_carries z _ s l rows told u = absurd u

@@ -5,7 +5,6 @@ use Rattle.kw_words.specs.declared.layout.Name.TheVariants.{Scan}
 use Rattle.kw_words.specs.declared.scan.ScanWord.TheVariants.{Quiet, Waiting, Drawn}
 use Rattle.kw_words.specs.Scan.{IsScan, scan_word}
 use Rattle.kw_world.specs.declared.activity.Activity.{Activity}
-use Rattle.kw_world.specs.declared.activity.Activity.TheVariants.{ScanClock, ScanWait, ScanDraw, ScanSettle, ClearScan}
 use Rattle.kw_world.specs.declared.answer.Answer.{Answer}
 use Rattle.kw_world.specs.declared.event.Choice.{Choice}
 use Rattle.kw_world.specs.declared.local.Local.{Local}
@@ -28,10 +27,7 @@ use Rattle.kw_follow.proofs.OneEvent.{asks, begins_in, moves_in}
 
 -- a scan that gets its version is in the middle of its call
 pub draw_within : (a : Activity) → IsDrawing a → IsWithinCall a
-draw_within ScanClock d = tt
-draw_within ScanWait d = tt
-draw_within ScanDraw d = tt
-draw_within ScanSettle d = tt
+draw_within (Activity.Draw _) d = tt
 draw_within _ d = absurd d
 
 -- the words of a scan are in range
@@ -42,7 +38,7 @@ pub drawn_fits : (l : Local) → IsLocal product l → IsScan (Drawn l.drawn)
 drawn_fits l k = k.drawn
 
 -- the store that ends a scan, whatever the choice
-pub asks_clear : (s : Shared) (p : Pass) (c : Choice) (l : Local) (answer : Answer) (n x : ℕ) → Follows s p l → l.activity ≡ ClearScan answer → n ≡ (view p).number → x ≡ scan_word Quiet → Asks s p c (operation kind.ClearScan (Scan n) (Store x))
+pub asks_clear : (s : Shared) (p : Pass) (c : Choice) (l : Local) (answer : Answer) (n x : ℕ) → Follows s p l → l.activity ≡ Activity.EndScan answer → n ≡ (view p).number → x ≡ scan_word Quiet → Asks s p c (operation kind.ClearScan (Scan n) (Store x))
 unfolding transition_of
 asks_clear s p c l answer n x f is number word =
     let busy : IsBusy l.activity = subst IsBusy (sym is) tt in
@@ -51,7 +47,7 @@ asks_clear s p c l answer n x f is number word =
     (asks s p c l s.opening.rows (view p).number (offered s.opening.rows c) _ f (begins_in s p l c f busy) (moves_in s p l c f busy) refl refl refl (ap (λ a. (transition product a (view p).number (offered s.opening.rows c) l).operation) (sym is))))
 
 -- and what follows is what the line says
-pub clears_at : (rows : ℕ) (c : Choice) (answer : Answer) (l : Local) (told : ℕ) → l.activity ≡ ClearScan answer → leave (answer_or_stopped answer c) l ≡ next_of product rows (offered rows c) l told
+pub clears_at : (rows : ℕ) (c : Choice) (answer : Answer) (l : Local) (told : ℕ) → l.activity ≡ Activity.EndScan answer → leave (answer_or_stopped answer c) l ≡ next_of product rows (offered rows c) l told
 unfolding transition_of
 clears_at rows c answer l told is =
     ap (λ a. leave a l) (sym (offered_stopped rows c answer))

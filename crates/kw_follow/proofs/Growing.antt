@@ -4,7 +4,6 @@ use Rattle.kw_model.specs.declared.call.Call.{Call}
 use Rattle.kw_world.specs.declared.answer.Answer.{Answer}
 use Rattle.kw_world.specs.Answers.{reply_of}
 use Rattle.kw_world.specs.declared.activity.Activity.{Activity}
-use Rattle.kw_world.specs.declared.activity.Activity.TheVariants.{Idle, Leave}
 use Rattle.kw_world.specs.declared.event.Choice.{Choice}
 use Rattle.kw_world.specs.declared.event.Choice.TheVariants.{Begin, Go}
 use Rattle.kw_world.specs.declared.event.Event.{Event}
@@ -84,13 +83,13 @@ module _ {s : Shared} {p q : Pass} {c : Choice} {told : ℕ} (makes : Makes s p 
 
 -- the seat is in the middle of a call, which its event does not end
 abbrev pub IsStaying : Activity → Type 0
-IsStaying Idle = ⊥
-IsStaying (Leave answer) = ⊥
+IsStaying Activity.Idle = ⊥
+IsStaying (Activity.Leave answer) = ⊥
 IsStaying _ = Unit {0}
 
 stays_after : (a : Activity) (c : Choice) (l : Local) (n : ℕ) (cs : List CallSeen) → IsStaying a → seen_after a c l n cs ≡ cs
-stays_after Idle c l n cs u = absurd u
-stays_after (Leave answer) c l n cs u = absurd u
+stays_after Activity.Idle c l n cs u = absurd u
+stays_after (Activity.Leave answer) c l n cs u = absurd u
 stays_after _ c l n cs u = refl
 
 module _ {s : Shared} {p q : Pass} {told : ℕ} where
@@ -99,7 +98,7 @@ module _ {s : Shared} {p q : Pass} {told : ℕ} where
   keeps {c} makes u = grows makes ∙ stays_after (activity_in p) c _ _ (calls_in p) u
 
   -- an idle pass begins a call
-  pub opens : {call : Call} → Makes s p (Begin call) told q → activity_in p ≡ Idle → Opens p q call
+  pub opens : {call : Call} → Makes s p (Begin call) told q → activity_in p ≡ Activity.Idle → Opens p q call
   opens {call} makes idle = record {
     first = length makes.step.front;
     number = (local_in (view p)).number + 1;
@@ -108,7 +107,7 @@ module _ {s : Shared} {p q : Pass} {told : ℕ} where
   }
 
   -- a pass that leaves ends its last call
-  pub closes : (answer : Answer) → Makes s p Go told q → activity_in p ≡ Leave answer → Closes p q (reply_of answer (held p))
+  pub closes : (answer : Answer) → Makes s p Go told q → activity_in p ≡ Activity.Leave answer → Closes p q (reply_of answer (held p))
   closes answer makes leaves = record {
     last = length makes.step.front;
     ends = ends_before makes;

@@ -3,7 +3,20 @@ use Rattle.std.proofs.Common.{ℕ, ◌≡◌, ◌≤◌, Bool, true, false, [], 
 use Rattle.std.proofs.lemmas.List.Elements.{All-nil}
 use mathlib.Core.List.{IsPrefix}
 use Rattle.kw_world.specs.declared.activity.Activity.{Activity}
-use Rattle.kw_world.specs.declared.activity.Activity.TheVariants.{Idle, LookKey, LookClock, LookHelp, ClearScan, Leave}
+use Rattle.kw_world.specs.declared.activity.look.Look.TheVariants as Look
+use Rattle.kw_world.specs.declared.activity.draw.Draw.TheVariants as Draw
+use Rattle.kw_world.specs.declared.activity.rebalance.engage.Engage.TheVariants as Engage
+use Rattle.kw_world.specs.declared.activity.enter.Enter.TheVariants as Enter
+use Rattle.kw_world.specs.declared.activity.rebalance.freeze.Freeze.TheVariants as Freeze
+use Rattle.kw_world.specs.declared.activity.rebalance.gather.Gather.TheVariants as Gather
+use Rattle.kw_world.specs.declared.activity.insert.Insert.TheVariants as Insert
+use Rattle.kw_world.specs.declared.activity.put.Put.TheVariants as Put
+use Rattle.kw_world.specs.declared.activity.read.Read.TheVariants as Read
+use Rattle.kw_world.specs.declared.activity.rebalance.Rebalance.TheVariants as Rebalance
+use Rattle.kw_world.specs.declared.activity.rebalance.replace.Replace.TheVariants as Replace
+use Rattle.kw_world.specs.declared.activity.rebalance.seek.Seek.TheVariants as Seek
+use Rattle.kw_world.specs.declared.activity.walk.Walk.TheVariants as Walk
+use Rattle.kw_world.specs.declared.activity.rebalance.write.Write.TheVariants as Write
 use Rattle.kw_world.specs.declared.event.Choice.{Choice}
 use Rattle.kw_world.specs.declared.event.Choice.TheVariants.{Begin, Go, Guess, Stop}
 use Rattle.kw_world.specs.declared.event.StepDone.{StepDone}
@@ -75,9 +88,21 @@ carried_in_range z l k = record {
 
 -- how much room a seat has does not depend on what code leaves out
 carried_marks : (z : Sizes) (a : Activity) (l : Local) → marks_by z a l ≡ marks_by z a (carried l)
-carried_marks z LookKey l = refl
-carried_marks z LookClock l = refl
-carried_marks z LookHelp l = refl
+carried_marks z (Activity.Look Look.Key) l = refl
+carried_marks z (Activity.Look Look.Clock) l = refl
+carried_marks z (Activity.Look Look.Help) l = refl
+carried_marks z (Activity.Enter Enter.Announce) l = refl
+carried_marks z (Activity.Draw Draw.Clock) l = refl
+carried_marks z (Activity.Walk Walk.First) l = refl
+carried_marks z (Activity.Read Read.Link) l = refl
+carried_marks z (Activity.Put Put.Count) l = refl
+carried_marks z (Activity.Insert Insert.Link) l = refl
+carried_marks z (Activity.Rebalance (Rebalance.Engage Engage.Clock)) l = refl
+carried_marks z (Activity.Rebalance (Rebalance.Freeze Freeze.Count)) l = refl
+carried_marks z (Activity.Rebalance (Rebalance.Gather Gather.Link)) l = refl
+carried_marks z (Activity.Rebalance (Rebalance.Seek Seek.Next)) l = refl
+carried_marks z (Activity.Rebalance (Rebalance.Write Write.Count)) l = refl
+carried_marks z (Activity.Rebalance (Rebalance.Replace Replace.First)) l = refl
 carried_marks z _ l = refl
 
 carried_room : (z : Sizes) (l : Local) → HasRoom z l → HasRoom z (carried l)
@@ -150,7 +175,7 @@ offered_stop rows Stop n = n
 
 -- an event of a seat that makes a call is not skipped
 busy_moves : (a : Activity) (c : Choice) → IsBusy a → is_skipped a c ≡ false
-busy_moves Idle c u = absurd u
+busy_moves Activity.Idle c u = absurd u
 busy_moves _ c u = refl
 
 pub moves_in : (s : Shared) (p : Pass) (l : Local) (c : Choice) → Follows s p l → IsBusy l.activity → is_skipped (activity_in p) c ≡ false
@@ -158,27 +183,27 @@ moves_in s p l c f u = busy_moves (activity_in p) c (subst (λ (k : Local). IsBu
 
 -- and begins no call
 busy_begins : (a : Activity) (c : Choice) → IsBusy a → may_begin a c ≡ true
-busy_begins Idle c u = absurd u
+busy_begins Activity.Idle c u = absurd u
 busy_begins _ c u = refl
 
 pub begins_in : (s : Shared) (p : Pass) (l : Local) (c : Choice) → Follows s p l → IsBusy l.activity → may_begin (activity_in p) c ≡ true
 begins_in s p l c f u = busy_begins (activity_in p) c (subst (λ (k : Local). IsBusy k.activity) f.carries u)
 
 pub within_busy : (a : Activity) → IsWithinCall a → IsBusy a
-within_busy Idle u = u
+within_busy Activity.Idle u = u
 within_busy _ u = tt
 
 -- a seat goes on where code does
 pub within_goes : (a : Activity) → IsWithinCall a → IsGoingOn a
-within_goes (ClearScan answer) u = tt
+within_goes (Activity.EndScan answer) u = tt
 within_goes _ u = u
 
 pub goes_in : (s : Shared) (p : Pass) (l : Local) → Follows s p l → IsGoingOn l.activity → IsGoingOn (activity_in p)
 goes_in s p l f u = subst (λ (k : Local). IsGoingOn k.activity) f.carries u
 
 pub goes_stay : (a : Activity) → IsGoingOn a → IsStaying a
-goes_stay Idle u = u
-goes_stay (Leave answer) u = u
+goes_stay Activity.Idle u = u
+goes_stay (Activity.Leave answer) u = u
 goes_stay _ u = tt
 
 -- both do the same

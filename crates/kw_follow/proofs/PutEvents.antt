@@ -8,7 +8,7 @@ use Rattle.kw_words.specs.declared.layout.Name.{Name}
 use Rattle.kw_words.specs.Plain.{IsCell}
 use Rattle.kw_words.specs.declared.sizes.TheConstants.{CELLS}
 use Rattle.kw_world.specs.declared.activity.Activity.{Activity}
-use Rattle.kw_world.specs.declared.activity.Activity.TheVariants.{PutCount, PutAdd, PutKey, PutValue, Announce, PutClock, Stamp, PutVersion, InsFrom, InsKey, InsVer, InsSet, Insert, PutClear}
+use Rattle.kw_world.specs.declared.activity.insert.Insert.TheVariants as Insert
 use Rattle.kw_world.specs.declared.event.Choice.TheVariants.{Go}
 use Rattle.kw_world.specs.declared.local.Local.{Local}
 use Rattle.kw_world.specs.declared.operation.Action.TheVariants.{Load, Store, Exchange}
@@ -51,20 +51,8 @@ stamped_fits l k = (omega (arith, k.cell), k.version.0, k.version.1)
 
 -- a put at its row is in the middle of its call
 pub put_within : (a : Activity) → is_putting a ≡ true → IsWithinCall a
-put_within PutCount m = tt
-put_within PutAdd m = tt
-put_within PutKey m = tt
-put_within PutValue m = tt
-put_within Announce m = tt
-put_within PutClock m = tt
-put_within Stamp m = tt
-put_within PutVersion m = tt
-put_within InsFrom m = tt
-put_within InsKey m = tt
-put_within InsVer m = tt
-put_within InsSet m = tt
-put_within Insert m = tt
-put_within PutClear m = tt
+put_within (Activity.Put _) m = tt
+put_within (Activity.Insert _) m = tt
 put_within _ m = let x : false ≡ true = m in absurd (cc)
 
 -- a store, and an exchange, with the words that code packs
@@ -85,5 +73,5 @@ asks_exchanged s p l a k n m x y u w f is busy name expected stored line =
     (subst (Asks s p Go) (sym line) (asks_at s p l a f is busy))))
 
 -- the load of a link
-pub asks_link : (s : Shared) (p : Pass) (l : Local) (n : Name) → Follows s p l → l.activity ≡ InsFrom → n ≡ link_name l.row l.link → Asks s p Go (operation kind.LoadAfter n Load)
-asks_link s p l n f is name = subst (λ (m : Name). Asks s p Go (operation kind.LoadAfter m Load)) (sym name) (asks_at s p l InsFrom f is tt)
+pub asks_link : (s : Shared) (p : Pass) (l : Local) (n : Name) → Follows s p l → l.activity ≡ Activity.Insert Insert.Link → n ≡ link_name l.row l.link → Asks s p Go (operation kind.LoadAfter n Load)
+asks_link s p l n f is name = subst (λ (m : Name). Asks s p Go (operation kind.LoadAfter m Load)) (sym name) (asks_at s p l (Activity.Insert Insert.Link) f is tt)

@@ -7,7 +7,9 @@ use Rattle.kw_words.specs.declared.layout.Name.{Name}
 use Rattle.kw_model.specs.declared.call.Call.{Call}
 use Rattle.kw_model.specs.declared.call.Call.TheVariants.{Put, Del, Get, Scan}
 use Rattle.kw_world.specs.declared.activity.Activity.{Activity}
-use Rattle.kw_world.specs.declared.activity.Activity.TheVariants.{ListFrom, ListKey, ListVer, ListVal, RestKey, RestVal}
+use Rattle.kw_world.specs.declared.activity.read.Read.TheVariants as Read
+use Rattle.kw_world.specs.declared.activity.rebalance.Rebalance.TheVariants as Rebalance
+use Rattle.kw_world.specs.declared.activity.rebalance.seek.Seek.TheVariants as Seek
 use mathlib.Core.List.{IsPrefix}
 use Rattle.kw_world.specs.declared.event.Choice.{Choice}
 use Rattle.kw_world.specs.declared.event.Choice.TheVariants.{Go}
@@ -37,23 +39,19 @@ use Rattle.kw_follow.proofs.PutEvents.{asks_at, next_at}
 -- Where a reader is.
 
 pub taking_stays : (a : Activity) → IsTaking a → IsStaying a
-taking_stays ListFrom m = tt
-taking_stays ListKey m = tt
-taking_stays ListVer m = tt
-taking_stays ListVal m = tt
-taking_stays RestKey m = tt
-taking_stays RestVal m = tt
+taking_stays (Activity.Read _) m = tt
+taking_stays (Activity.Rebalance (Rebalance.Seek Seek.Next)) m = absurd m
 taking_stays _ m = absurd m
 
 -- it reads the row also at a cell that it remembers
 pub remembered_taking : (a : Activity) → IsAtRemembered a → IsTaking a
-remembered_taking RestKey m = tt
-remembered_taking RestVal m = tt
+remembered_taking (Activity.Read Read.LeftOverKey) m = tt
+remembered_taking (Activity.Read Read.LeftOverValue) m = tt
 remembered_taking _ m = absurd m
 
 -- the load of a link
-pub asks_list_link : (s : Shared) (p : Pass) (l : Local) (n : Name) → Follows s p l → l.activity ≡ ListFrom → n ≡ link_name l.row l.link → Asks s p Go (operation kind.LoadAfter n Load)
-asks_list_link s p l n f is name = subst (λ (m : Name). Asks s p Go (operation kind.LoadAfter m Load)) (sym name) (asks_at s p l ListFrom f is tt)
+pub asks_list_link : (s : Shared) (p : Pass) (l : Local) (n : Name) → Follows s p l → l.activity ≡ Activity.Read Read.Link → n ≡ link_name l.row l.link → Asks s p Go (operation kind.LoadAfter n Load)
+asks_list_link s p l n f is name = subst (λ (m : Name). Asks s p Go (operation kind.LoadAfter m Load)) (sym name) (asks_at s p l (Activity.Read Read.Link) f is tt)
 
 -- One event of a pass, and of code that follows it.
 
@@ -111,7 +109,7 @@ pub passed_on : (key : ℕ) (l m : Local) → key < first_key l.call → Carries
 passed_on key l m below on =
     let lower : nat_lt key (first_key l.call) ≡ true = lt-ltb key (first_key l.call) below in
     record {
-      carries = λ begun added. on.carries begun added ∙ ap (λ (b : Bool). carried (if b then list_past (record l { number = begun; pairs = added }) else if nat_le key (last_key l.call) then to ListVer (record l { number = begun; pairs = added; place_key = key }) else to_rest (record l { number = begun; pairs = added })).local) (sym lower);
+      carries = λ begun added. on.carries begun added ∙ ap (λ (b : Bool). carried (if b then list_past (record l { number = begun; pairs = added }) else if nat_le key (last_key l.call) then to (Activity.Read Read.Version) (record l { number = begun; pairs = added; place_key = key }) else to_rest (record l { number = begun; pairs = added })).local) (sym lower);
       number = on.number;
       pairs = on.pairs;
     }

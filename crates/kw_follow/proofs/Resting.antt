@@ -1,7 +1,6 @@
 -- What a pass's seat knows before a call has read a row: nothing where it is idle, and no pairs.
 use Rattle.std.proofs.Common.{ℕ, ◌≡◌, true, Some, List, ◌<◌, refl, sym, ◌∙◌, ap, subst, slice_get, arith}
 use Rattle.kw_world.specs.declared.activity.Activity.{Activity}
-use Rattle.kw_world.specs.declared.activity.Activity.TheVariants.{Idle}
 use Rattle.kw_world.specs.declared.event.Choice.{Choice}
 use Rattle.kw_world.specs.declared.event.Event.{Event}
 use Rattle.kw_world.specs.declared.local.Local.{Local}
@@ -29,7 +28,7 @@ use Rattle.kw_table.specs.Views.{local_in}
 
 -- an idle seat knows how many calls it has begun, and nothing else
 abbrev pub Rests : Activity → Local → Type 0
-Rests Idle l = l ≡ resting l.number
+Rests Activity.Idle l = l ≡ resting l.number
 Rests _ l = Unit {0}
 
 look_rests : (z : Sizes) (j : ℕ) (next : Activity) (l : Local) → NextLook z j next → Rests next l
@@ -44,7 +43,7 @@ rest_rests l k (scans_on q w e f g) = tt
 
 -- what follows the building of rows does not end the call
 after_rests : (b : Activity) (k : Local) → IsAfterBuilding b → Rests b k
-after_rests Idle k x = absurd x
+after_rests Activity.Idle k x = absurd x
 after_rests _ k x = tt
 
 -- so it is after every event
@@ -101,5 +100,5 @@ stands p =
     ∙ world-local product (view p).opening (view p).seen (view p).number (inside p)
 
 -- an idle pass's seat rests
-pub idle_rests : (p : Pass) → (local_in (view p)).activity ≡ Idle → local_in (view p) ≡ resting (local_in (view p)).number
+pub idle_rests : (p : Pass) → (local_in (view p)).activity ≡ Activity.Idle → local_in (view p) ≡ resting (local_in (view p)).number
 idle_rests p is = subst (λ a. Rests a (local_in (view p))) is ((all_rest product (view p).opening p.known.opens (view p).seen p.known.valid).rest (view p).number (local_in (view p)) (stands p))

@@ -2,7 +2,8 @@
 use Rattle.std.proofs.Common.{ℕ, ◌≡◌, ◌∙◌, refl}
 use Rattle.kw_model.specs.declared.call.Call.{Call}
 use Rattle.kw_model.specs.declared.call.Call.TheVariants.{Get}
-use Rattle.kw_world.specs.declared.activity.Activity.TheVariants.{Enter}
+use Rattle.kw_world.specs.declared.activity.Activity.TheVariants as Activity
+use Rattle.kw_world.specs.declared.activity.enter.Enter.TheVariants as Enter
 use Rattle.kw_world.specs.declared.event.Choice.TheVariants.{Begin, Go}
 use Rattle.kw_world.specs.declared.event.StepDone.TheVariants.{Moved}
 use Rattle.kw_world.specs.declared.local.Local.{Local}
@@ -26,7 +27,7 @@ enters rows key told = refl
 
 -- and announces its epoch
 pub announces : {s : Shared} {p q : Pass} {told : ℕ} (key epoch : ℕ) → Follows s p (entering key epoch) → Makes s p Go told q → Went s p q Go (entering key epoch) (starting key epoch) Moved told
-announces {s} {p} {q} {told} key epoch f makes = went s p q Go _ _ Moved told s.opening.rows Go f makes refl refl (next_at s.opening.rows Enter (entering key epoch) told refl)
+announces {s} {p} {q} {told} key epoch f makes = went s p q Go _ _ Moved told s.opening.rows Go f makes refl refl (next_at s.opening.rows (Activity.Enter Enter.Announce) (entering key epoch) told refl)
 
 -- a call that ends, whatever becomes of its local
 pub leaves : {s : Shared} {p q : Pass} {told : ℕ} (l : Local) → Follows s p l → Makes s p Go told q → Went s p q Go l (next_of product s.opening.rows Go l told).local (next_of product s.opening.rows Go l told).done told

@@ -1,7 +1,7 @@
 -- No event of a put at its row, but its last one there, and none of a rebalance changes whether the
 -- seat tidies: one walk over these lines of the table. Only a put that is done begins to tidy, by a
 -- choice that names its row, and only the end of the call ends it.
-use Rattle.std.proofs.Common.{ℕ, ◌≡◌, ◌⊎◌, refl, sym, ◌∙◌, ◌+◌, ap, slice_get, Option, Some, None, Bool, true, false, nat_lt, nat_le, ◌==◌, if◌then◌else◌, unwrap_or, ◌≤◌, subst, arith, length}
+use Rattle.std.proofs.Common.{ℕ, ◌≡◌, ◌⊎◌, refl, sym, ◌∙◌, ◌+◌, ap, slice_get, Option, Some, None, Bool, true, false, nat_lt, nat_le, ◌==◌, if◌then◌else◌, unwrap_or, subst, length}
 use Rattle.kw_words.specs.declared.pend.Pend.{Pend}
 use Rattle.kw_words.specs.declared.pend.Pend.TheVariants as pend
 use Rattle.kw_words.specs.declared.state.State.{State}
@@ -13,26 +13,27 @@ use Rattle.kw_words.specs.Plain.{version_of_word, key_of_word, value_of_word, pa
 use Rattle.kw_words.specs.Count.{count_of}
 use Rattle.kw_words.specs.Scan.{scan_of}
 use Rattle.kw_words.specs.declared.sizes.TheConstants.{SPENT}
-use Rattle.kw_world.specs.declared.answer.Answer.{Answer}
-use Rattle.kw_world.specs.declared.answer.Answer.TheVariants.{Done, Pairs, Spent}
-use Rattle.kw_world.specs.Answers.{reply_of}
-use Rattle.kw_world.specs.Calls.{first_key, last_key, is_in_range, is_range_empty}
-use Rattle.kw_model.specs.declared.call.Call.{Call}
-use Rattle.kw_model.specs.declared.call.Call.TheVariants.{Put, Del, Get, Scan}
+use Rattle.kw_world.specs.declared.answer.Answer.TheVariants.{Spent}
+use Rattle.kw_world.specs.Calls.{first_key}
 use Rattle.kw_world.specs.declared.activity.Activity.{Activity}
-use Rattle.kw_world.specs.declared.activity.Activity.TheVariants.{Idle, Enter, ScanClock, ScanWait, ScanDraw, ScanSettle, Start, Head, GuessMin, Walk, WalkMin, Look, LookKey, LookClock, LookHelp, ListFrom, ListKey, ListVer, ListVal, RestKey, RestVal, ClearScan, PutCount, PutAdd, PutKey, PutValue, Announce, PutClock, Stamp, PutVersion, InsFrom, InsKey, InsVer, InsSet, Insert, PutClear, Leave, Again, AgainEpoch, BalClock, BalEpoch, BalState, BalNormal, Engage, MarkLink, Decide, FreezeCount, FreezeLook, Freeze, ScanLook, HelpDraw, HelpSettle, TakeFrom, TakeKey, TakeVersion, TakeValue, TakeRestKey, TakeRestValue, SeekFirst, Seek, SeekPass, Reclaim, TakeRow, GiveBack, WriteCount, WriteMin, WriteNext, WriteFirst, WritePend, WriteKey, WriteValue, WriteVersion, WriteAfter, Before, BeforeGuess, BeforeHead, BeforeLink, BeforeMin, Replace, Normalise, Number, Retire}
+use Rattle.kw_world.specs.declared.activity.rebalance.engage.Engage.TheVariants as Engage
+use Rattle.kw_world.specs.declared.activity.rebalance.freeze.Freeze.TheVariants as Freeze
+use Rattle.kw_world.specs.declared.activity.rebalance.gather.Gather.TheVariants as Gather
+use Rattle.kw_world.specs.declared.activity.insert.Insert.TheVariants as Insert
+use Rattle.kw_world.specs.declared.activity.put.Put.TheVariants as Put
+use Rattle.kw_world.specs.declared.activity.rebalance.Rebalance.TheVariants as Rebalance
+use Rattle.kw_world.specs.declared.activity.rebalance.replace.Replace.TheVariants as Replace
+use Rattle.kw_world.specs.declared.activity.rebalance.seek.Seek.TheVariants as Seek
+use Rattle.kw_world.specs.declared.activity.rebalance.write.Write.TheVariants as Write
 use Rattle.kw_world.specs.declared.local.Local.{Local}
 use Rattle.kw_world.specs.declared.event.Choice.{Choice}
 use Rattle.kw_world.specs.declared.event.Choice.TheVariants.{Begin, Go, Guess, Stop}
 use Rattle.kw_world.specs.Sizes.{Sizes}
-use Rattle.kw_world.specs.Transition.{Outcome, row_linked, row_or_first, to, leave}
-use Rattle.kw_world.specs.PutTransitions.{stamp_met, has_room, given_of, tidies_row}
+use Rattle.kw_world.specs.Transition.{Outcome, row_linked, row_or_first, to}
+use Rattle.kw_world.specs.PutTransitions.{stamp_met, has_room, given_of}
 use Rattle.kw_world.specs.ListTransitions.{insert_from, insert_key, insert_past, insert_tried, is_newer}
 use Rattle.kw_world.specs.declared.marks.Mark.{Mark}
 use Rattle.kw_world.specs.Marks.{least_mark}
-use Rattle.kw_world.specs.ReadTransitions.{to_look, look_met, help_met, scan_on, row_read, rest_of, to_rest, list_met, list_key, list_past, with_pairs, remembering, gathering}
-use Rattle.kw_world.specs.ScanTransitions.{begun, entered, settled, to_start, version_settled}
-use Rattle.kw_world.specs.WalkTransitions.{guess_met, start_transition, walk_transition, is_stopped, link_met, walk_min, arrive}
 use Rattle.kw_words.specs.declared.scan.ScanWord.{ScanWord}
 use Rattle.kw_words.specs.declared.scan.ScanWord.TheVariants as scan
 use Rattle.kw_words.specs.declared.link.Link.{Link}
@@ -46,8 +47,6 @@ use Rattle.kw_world.specs.SeekTransitions.{given_back, give_back, gave_back, at_
 use Rattle.kw_world.specs.WriteTransitions.{infant_cells, row_written, to_write_cell, to_write_entry}
 use Rattle.kw_world.specs.ReplaceTransitions.{at_before, first_before, guess_before, before_transition, row_before, link_before, row_replaced, replaced}
 use Rattle.kw_world.specs.Table.{transition}
-use Rattle.kw_world.specs.Step.{is_skipped, IsMade}
-use Rattle.kw_world.specs.declared.event.StepDone.TheVariants.{Moved, Ended}
 use Rattle.kw_core.specs.declared.stage.Stage.{Stage}
 use Rattle.kw_core.specs.declared.stage.Stage.TheVariants.{Putting, Rebalancing}
 use Rattle.kw_core.specs.Stages.{stage_of, IsBalancing, IsBalancingStage, IsDone}
@@ -70,8 +69,8 @@ either false p q g h = h
 
 stamp_tidies : (e : Option Pend) (l : Local) → (stamp_met e l).local.tidies ≡ l.tidies
 stamp_tidies (Some pend.Idle) l = refl
-stamp_tidies (Some (pend.Pending cell)) l = either (cell == l.cell) (to PutVersion l) (to_rebalance l) refl refl
-stamp_tidies (Some (pend.Stamped cell version)) l = either (cell == l.cell) (to PutVersion (record l { version = version })) (to_rebalance l) refl refl
+stamp_tidies (Some (pend.Pending cell)) l = either (cell == l.cell) (to (Activity.Put Put.Version) l) (to_rebalance l) refl refl
+stamp_tidies (Some (pend.Stamped cell version)) l = either (cell == l.cell) (to (Activity.Put Put.Version) (record l { version = version })) (to_rebalance l) refl refl
 stamp_tidies (Some pend.Frozen) l = refl
 stamp_tidies None l = refl
 
@@ -80,7 +79,7 @@ insert_from_tidies z (Some cell) l = refl
 insert_from_tidies z None l = refl
 
 insert_key_tidies : (key : ℕ) (l : Local) → (insert_key key l).local.tidies ≡ l.tidies
-insert_key_tidies key l = either (nat_lt key (first_key l.call)) _ _ refl (either (key == first_key l.call) (to InsVer l) (to InsSet l) refl refl)
+insert_key_tidies key l = either (nat_lt key (first_key l.call)) _ _ refl (either (key == first_key l.call) (to (Activity.Insert Insert.Version) l) (to (Activity.Insert Insert.Set) l) refl refl)
 
 insert_tried_tidies : (z : Sizes) (b : Bool) (l : Local) → (insert_tried z b l).local.tidies ≡ l.tidies
 insert_tried_tidies z true l = refl
@@ -90,7 +89,7 @@ state_tidies : (state : Option State) (l : Local) → (state_met state l).local.
 state_tidies (Some Free) l = refl
 state_tidies (Some (Infant seat)) l = refl
 state_tidies (Some Normal) l = refl
-state_tidies (Some (Leader count)) l = either (is_alone count) (to (MarkLink count) l) (again l) refl refl
+state_tidies (Some (Leader count)) l = either (is_alone count) (to (Activity.Rebalance (Rebalance.Engage (Engage.MarkLink count))) l) (again l) refl refl
 state_tidies (Some (Follower leader)) l = refl
 state_tidies (Some (Retired number)) l = refl
 state_tidies None l = refl
@@ -100,19 +99,19 @@ engaged_tidies true l = refl
 engaged_tidies false l = refl
 
 marked_tidies : (count : ℕ) (after : Option ℕ) (l : Local) → (link_marked count after l).local.tidies ≡ l.tidies
-marked_tidies count after l = either (count == 0) (to (Decide 1) (followed_by after l)) (to FreezeCount (followed_by after l)) refl refl
+marked_tidies count after l = either (count == 0) (to (Activity.Rebalance (Rebalance.Engage (Engage.Decide 1))) (followed_by after l)) (to (Activity.Rebalance (Rebalance.Freeze Freeze.Count)) (followed_by after l)) refl refl
 
 decided_tidies : (state : Option State) (l : Local) → (decided state l).local.tidies ≡ l.tidies
 decided_tidies (Some Free) l = refl
 decided_tidies (Some (Infant seat)) l = refl
 decided_tidies (Some Normal) l = refl
-decided_tidies (Some (Leader count)) l = either (is_alone count) (to FreezeCount l) (again l) refl refl
+decided_tidies (Some (Leader count)) l = either (is_alone count) (to (Activity.Rebalance (Rebalance.Freeze Freeze.Count)) l) (again l) refl refl
 decided_tidies (Some (Follower leader)) l = refl
 decided_tidies (Some (Retired number)) l = refl
 decided_tidies None l = refl
 
 freeze_looks : (z : Sizes) (i : ℕ) (l : Local) → (to_freeze_look z i l).local.tidies ≡ l.tidies
-freeze_looks z i l = either (nat_lt i z.seats) (to (FreezeLook i) l) (to_scans l) refl refl
+freeze_looks z i l = either (nat_lt i z.seats) (to (Activity.Rebalance (Rebalance.Freeze (Freeze.Look i))) l) (to_scans l) refl refl
 
 freeze_tidies : (z : Sizes) (i : ℕ) (e : Option Pend) (l : Local) → (freeze_met z i e l).local.tidies ≡ l.tidies
 freeze_tidies z i (Some pend.Idle) l = refl
@@ -126,7 +125,7 @@ entry_tidies z i true l = freeze_looks z (i + 1) l
 entry_tidies z i false l = refl
 
 scan_looks_then : {n : Bool} (z : Sizes) (i : ℕ) (l : Local) → l.tidies ≡ n → (to_scan_look z i l).local.tidies ≡ n
-scan_looks_then z i l e = either (nat_lt i z.seats) (to (ScanLook i) l) (to_take l) (e) (e)
+scan_looks_then z i l e = either (nat_lt i z.seats) (to (Activity.Rebalance (Rebalance.Freeze (Freeze.Scan i))) l) (to_take l) (e) (e)
 
 scan_met_tidies : (z : Sizes) (i : ℕ) (w : Option ScanWord) (l : Local) → (scan_met z i w l).local.tidies ≡ l.tidies
 scan_met_tidies z i (Some scan.Quiet) l = scan_looks_then z (i + 1) l refl
@@ -159,16 +158,16 @@ given_back_tidies Refuse l = refl
 given_back_tidies MoveLeft l = refl
 
 give_back_tidies : (a : Afterwards) (l : Local) → (give_back a l).local.tidies ≡ l.tidies
-give_back_tidies a l = either (nat_lt 0 (length l.rebalance.taken)) (to GiveBack (record l { rebalance = record l.rebalance { at = 0; afterwards = a } })) (given_back a l) refl (given_back_tidies a l)
+give_back_tidies a l = either (nat_lt 0 (length l.rebalance.taken)) (to (Activity.Rebalance (Rebalance.Seek Seek.GiveBack)) (record l { rebalance = record l.rebalance { at = 0; afterwards = a } })) (given_back a l) refl (given_back_tidies a l)
 
 gave_back_tidies : (l : Local) → (gave_back l).local.tidies ≡ l.tidies
-gave_back_tidies l = either (has_more l) (to GiveBack (at_infant (l.rebalance.at + 1) l)) (given_back l.rebalance.afterwards l) refl (given_back_tidies l.rebalance.afterwards l)
+gave_back_tidies l = either (has_more l) (to (Activity.Rebalance (Rebalance.Seek Seek.GiveBack)) (at_infant (l.rebalance.at + 1) l)) (given_back l.rebalance.afterwards l) refl (given_back_tidies l.rebalance.afterwards l)
 
 seeks : (rows : ℕ) (l : Local) → (to_seek rows l).local.tidies ≡ l.tidies
-seeks rows l = either (nat_lt l.rebalance.asked rows) (to Seek (record l { rebalance = record l.rebalance { sought = row_behind rows l.rebalance.sought; asked = l.rebalance.asked + 1 } })) (give_back Refuse l) refl (give_back_tidies Refuse l)
+seeks rows l = either (nat_lt l.rebalance.asked rows) (to (Activity.Rebalance (Rebalance.Seek Seek.Next)) (record l { rebalance = record l.rebalance { sought = row_behind rows l.rebalance.sought; asked = l.rebalance.asked + 1 } })) (give_back Refuse l) refl (give_back_tidies Refuse l)
 
 passes_then : (z : Sizes) (i : ℕ) (l : Local) → (to_pass z i l).local.tidies ≡ l.tidies
-passes_then z i l = either (nat_lt i z.seats) (to (SeekPass i) l) (to Reclaim l) refl refl
+passes_then z i l = either (nat_lt i z.seats) (to (Activity.Rebalance (Rebalance.Seek (Seek.Pass i))) l) (to (Activity.Rebalance (Rebalance.Seek Seek.Reclaim)) l) refl refl
 
 seek_tidies : (rows : ℕ) (state : Option State) (l : Local) → (seek_met rows state l).local.tidies ≡ l.tidies
 seek_tidies rows (Some Free) l = refl
@@ -190,20 +189,20 @@ pass_tidies z i rows (Some epoch) l = either (nat_le epoch l.rebalance.number) (
 pass_tidies z i rows None l = passes_then z (i + 1) l
 
 take_row_tidies : (rows : ℕ) (b : Bool) (l : Local) → (take_row rows b l).local.tidies ≡ l.tidies
-take_row_tidies rows true l = either (nat_lt (length (with_row l).rebalance.taken) (length l.rebalance.starts)) (to_seek rows (with_row l)) (to WriteCount (at_infant 0 (with_row l))) (seeks rows (with_row l)) refl
+take_row_tidies rows true l = either (nat_lt (length (with_row l).rebalance.taken) (length l.rebalance.starts)) (to_seek rows (with_row l)) (to (Activity.Rebalance (Rebalance.Write Write.Count)) (at_infant 0 (with_row l))) (seeks rows (with_row l)) refl
 take_row_tidies rows false l = seeks rows l
 
 row_written_tidies : (l : Local) → (row_written l).local.tidies ≡ l.tidies
-row_written_tidies l = either (has_more l) (to WriteCount (at_infant (l.rebalance.at + 1) l)) (to Before l) refl refl
+row_written_tidies l = either (has_more l) (to (Activity.Rebalance (Rebalance.Write Write.Count)) (at_infant (l.rebalance.at + 1) l)) (to (Activity.Rebalance (Rebalance.Replace Replace.Start)) l) refl refl
 
 write_cell_tidies : (z : Sizes) (j : ℕ) (l : Local) → (to_write_cell z j l).local.tidies ≡ l.tidies
-write_cell_tidies z j l = either (nat_lt j z.cells) (if nat_lt j (length (infant_cells l)) then to (WriteKey j) l else to (WriteVersion j) l) (row_written l) (either (nat_lt j (length (infant_cells l))) (to (WriteKey j) l) (to (WriteVersion j) l) refl refl) (row_written_tidies l)
+write_cell_tidies z j l = either (nat_lt j z.cells) (if nat_lt j (length (infant_cells l)) then to (Activity.Rebalance (Rebalance.Write (Write.Key j))) l else to (Activity.Rebalance (Rebalance.Write (Write.Version j))) l) (row_written l) (either (nat_lt j (length (infant_cells l))) (to (Activity.Rebalance (Rebalance.Write (Write.Key j))) l) (to (Activity.Rebalance (Rebalance.Write (Write.Version j))) l) refl refl) (row_written_tidies l)
 
 write_entry_tidies : (z : Sizes) (i : ℕ) (l : Local) → (to_write_entry z i l).local.tidies ≡ l.tidies
-write_entry_tidies z i l = either (nat_lt i z.seats) (to (WritePend i) l) (to_write_cell z 0 l) refl (write_cell_tidies z 0 l)
+write_entry_tidies z i l = either (nat_lt i z.seats) (to (Activity.Rebalance (Rebalance.Write (Write.Entry i))) l) (to_write_cell z 0 l) refl (write_cell_tidies z 0 l)
 
 first_before_tidies : (r : ℕ) (l : Local) → (first_before r l).local.tidies ≡ l.tidies
-first_before_tidies r l = either (r == l.row) (to Replace (at_before None 0 l)) (to BeforeLink (at_before (Some r) 0 l)) refl refl
+first_before_tidies r l = either (r == l.row) (to (Activity.Rebalance (Rebalance.Replace Replace.Exchange)) (at_before None 0 l)) (to (Activity.Rebalance (Rebalance.Replace Replace.Next)) (at_before (Some r) 0 l)) refl refl
 
 guess_before_tidies : (r : ℕ) (state : Option State) (l : Local) → (guess_before r state l).local.tidies ≡ l.tidies
 guess_before_tidies r (Some Free) l = refl
@@ -221,7 +220,7 @@ before_tidies (Guess r) l rows told = guess_before_tidies r (state_of told) l
 before_tidies Stop l rows told = first_before_tidies (row_or_first (row_linked (link_of told))) l
 
 row_before_tidies : (r : Option ℕ) (marked : Bool) (l : Local) → (row_before r marked l).local.tidies ≡ l.tidies
-row_before_tidies (Some r) marked l = either (r == l.row) (if marked then give_back MoveLeft l else to Replace l) (to BeforeMin (record l { candidate = r })) (either marked (give_back MoveLeft l) (to Replace l) (give_back_tidies MoveLeft l) refl) refl
+row_before_tidies (Some r) marked l = either (r == l.row) (if marked then give_back MoveLeft l else to (Activity.Rebalance (Rebalance.Replace Replace.Exchange)) l) (to (Activity.Rebalance (Rebalance.Replace Replace.NextLeast)) (record l { candidate = r })) (either marked (give_back MoveLeft l) (to (Activity.Rebalance (Rebalance.Replace Replace.Exchange)) l) (give_back_tidies MoveLeft l) refl) refl
 row_before_tidies None marked l = give_back_tidies TryAgain l
 
 link_before_tidies : (link : Option Link) (l : Local) → (link_before link l).local.tidies ≡ l.tidies
@@ -229,7 +228,7 @@ link_before_tidies (Some link) l = row_before_tidies link.row link.marked l
 link_before_tidies None l = give_back_tidies TryAgain l
 
 row_replaced_tidies : (r : Option ℕ) (marked : Bool) (l : Local) → (row_replaced r marked l).local.tidies ≡ l.tidies
-row_replaced_tidies (Some r) marked l = either (r == l.row) (if marked then give_back MoveLeft l else to Normalise (at_infant 0 l)) (give_back TryAgain l) (either marked (give_back MoveLeft l) (to Normalise (at_infant 0 l)) (give_back_tidies MoveLeft l) refl) (give_back_tidies TryAgain l)
+row_replaced_tidies (Some r) marked l = either (r == l.row) (if marked then give_back MoveLeft l else to (Activity.Rebalance (Rebalance.Replace Replace.Normalise)) (at_infant 0 l)) (give_back TryAgain l) (either marked (give_back MoveLeft l) (to (Activity.Rebalance (Rebalance.Replace Replace.Normalise)) (at_infant 0 l)) (give_back_tidies MoveLeft l) refl) (give_back_tidies TryAgain l)
 row_replaced_tidies None marked l = give_back_tidies TryAgain l
 
 replaced_tidies : (link : Option Link) (l : Local) → (replaced link l).local.tidies ≡ l.tidies
@@ -243,67 +242,59 @@ IsWorkStage _ = ⊥
 
 -- the seat puts at its row, and has not come to its last event there, or it rebalances the row
 abbrev pub IsAtWork : Activity → Type 0
-IsAtWork PutClear = ⊥
+IsAtWork (Activity.Put Put.Clear) = ⊥
 IsAtWork a = IsWorkStage (stage_of a)
 
 -- such an event keeps whether the seat tidies
 pub keeps : (z : Sizes) (a : Activity) (s : ℕ) (choice : Choice) (l : Local) (rows told : ℕ) → IsAtWork a → ((transition z a s choice l).next rows told).local.tidies ≡ l.tidies
-keeps z PutCount s choice l rows told u = either (has_room z (count_of told)) (to PutAdd l) (to_rebalance l) refl refl
-keeps z PutAdd s choice l rows told u = either (has_room z (count_of told)) (to PutKey (record l { cell = given_of (count_of told) })) (to_rebalance l) refl refl
-keeps z PutKey s choice l rows told u = refl
-keeps z PutValue s choice l rows told u = refl
-keeps z Announce s choice l rows told u = either (told == pend_word pend.Idle) (to PutClock l) (to_rebalance l) refl refl
-keeps z PutClock s choice l rows told u = refl
-keeps z Stamp s choice l rows told u = stamp_tidies (pend_of told) l
-keeps z PutVersion s choice l rows told u = refl
-keeps z InsFrom s choice l rows told u = insert_from_tidies z (cell_of_link_word told) l
-keeps z InsKey s choice l rows told u = insert_key_tidies (key_of_word told) l
-keeps z InsVer s choice l rows told u = either (is_newer (unwrap_or (version_of_word told) 0) l.place l) (insert_past l) (to InsSet l) refl refl
-keeps z InsSet s choice l rows told u = refl
-keeps z Insert s choice l rows told u = insert_tried_tidies z (told == cell_link_word l.held) l
-keeps z BalClock s choice l rows told u = either (nat_le SPENT told) (refuse Spent l) (to BalEpoch l) refl refl
-keeps z BalEpoch s choice l rows told u = either (nat_le SPENT told) (refuse Spent l) (to BalState l) refl refl
-keeps z BalState s choice l rows told u = state_tidies (state_of told) l
-keeps z (BalNormal seat) s choice l rows told u = refl
-keeps z Engage s choice l rows told u = engaged_tidies (told == state_word Normal) l
-keeps z (MarkLink count) s choice l rows told u = marked_tidies count (row_linked (link_of told)) l
-keeps z (Decide count) s choice l rows told u = decided_tidies (state_of told) l
-keeps z FreezeCount s choice l rows told u = refl
-keeps z (FreezeLook i) s choice l rows told u = freeze_tidies z i (pend_of told) l
-keeps z (Freeze i) s choice l rows told u = entry_tidies z i (told == pend_word l.rebalance.entry) l
-keeps z (ScanLook i) s choice l rows told u = scan_met_tidies z i (scan_of told) l
-keeps z (HelpDraw i) s choice l rows told u = refl
-keeps z (HelpSettle i) s choice l rows told u = helped_tidies z i (scan_of told) l
-keeps z TakeFrom s choice l rows told u = take_tidies z (cell_of_link_word told) l
-keeps z TakeKey s choice l rows told u = refl
-keeps z TakeVersion s choice l rows told u = refl
-keeps z TakeValue s choice l rows told u = refl
-keeps z TakeRestKey s choice l rows told u = refl
-keeps z TakeRestValue s choice l rows told u = left_tidies z (least_mark l.rebalance.marks) (keeping z (value_of_word told) l)
-keeps z SeekFirst s choice l rows told u = seek_first_tidies choice l rows told
-keeps z Seek s choice l rows told u = seek_tidies rows (state_of told) (seeking l.rebalance.sought l)
-keeps z (SeekPass i) s choice l rows told u = pass_tidies z i rows (pass_of_word told) l
-keeps z Reclaim s choice l rows told u = refl
-keeps z TakeRow s choice l rows told u = take_row_tidies rows (told == state_word Free) l
-keeps z GiveBack s choice l rows told u = gave_back_tidies l
-keeps z WriteCount s choice l rows told u = refl
-keeps z WriteMin s choice l rows told u = refl
-keeps z WriteNext s choice l rows told u = refl
-keeps z WriteFirst s choice l rows told u = write_entry_tidies z 0 l
-keeps z (WritePend i) s choice l rows told u = write_entry_tidies z (i + 1) l
-keeps z (WriteKey j) s choice l rows told u = refl
-keeps z (WriteValue j) s choice l rows told u = refl
-keeps z (WriteVersion j) s choice l rows told u = refl
-keeps z (WriteAfter j) s choice l rows told u = write_cell_tidies z (j + 1) l
-keeps z Before s choice l rows told u = before_tidies choice l rows told
-keeps z BeforeGuess s choice l rows told u = either (nat_lt (key_of_word told) l.lower) (to BeforeLink (record l { rebalance = record l.rebalance { least = key_of_word told } })) (to BeforeHead (record l { rebalance = record l.rebalance { before = None } })) refl refl
-keeps z BeforeHead s choice l rows told u = first_before_tidies (row_or_first (row_linked (link_of told))) l
-keeps z BeforeLink s choice l rows told u = link_before_tidies (link_of told) l
-keeps z BeforeMin s choice l rows told u = either (nat_lt (key_of_word told) l.lower) (to BeforeLink (at_before (Some l.candidate) (key_of_word told) l)) (give_back TryAgain l) refl (give_back_tidies TryAgain l)
-keeps z Replace s choice l rows told u = replaced_tidies (link_of told) l
-keeps z Normalise s choice l rows told u = either (has_more l) (to Normalise (at_infant (l.rebalance.at + 1) l)) (to Number l) refl refl
-keeps z Number s choice l rows told u = refl
-keeps z Retire s choice l rows told u = refl
+keeps z (Activity.Put Put.Count) s choice l rows told u = either (has_room z (count_of told)) (to (Activity.Put Put.Add) l) (to_rebalance l) refl refl
+keeps z (Activity.Put Put.Add) s choice l rows told u = either (has_room z (count_of told)) (to (Activity.Put Put.Key) (record l { cell = given_of (count_of told) })) (to_rebalance l) refl refl
+keeps z (Activity.Put Put.Key) s choice l rows told u = refl
+keeps z (Activity.Put Put.Value) s choice l rows told u = refl
+keeps z (Activity.Put Put.Announce) s choice l rows told u = either (told == pend_word pend.Idle) (to (Activity.Put Put.Clock) l) (to_rebalance l) refl refl
+keeps z (Activity.Put Put.Clock) s choice l rows told u = refl
+keeps z (Activity.Put Put.Stamp) s choice l rows told u = stamp_tidies (pend_of told) l
+keeps z (Activity.Put Put.Version) s choice l rows told u = refl
+keeps z (Activity.Insert Insert.Link) s choice l rows told u = insert_from_tidies z (cell_of_link_word told) l
+keeps z (Activity.Insert Insert.Key) s choice l rows told u = insert_key_tidies (key_of_word told) l
+keeps z (Activity.Insert Insert.Version) s choice l rows told u = either (is_newer (unwrap_or (version_of_word told) 0) l.place l) (insert_past l) (to (Activity.Insert Insert.Set) l) refl refl
+keeps z (Activity.Insert Insert.Set) s choice l rows told u = refl
+keeps z (Activity.Insert Insert.Exchange) s choice l rows told u = insert_tried_tidies z (told == cell_link_word l.held) l
+keeps z (Activity.Rebalance (Rebalance.Engage Engage.Clock)) s choice l rows told u = either (nat_le SPENT told) (refuse Spent l) (to (Activity.Rebalance (Rebalance.Engage Engage.Epoch)) l) refl refl
+keeps z (Activity.Rebalance (Rebalance.Engage Engage.Epoch)) s choice l rows told u = either (nat_le SPENT told) (refuse Spent l) (to (Activity.Rebalance (Rebalance.Engage Engage.State)) l) refl refl
+keeps z (Activity.Rebalance (Rebalance.Engage Engage.State)) s choice l rows told u = state_tidies (state_of told) l
+keeps z (Activity.Rebalance (Rebalance.Engage (Engage.Normal seat))) s choice l rows told u = refl
+keeps z (Activity.Rebalance (Rebalance.Engage Engage.Lead)) s choice l rows told u = engaged_tidies (told == state_word Normal) l
+keeps z (Activity.Rebalance (Rebalance.Engage (Engage.MarkLink count))) s choice l rows told u = marked_tidies count (row_linked (link_of told)) l
+keeps z (Activity.Rebalance (Rebalance.Engage (Engage.Decide count))) s choice l rows told u = decided_tidies (state_of told) l
+keeps z (Activity.Rebalance (Rebalance.Freeze Freeze.Count)) s choice l rows told u = refl
+keeps z (Activity.Rebalance (Rebalance.Freeze (Freeze.Look i))) s choice l rows told u = freeze_tidies z i (pend_of told) l
+keeps z (Activity.Rebalance (Rebalance.Freeze (Freeze.Entry i))) s choice l rows told u = entry_tidies z i (told == pend_word l.rebalance.entry) l
+keeps z (Activity.Rebalance (Rebalance.Freeze (Freeze.Scan i))) s choice l rows told u = scan_met_tidies z i (scan_of told) l
+keeps z (Activity.Rebalance (Rebalance.Freeze (Freeze.Draw i))) s choice l rows told u = refl
+keeps z (Activity.Rebalance (Rebalance.Freeze (Freeze.Settle i))) s choice l rows told u = helped_tidies z i (scan_of told) l
+keeps z (Activity.Rebalance (Rebalance.Gather Gather.Link)) s choice l rows told u = take_tidies z (cell_of_link_word told) l
+keeps z (Activity.Rebalance (Rebalance.Gather Gather.LeftOverValue)) s choice l rows told u = left_tidies z (least_mark l.rebalance.marks) (keeping z (value_of_word told) l)
+keeps z (Activity.Rebalance (Rebalance.Gather _)) s choice l rows told u = refl
+keeps z (Activity.Rebalance (Rebalance.Seek Seek.First)) s choice l rows told u = seek_first_tidies choice l rows told
+keeps z (Activity.Rebalance (Rebalance.Seek Seek.Next)) s choice l rows told u = seek_tidies rows (state_of told) (seeking l.rebalance.sought l)
+keeps z (Activity.Rebalance (Rebalance.Seek (Seek.Pass i))) s choice l rows told u = pass_tidies z i rows (pass_of_word told) l
+keeps z (Activity.Rebalance (Rebalance.Seek Seek.Reclaim)) s choice l rows told u = refl
+keeps z (Activity.Rebalance (Rebalance.Seek Seek.Take)) s choice l rows told u = take_row_tidies rows (told == state_word Free) l
+keeps z (Activity.Rebalance (Rebalance.Seek Seek.GiveBack)) s choice l rows told u = gave_back_tidies l
+keeps z (Activity.Rebalance (Rebalance.Write Write.First)) s choice l rows told u = write_entry_tidies z 0 l
+keeps z (Activity.Rebalance (Rebalance.Write (Write.Entry i))) s choice l rows told u = write_entry_tidies z (i + 1) l
+keeps z (Activity.Rebalance (Rebalance.Write (Write.After j))) s choice l rows told u = write_cell_tidies z (j + 1) l
+keeps z (Activity.Rebalance (Rebalance.Write _)) s choice l rows told u = refl
+keeps z (Activity.Rebalance (Rebalance.Replace Replace.Start)) s choice l rows told u = before_tidies choice l rows told
+keeps z (Activity.Rebalance (Rebalance.Replace Replace.GuessedLeast)) s choice l rows told u = either (nat_lt (key_of_word told) l.lower) (to (Activity.Rebalance (Rebalance.Replace Replace.Next)) (record l { rebalance = record l.rebalance { least = key_of_word told } })) (to (Activity.Rebalance (Rebalance.Replace Replace.First)) (record l { rebalance = record l.rebalance { before = None } })) refl refl
+keeps z (Activity.Rebalance (Rebalance.Replace Replace.First)) s choice l rows told u = first_before_tidies (row_or_first (row_linked (link_of told))) l
+keeps z (Activity.Rebalance (Rebalance.Replace Replace.Next)) s choice l rows told u = link_before_tidies (link_of told) l
+keeps z (Activity.Rebalance (Rebalance.Replace Replace.NextLeast)) s choice l rows told u = either (nat_lt (key_of_word told) l.lower) (to (Activity.Rebalance (Rebalance.Replace Replace.Next)) (at_before (Some l.candidate) (key_of_word told) l)) (give_back TryAgain l) refl (give_back_tidies TryAgain l)
+keeps z (Activity.Rebalance (Rebalance.Replace Replace.Exchange)) s choice l rows told u = replaced_tidies (link_of told) l
+keeps z (Activity.Rebalance (Rebalance.Replace Replace.Normalise)) s choice l rows told u = either (has_more l) (to (Activity.Rebalance (Rebalance.Replace Replace.Normalise)) (at_infant (l.rebalance.at + 1) l)) (to (Activity.Rebalance (Rebalance.Replace Replace.Number)) l) refl refl
+keeps z (Activity.Rebalance (Rebalance.Replace Replace.Number)) s choice l rows told u = refl
+keeps z (Activity.Rebalance (Rebalance.Replace Replace.Retire)) s choice l rows told u = refl
 keeps z _ s choice l rows told u = absurd u
 
 stage_works : (st : Stage) → IsBalancingStage st → IsWorkStage st
@@ -312,7 +303,7 @@ stage_works _ b = absurd b
 
 -- a seat that rebalances is at work
 pub balancing_works : (a : Activity) → IsBalancing a → IsAtWork a
-balancing_works PutClear b = absurd b
+balancing_works (Activity.Put Put.Clear) b = absurd b
 balancing_works a b = stage_works (stage_of a) b
 
 -- a seat that neither rebalances nor is done does not tidy

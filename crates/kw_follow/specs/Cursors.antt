@@ -3,7 +3,7 @@
 use Rattle.std.specs.Prelude.{◌≡◌, ℕ, Option, Some, None}
 use Rattle.kw_cells.specs.declared.cell.Cell.{Cell}
 use Rattle.kw_world.specs.declared.activity.Activity.{Activity}
-use Rattle.kw_world.specs.declared.activity.Activity.TheVariants.{ListVal}
+use Rattle.kw_world.specs.declared.activity.read.Read.TheVariants as Read
 use Rattle.kw_world.specs.declared.event.Choice.TheVariants.{Go}
 use Rattle.kw_world.specs.declared.local.Local.{Local}
 use Rattle.kw_world.specs.ListTransitions.{one_more}
@@ -50,7 +50,7 @@ cell_at c value = record { key = c.key; place = c.place; version = c.version; va
 
 -- the cell at hand is gathered, with this value
 abbrev pub gathering_at : Cursor → Option ℕ → Local → Local
-gathering_at c value l = record l { gathered = (gathering product value (with_cursor ListVal c l)).gathered }
+gathering_at c value l = record l { gathered = (gathering product value (with_cursor (Activity.Read Read.Value) c l)).gathered }
 
 -- the pass made one event, which is the first one of its own since, and was told this: code
 -- followed it so

@@ -2,18 +2,19 @@
 use Rattle.std.specs.Prelude.{ℕ, Some}
 use Rattle.kw_model.specs.declared.call.Call.TheVariants.{Get}
 use Rattle.kw_world.specs.declared.activity.Activity.{Activity}
-use Rattle.kw_world.specs.declared.activity.Activity.TheVariants.{Enter, Start}
+use Rattle.kw_world.specs.declared.activity.enter.Enter.TheVariants as Enter
+use Rattle.kw_world.specs.declared.activity.walk.Walk.TheVariants as Walk
 use Rattle.kw_world.specs.declared.local.Local.{Local}
 use Rattle.kw_world.specs.Local.{resting}
 use Rattle.kw_follow.specs.declared.way.Way.{Way}
 
 -- the local of a get that has loaded this epoch
 abbrev pub entering : ℕ → ℕ → Local
-entering key epoch = record (resting 1) { activity = Enter; call = Some (Get key); epoch = epoch }
+entering key epoch = record (resting 1) { activity = Activity.Enter Enter.Announce; call = Some (Get key); epoch = epoch }
 
 -- and has announced it
 abbrev pub starting : ℕ → ℕ → Local
-starting key epoch = record (entering key epoch) { activity = Start; want = key }
+starting key epoch = record (entering key epoch) { activity = Activity.Walk Walk.Start; want = key }
 
 -- the local of a get that is at this activity and came so far: between calls it knows nothing, and
 -- has learnt this alone since

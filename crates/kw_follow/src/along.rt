@@ -37,6 +37,9 @@ use kw_table::{
 use kw_words::layout::Name;
 use kw_words::plain::pack_pass;
 use kw_world::activity::Activity;
+use kw_world::activity::enter::Enter;
+use kw_world::activity::look::Look;
+use kw_world::activity::walk::Walk;
 use kw_world::answer::Answer;
 use kw_world::event::{Choice, StepDone};
 use kw_world::local::Local;
@@ -88,7 +91,7 @@ pub(crate) fn clear_epoch(
 #[inline(always)]
 fn announce_epoch(shared: &Shared, pass: &mut Pass, local: &mut Local) -> Happened
     requires follows { Follows shared.now pass.old local.old }
-    requires activity { local.old.activity ≡ Activity.Enter }
+    requires activity { local.old.activity ≡ Activity.Enter Enter.Announce }
     ensures makes { Makes shared.now pass.old Choice.Go result.told pass.new }
     ensures line { outcome local.new result.done ≡ next_of product shared.now.opening.rows Choice.Go
         local.old result.told }
@@ -104,7 +107,7 @@ fn announce_epoch(shared: &Shared, pass: &mut Pass, local: &mut Local) -> Happen
 #[inline(always)]
 fn load_first_row(shared: &Shared, pass: &mut Pass, local: &mut Local) -> Happened
     requires follows { Follows shared.now pass.old local.old }
-    requires activity { local.old.activity ≡ Activity.Start }
+    requires activity { local.old.activity ≡ Activity.Walk Walk.Start }
     ensures makes { Makes shared.now pass.old Choice.Go result.told pass.new }
     ensures line { outcome local.new result.done ≡ next_of product shared.now.opening.rows Choice.Go
         local.old result.told }
@@ -118,7 +121,7 @@ fn load_first_row(shared: &Shared, pass: &mut Pass, local: &mut Local) -> Happen
 #[inline(always)]
 fn load_guessed_state(shared: &Shared, pass: &mut Pass, local: &mut Local, row: u32) -> Happened
     requires follows { Follows shared.now pass.old local.old }
-    requires activity { local.old.activity ≡ Activity.Start }
+    requires activity { local.old.activity ≡ Activity.Walk Walk.Start }
     requires in_range { row < shared.now.opening.rows }
     ensures makes { Makes shared.now pass.old (Choice.Guess row) result.told pass.new }
     ensures line { outcome local.new result.done ≡ next_of product shared.now.opening.rows
@@ -133,7 +136,7 @@ fn load_guessed_state(shared: &Shared, pass: &mut Pass, local: &mut Local, row: 
 #[inline(always)]
 fn load_guessed_least(shared: &Shared, pass: &mut Pass, local: &mut Local) -> Happened
     requires follows { Follows shared.now pass.old local.old }
-    requires activity { local.old.activity ≡ Activity.GuessMin }
+    requires activity { local.old.activity ≡ Activity.Walk Walk.GuessedLeast }
     ensures makes { Makes shared.now pass.old Choice.Go result.told pass.new }
     ensures line { outcome local.new result.done ≡ next_of product shared.now.opening.rows Choice.Go
         local.old result.told }
@@ -148,7 +151,7 @@ fn load_guessed_least(shared: &Shared, pass: &mut Pass, local: &mut Local) -> Ha
 /// is what the event was told, and `meet_row_link` says what follows. Takes no memory.
 #[inline(always)]
 pub fn load_row_link(shared: &Shared, pass: &mut Pass, row: u32) -> u64
-    requires { (l : Local) × Follows shared.now pass.old (walking Activity.Walk l) × (l.row ≡ row) }
+    requires { (l : Local) × Follows shared.now pass.old (walking (Activity.Walk Walk.Next) l) × (l.row ≡ row) }
     ensures { Makes shared.now pass.old Choice.Go result pass.new }
 {
     load_link(shared, pass, Choice::Go, Name::Next(row))
@@ -166,7 +169,7 @@ pub fn meet_row_link(local: &mut Local, found: u64) -> StepDone
 /// and `meet_row_least` says what follows. Takes no memory.
 #[inline(always)]
 pub fn load_row_least(shared: &Shared, pass: &mut Pass, row: u32) -> u64
-    requires { (l : Local) × Follows shared.now pass.old (walking Activity.WalkMin l)
+    requires { (l : Local) × Follows shared.now pass.old (walking (Activity.Walk Walk.NextLeast) l)
         × (l.candidate ≡ row) }
     ensures { Makes shared.now pass.old Choice.Go result pass.new }
 {
@@ -185,7 +188,7 @@ pub fn meet_row_least(local: &mut Local, found: u64) -> StepDone
 #[inline(always)]
 fn load_next_row(shared: &Shared, pass: &mut Pass, local: &mut Local) -> Happened
     requires follows { Follows shared.now pass.old local.old }
-    requires activity { local.old.activity ≡ Activity.Walk }
+    requires activity { local.old.activity ≡ Activity.Walk Walk.Next }
     ensures makes { Makes shared.now pass.old Choice.Go result.told pass.new }
     ensures line { outcome local.new result.done ≡ next_of product shared.now.opening.rows Choice.Go
         local.old result.told }
@@ -199,7 +202,7 @@ fn load_next_row(shared: &Shared, pass: &mut Pass, local: &mut Local) -> Happene
 #[inline(always)]
 fn load_least_key(shared: &Shared, pass: &mut Pass, local: &mut Local) -> Happened
     requires follows { Follows shared.now pass.old local.old }
-    requires activity { local.old.activity ≡ Activity.WalkMin }
+    requires activity { local.old.activity ≡ Activity.Walk Walk.NextLeast }
     ensures makes { Makes shared.now pass.old Choice.Go result.told pass.new }
     ensures line { outcome local.new result.done ≡ next_of product shared.now.opening.rows Choice.Go
         local.old result.told }
@@ -234,7 +237,7 @@ pub fn meet_entry(local: &mut Local, entry: u32, found: u64) -> StepDone
 #[inline(always)]
 fn look_at_entry(shared: &Shared, pass: &mut Pass, local: &mut Local, entry: u32) -> Happened
     requires follows { Follows shared.now pass.old local.old }
-    requires activity { local.old.activity ≡ Activity.Look entry }
+    requires activity { local.old.activity ≡ Activity.Look (Look.Entry entry) }
     ensures makes { Makes shared.now pass.old Choice.Go result.told pass.new }
     ensures line { outcome local.new result.done ≡ next_of product shared.now.opening.rows Choice.Go
         local.old result.told }
@@ -254,12 +257,12 @@ fn event_along(shared: &Shared, pass: &mut Pass, local: &mut Local) -> Happened
         local.old result.told }
 {
     match local.activity {
-        Activity::Enter => announce_epoch(shared, pass, local),
-        Activity::Start => load_first_row(shared, pass, local),
-        Activity::GuessMin => load_guessed_least(shared, pass, local),
-        Activity::Walk => load_next_row(shared, pass, local),
-        Activity::WalkMin => load_least_key(shared, pass, local),
-        Activity::Look(entry) => look_at_entry(shared, pass, local, entry),
+        Activity::Enter(Enter::Announce) => announce_epoch(shared, pass, local),
+        Activity::Walk(Walk::Start) => load_first_row(shared, pass, local),
+        Activity::Walk(Walk::GuessedLeast) => load_guessed_least(shared, pass, local),
+        Activity::Walk(Walk::Next) => load_next_row(shared, pass, local),
+        Activity::Walk(Walk::NextLeast) => load_least_key(shared, pass, local),
+        Activity::Look(Look::Entry(entry)) => look_at_entry(shared, pass, local, entry),
         _ => event(shared, pass, local, Choice::Go),
     }
 }
@@ -289,7 +292,7 @@ pub fn go_along(shared: &Shared, pass: &mut Pass, local: &mut Local) -> u64
 #[inline(always)]
 pub fn go_guess(shared: &Shared, pass: &mut Pass, local: &mut Local, row: u32) -> u64
     requires follows { Follows shared.now pass.old local.old }
-    requires start { local.old.activity ≡ Activity.Start }
+    requires start { local.old.activity ≡ Activity.Walk Walk.Start }
     ensures goes { GoesTo shared.now pass.old pass.new }
     ensures follows { Follows shared.now pass.new local.new }
     ensures line { outcome local.new Moved ≡ next_of product (view pass.old).opening.rows
@@ -310,7 +313,7 @@ pub fn go_guess(shared: &Shared, pass: &mut Pass, local: &mut Local, row: u32) -
 #[inline(always)]
 pub fn go_guess_min(shared: &Shared, pass: &mut Pass, local: &mut Local) -> u64
     requires follows { Follows shared.now pass.old local.old }
-    requires guessing { local.old.activity ≡ Activity.GuessMin }
+    requires guessing { local.old.activity ≡ Activity.Walk Walk.GuessedLeast }
     ensures goes { GoesTo shared.now pass.old pass.new }
     ensures follows { Follows shared.now pass.new local.new }
     ensures line { outcome local.new Moved ≡ next_of product (view pass.old).opening.rows Choice.Go

@@ -25,6 +25,10 @@ use crate::writing::{
 };
 use kw_table::{Pass, Shared};
 use kw_world::activity::Activity;
+use kw_world::activity::rebalance::Rebalance;
+use kw_world::activity::rebalance::freeze::Freeze;
+use kw_world::activity::rebalance::gather::Gather;
+use kw_world::activity::rebalance::write::Write;
 use kw_world::event::Choice;
 use kw_world::local::Local;
 
@@ -38,15 +42,25 @@ fn write_event(shared: &Shared, pass: &mut Pass, local: &mut Local) -> Happened
         local.old result.told }
 {
     match local.activity {
-        Activity::WriteCount => write_count(shared, pass, local),
-        Activity::WriteMin => write_least(shared, pass, local),
-        Activity::WriteNext => write_next(shared, pass, local),
-        Activity::WriteFirst => write_first(shared, pass, local),
-        Activity::WritePend(entry) => write_entry(shared, pass, local, entry),
-        Activity::WriteKey(cell) => write_key(shared, pass, local, cell),
-        Activity::WriteValue(cell) => write_value(shared, pass, local, cell),
-        Activity::WriteVersion(cell) => write_version(shared, pass, local, cell),
-        Activity::WriteAfter(cell) => write_after(shared, pass, local, cell),
+        Activity::Rebalance(Rebalance::Write(Write::Count)) => write_count(shared, pass, local),
+        Activity::Rebalance(Rebalance::Write(Write::Least)) => write_least(shared, pass, local),
+        Activity::Rebalance(Rebalance::Write(Write::Next)) => write_next(shared, pass, local),
+        Activity::Rebalance(Rebalance::Write(Write::First)) => write_first(shared, pass, local),
+        Activity::Rebalance(Rebalance::Write(Write::Entry(entry))) => write_entry(
+            shared, pass, local, entry,
+        ),
+        Activity::Rebalance(Rebalance::Write(Write::Key(cell))) => write_key(
+            shared, pass, local, cell,
+        ),
+        Activity::Rebalance(Rebalance::Write(Write::Value(cell))) => write_value(
+            shared, pass, local, cell,
+        ),
+        Activity::Rebalance(Rebalance::Write(Write::Version(cell))) => write_version(
+            shared, pass, local, cell,
+        ),
+        Activity::Rebalance(Rebalance::Write(Write::After(cell))) => write_after(
+            shared, pass, local, cell,
+        ),
         _ => event(shared, pass, local, Choice::Go),
     }
 }
@@ -62,15 +76,29 @@ fn build_event(shared: &Shared, pass: &mut Pass, local: &mut Local) -> Happened
         local.old result.told }
 {
     match local.activity {
-        Activity::FreezeLook(entry) => look_at_entry(shared, pass, local, entry),
-        Activity::Freeze(entry) => freeze_entry(shared, pass, local, entry),
-        Activity::ScanLook(seat) => look_at_scan(shared, pass, local, seat),
-        Activity::TakeFrom => load_link(shared, pass, local),
-        Activity::TakeKey => load_met_key(shared, pass, local),
-        Activity::TakeVersion => load_met_version(shared, pass, local),
-        Activity::TakeValue => load_met_value(shared, pass, local),
-        Activity::TakeRestKey => load_left_key(shared, pass, local),
-        Activity::TakeRestValue => load_left_value(shared, pass, local),
+        Activity::Rebalance(Rebalance::Freeze(Freeze::Look(entry))) => look_at_entry(
+            shared, pass, local, entry,
+        ),
+        Activity::Rebalance(Rebalance::Freeze(Freeze::Entry(entry))) => freeze_entry(
+            shared, pass, local, entry,
+        ),
+        Activity::Rebalance(Rebalance::Freeze(Freeze::Scan(seat))) => look_at_scan(
+            shared, pass, local, seat,
+        ),
+        Activity::Rebalance(Rebalance::Gather(Gather::Link)) => load_link(shared, pass, local),
+        Activity::Rebalance(Rebalance::Gather(Gather::Key)) => load_met_key(shared, pass, local),
+        Activity::Rebalance(Rebalance::Gather(Gather::Version)) => load_met_version(
+            shared, pass, local,
+        ),
+        Activity::Rebalance(Rebalance::Gather(Gather::Value)) => load_met_value(
+            shared, pass, local,
+        ),
+        Activity::Rebalance(Rebalance::Gather(Gather::LeftOverKey)) => load_left_key(
+            shared, pass, local,
+        ),
+        Activity::Rebalance(Rebalance::Gather(Gather::LeftOverValue)) => load_left_value(
+            shared, pass, local,
+        ),
         _ => write_event(shared, pass, local),
     }
 }

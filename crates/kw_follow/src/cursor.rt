@@ -23,6 +23,8 @@ use kw_table::{Pass, Shared, load_after, load_key, load_value, load_version};
 use kw_words::layout::Name;
 use kw_words::plain::{unpack_value, unpack_version};
 use kw_world::activity::Activity;
+use kw_world::activity::insert::Insert;
+use kw_world::activity::read::Read;
 use kw_world::event::Choice;
 use kw_world::local::Local;
 
@@ -173,9 +175,9 @@ impl Cursor {
     /// memory.
     #[inline(always)]
     pub fn load_link(self, shared: &Shared, pass: &mut Pass) -> u64
-        requires { (l : Local) × Follows shared.now pass.old (with_cursor Activity.ListFrom self l) }
-        ensures { (l : Local) → Follows shared.now pass.old (with_cursor Activity.ListFrom self l) →
-            ReadsWord shared.now pass.old (with_cursor Activity.ListFrom self l) result pass.new }
+        requires { (l : Local) × Follows shared.now pass.old (with_cursor (Activity.Read Read.Link) self l) }
+        ensures { (l : Local) → Follows shared.now pass.old (with_cursor (Activity.Read Read.Link) self l) →
+            ReadsWord shared.now pass.old (with_cursor (Activity.Read Read.Link) self l) result pass.new }
     {
         let link = link_name(self.row, self.link);
         load_after(shared, pass, Choice::Go, link)
@@ -184,9 +186,9 @@ impl Cursor {
     /// Loads the key of the cell at hand. The answer is what the event was told. Takes no memory.
     #[inline(always)]
     pub fn load_key(self, shared: &Shared, pass: &mut Pass) -> u64
-        requires { (l : Local) × Follows shared.now pass.old (with_cursor Activity.ListKey self l) }
-        ensures { (l : Local) → Follows shared.now pass.old (with_cursor Activity.ListKey self l) →
-            ReadsWord shared.now pass.old (with_cursor Activity.ListKey self l) result pass.new }
+        requires { (l : Local) × Follows shared.now pass.old (with_cursor (Activity.Read Read.Key) self l) }
+        ensures { (l : Local) → Follows shared.now pass.old (with_cursor (Activity.Read Read.Key) self l) →
+            ReadsWord shared.now pass.old (with_cursor (Activity.Read Read.Key) self l) result pass.new }
     {
         let key = Name::Key(self.row, self.place);
         load_key(shared, pass, Choice::Go, key)
@@ -196,9 +198,9 @@ impl Cursor {
     /// memory.
     #[inline(always)]
     pub fn load_version(self, shared: &Shared, pass: &mut Pass) -> u64
-        requires { (l : Local) × Follows shared.now pass.old (with_cursor Activity.ListVer self l) }
-        ensures { (l : Local) → Follows shared.now pass.old (with_cursor Activity.ListVer self l) →
-            ReadsWord shared.now pass.old (with_cursor Activity.ListVer self l) result pass.new }
+        requires { (l : Local) × Follows shared.now pass.old (with_cursor (Activity.Read Read.Version) self l) }
+        ensures { (l : Local) → Follows shared.now pass.old (with_cursor (Activity.Read Read.Version) self l) →
+            ReadsWord shared.now pass.old (with_cursor (Activity.Read Read.Version) self l) result pass.new }
     {
         let version = Name::Version(self.row, self.place);
         load_version(shared, pass, Choice::Go, version)
@@ -207,9 +209,9 @@ impl Cursor {
     /// Loads the value of the cell at hand. The answer is what the event was told. Takes no memory.
     #[inline(always)]
     pub fn load_value(self, shared: &Shared, pass: &mut Pass) -> u64
-        requires { (l : Local) × Follows shared.now pass.old (with_cursor Activity.ListVal self l) }
-        ensures { (l : Local) → Follows shared.now pass.old (with_cursor Activity.ListVal self l) →
-            ReadsWord shared.now pass.old (with_cursor Activity.ListVal self l) result pass.new }
+        requires { (l : Local) × Follows shared.now pass.old (with_cursor (Activity.Read Read.Value) self l) }
+        ensures { (l : Local) → Follows shared.now pass.old (with_cursor (Activity.Read Read.Value) self l) →
+            ReadsWord shared.now pass.old (with_cursor (Activity.Read Read.Value) self l) result pass.new }
     {
         let value = Name::Value(self.row, self.place);
         load_value(shared, pass, Choice::Go, value)
@@ -219,7 +221,7 @@ impl Cursor {
     /// memory.
     #[inline(always)]
     pub fn load_insert_link(self, shared: &Shared, pass: &mut Pass) -> u64
-        requires { (l : Local) × Follows shared.now pass.old (with_cursor Activity.InsFrom self l) }
+        requires { (l : Local) × Follows shared.now pass.old (with_cursor (Activity.Insert Insert.Link) self l) }
         ensures { Makes shared.now pass.old Choice.Go result pass.new }
     {
         let link = link_name(self.row, self.link);
@@ -230,7 +232,7 @@ impl Cursor {
     /// Takes no memory.
     #[inline(always)]
     pub fn load_insert_key(self, shared: &Shared, pass: &mut Pass) -> u64
-        requires { (l : Local) × Follows shared.now pass.old (with_cursor Activity.InsKey self l) }
+        requires { (l : Local) × Follows shared.now pass.old (with_cursor (Activity.Insert Insert.Key) self l) }
         ensures { Makes shared.now pass.old Choice.Go result pass.new }
     {
         let key = Name::Key(self.row, self.place);

@@ -25,6 +25,7 @@ use kw_table::{
 use kw_words::layout::Name;
 use kw_words::scan::ScanWord;
 use kw_world::activity::Activity;
+use kw_world::activity::draw::Draw;
 use kw_world::answer::Answer;
 use kw_world::event::Choice;
 use kw_world::local::Local;
@@ -33,7 +34,7 @@ use kw_world::local::Local;
 #[inline(always)]
 fn load_scan_clock(shared: &Shared, pass: &mut Pass, local: &mut Local) -> Happened
     requires follows { Follows shared.now pass.old local.old }
-    requires activity { local.old.activity ≡ Activity.ScanClock }
+    requires activity { local.old.activity ≡ Activity.Draw Draw.Clock }
     ensures makes { Makes shared.now pass.old Choice.Go result.told pass.new }
     ensures line { outcome local.new result.done ≡ next_of product shared.now.opening.rows Choice.Go
         local.old result.told }
@@ -47,7 +48,7 @@ fn load_scan_clock(shared: &Shared, pass: &mut Pass, local: &mut Local) -> Happe
 #[inline(always)]
 fn wait_with_clock(shared: &Shared, pass: &mut Pass, local: &mut Local) -> Happened
     requires follows { Follows shared.now pass.old local.old }
-    requires activity { local.old.activity ≡ Activity.ScanWait }
+    requires activity { local.old.activity ≡ Activity.Draw Draw.Wait }
     ensures makes { Makes shared.now pass.old Choice.Go result.told pass.new }
     ensures line { outcome local.new result.done ≡ next_of product shared.now.opening.rows Choice.Go
         local.old result.told }
@@ -55,7 +56,7 @@ fn wait_with_clock(shared: &Shared, pass: &mut Pass, local: &mut Local) -> Happe
     let word = Name::Scan(pass.number());
     let waiting = ScanWord::Waiting(local.waiting).pack();
     let told = store_waiting(shared, pass, Choice::Go, word, waiting);
-    let done = to(local, Activity::ScanDraw);
+    let done = to(local, Activity::Draw(Draw::Version));
     Happened { told, done }
 }
 
@@ -63,14 +64,14 @@ fn wait_with_clock(shared: &Shared, pass: &mut Pass, local: &mut Local) -> Happe
 #[inline(always)]
 fn draw_version(shared: &Shared, pass: &mut Pass, local: &mut Local) -> Happened
     requires follows { Follows shared.now pass.old local.old }
-    requires activity { local.old.activity ≡ Activity.ScanDraw }
+    requires activity { local.old.activity ≡ Activity.Draw Draw.Version }
     ensures makes { Makes shared.now pass.old Choice.Go result.told pass.new }
     ensures line { outcome local.new result.done ≡ next_of product shared.now.opening.rows Choice.Go
         local.old result.told }
 {
     let told = add_to_clock(shared, pass, Choice::Go, Name::Clock, 1);
     local.drawn = told;
-    let done = to(local, Activity::ScanSettle);
+    let done = to(local, Activity::Draw(Draw::Settle));
     Happened { told, done }
 }
 
@@ -78,7 +79,7 @@ fn draw_version(shared: &Shared, pass: &mut Pass, local: &mut Local) -> Happened
 #[inline(always)]
 fn settle_version(shared: &Shared, pass: &mut Pass, local: &mut Local) -> Happened
     requires follows { Follows shared.now pass.old local.old }
-    requires activity { local.old.activity ≡ Activity.ScanSettle }
+    requires activity { local.old.activity ≡ Activity.Draw Draw.Settle }
     ensures makes { Makes shared.now pass.old Choice.Go result.told pass.new }
     ensures line { outcome local.new result.done ≡ next_of product shared.now.opening.rows Choice.Go
         local.old result.told }
@@ -101,7 +102,7 @@ pub(crate) fn clear_version(
     choice: Choice,
 ) -> Happened
     requires follows { Follows shared.now pass.old local.old }
-    requires over { local.old.activity ≡ Activity.ClearScan answer }
+    requires over { local.old.activity ≡ Activity.EndScan answer }
     ensures makes { Makes shared.now pass.old choice result.told pass.new }
     ensures line { outcome local.new result.done ≡ next_of product shared.now.opening.rows
         (offered shared.now.opening.rows choice) local.old result.told }
@@ -123,10 +124,10 @@ fn draw_event(shared: &Shared, pass: &mut Pass, local: &mut Local) -> Happened
         local.old result.told }
 {
     match local.activity {
-        Activity::ScanClock => load_scan_clock(shared, pass, local),
-        Activity::ScanWait => wait_with_clock(shared, pass, local),
-        Activity::ScanDraw => draw_version(shared, pass, local),
-        Activity::ScanSettle => settle_version(shared, pass, local),
+        Activity::Draw(Draw::Clock) => load_scan_clock(shared, pass, local),
+        Activity::Draw(Draw::Wait) => wait_with_clock(shared, pass, local),
+        Activity::Draw(Draw::Version) => draw_version(shared, pass, local),
+        Activity::Draw(Draw::Settle) => settle_version(shared, pass, local),
         _ => unreachable!(),
     }
 }

@@ -23,6 +23,9 @@ use kw_table::{
 use kw_words::layout::Name;
 use kw_words::pend::Pend;
 use kw_world::activity::Activity;
+use kw_world::activity::rebalance::Rebalance;
+use kw_world::activity::rebalance::freeze::Freeze;
+use kw_world::activity::rebalance::gather::Gather;
 use kw_world::event::Choice;
 use kw_world::local::Local;
 
@@ -35,7 +38,7 @@ pub(crate) fn look_at_entry(
     entry: u32,
 ) -> Happened
     requires follows { Follows shared.now pass.old local.old }
-    requires activity { local.old.activity ≡ Activity.FreezeLook entry }
+    requires activity { local.old.activity ≡ Activity.Rebalance (Rebalance.Freeze (Freeze.Look entry)) }
     ensures makes { Makes shared.now pass.old Choice.Go result.told pass.new }
     ensures line { outcome local.new result.done ≡ next_of product shared.now.opening.rows Choice.Go
         local.old result.told }
@@ -55,7 +58,7 @@ pub(crate) fn freeze_entry(
     entry: u32,
 ) -> Happened
     requires follows { Follows shared.now pass.old local.old }
-    requires activity { local.old.activity ≡ Activity.Freeze entry }
+    requires activity { local.old.activity ≡ Activity.Rebalance (Rebalance.Freeze (Freeze.Entry entry)) }
     ensures makes { Makes shared.now pass.old Choice.Go result.told pass.new }
     ensures line { outcome local.new result.done ≡ next_of product shared.now.opening.rows Choice.Go
         local.old result.told }
@@ -77,7 +80,7 @@ pub(crate) fn look_at_scan(
     seat: u32,
 ) -> Happened
     requires follows { Follows shared.now pass.old local.old }
-    requires activity { local.old.activity ≡ Activity.ScanLook seat }
+    requires activity { local.old.activity ≡ Activity.Rebalance (Rebalance.Freeze (Freeze.Scan seat)) }
     ensures makes { Makes shared.now pass.old Choice.Go result.told pass.new }
     ensures line { outcome local.new result.done ≡ next_of product shared.now.opening.rows Choice.Go
         local.old result.told }
@@ -91,7 +94,7 @@ pub(crate) fn look_at_scan(
 #[inline(always)]
 pub(crate) fn load_link(shared: &Shared, pass: &mut Pass, local: &mut Local) -> Happened
     requires follows { Follows shared.now pass.old local.old }
-    requires activity { local.old.activity ≡ Activity.TakeFrom }
+    requires activity { local.old.activity ≡ Activity.Rebalance (Rebalance.Gather Gather.Link) }
     ensures makes { Makes shared.now pass.old Choice.Go result.told pass.new }
     ensures line { outcome local.new result.done ≡ next_of product shared.now.opening.rows Choice.Go
         local.old result.told }
@@ -106,7 +109,7 @@ pub(crate) fn load_link(shared: &Shared, pass: &mut Pass, local: &mut Local) -> 
 #[inline(always)]
 pub(crate) fn load_met_key(shared: &Shared, pass: &mut Pass, local: &mut Local) -> Happened
     requires follows { Follows shared.now pass.old local.old }
-    requires activity { local.old.activity ≡ Activity.TakeKey }
+    requires activity { local.old.activity ≡ Activity.Rebalance (Rebalance.Gather Gather.Key) }
     ensures makes { Makes shared.now pass.old Choice.Go result.told pass.new }
     ensures line { outcome local.new result.done ≡ next_of product shared.now.opening.rows Choice.Go
         local.old result.told }
@@ -121,7 +124,7 @@ pub(crate) fn load_met_key(shared: &Shared, pass: &mut Pass, local: &mut Local) 
 #[inline(always)]
 pub(crate) fn load_met_version(shared: &Shared, pass: &mut Pass, local: &mut Local) -> Happened
     requires follows { Follows shared.now pass.old local.old }
-    requires activity { local.old.activity ≡ Activity.TakeVersion }
+    requires activity { local.old.activity ≡ Activity.Rebalance (Rebalance.Gather Gather.Version) }
     ensures makes { Makes shared.now pass.old Choice.Go result.told pass.new }
     ensures line { outcome local.new result.done ≡ next_of product shared.now.opening.rows Choice.Go
         local.old result.told }
@@ -136,7 +139,7 @@ pub(crate) fn load_met_version(shared: &Shared, pass: &mut Pass, local: &mut Loc
 #[inline(always)]
 pub(crate) fn load_met_value(shared: &Shared, pass: &mut Pass, local: &mut Local) -> Happened
     requires follows { Follows shared.now pass.old local.old }
-    requires activity { local.old.activity ≡ Activity.TakeValue }
+    requires activity { local.old.activity ≡ Activity.Rebalance (Rebalance.Gather Gather.Value) }
     ensures makes { Makes shared.now pass.old Choice.Go result.told pass.new }
     ensures line { outcome local.new result.done ≡ next_of product shared.now.opening.rows Choice.Go
         local.old result.told }
@@ -151,7 +154,7 @@ pub(crate) fn load_met_value(shared: &Shared, pass: &mut Pass, local: &mut Local
 #[inline(always)]
 pub(crate) fn load_left_key(shared: &Shared, pass: &mut Pass, local: &mut Local) -> Happened
     requires follows { Follows shared.now pass.old local.old }
-    requires activity { local.old.activity ≡ Activity.TakeRestKey }
+    requires activity { local.old.activity ≡ Activity.Rebalance (Rebalance.Gather Gather.LeftOverKey) }
     ensures makes { Makes shared.now pass.old Choice.Go result.told pass.new }
     ensures line { outcome local.new result.done ≡ next_of product shared.now.opening.rows Choice.Go
         local.old result.told }
@@ -166,7 +169,7 @@ pub(crate) fn load_left_key(shared: &Shared, pass: &mut Pass, local: &mut Local)
 #[inline(always)]
 pub(crate) fn load_left_value(shared: &Shared, pass: &mut Pass, local: &mut Local) -> Happened
     requires follows { Follows shared.now pass.old local.old }
-    requires activity { local.old.activity ≡ Activity.TakeRestValue }
+    requires activity { local.old.activity ≡ Activity.Rebalance (Rebalance.Gather Gather.LeftOverValue) }
     ensures makes { Makes shared.now pass.old Choice.Go result.told pass.new }
     ensures line { outcome local.new result.done ≡ next_of product shared.now.opening.rows Choice.Go
         local.old result.told }

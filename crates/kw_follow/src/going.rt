@@ -27,6 +27,7 @@ use kw_core::step::{operation, resume};
 use kw_model::call::{Call, Reply};
 use kw_table::{Pass, Shared, make};
 use kw_world::activity::Activity;
+use kw_world::activity::enter::Enter;
 use kw_world::answer::Answer;
 use kw_world::event::{Choice, StepDone};
 use kw_world::local::Local;
@@ -86,7 +87,7 @@ pub fn begin(shared: &Shared, pass: &mut Pass, local: &mut Local, call: Call)
     requires range { is_call_in_range call ≡ true }
     ensures goes { GoesTo shared.now pass.old pass.new }
     ensures follows { Follows shared.now pass.new local.new }
-    ensures activity { local.new.activity ≡ Activity.Enter }
+    ensures activity { local.new.activity ≡ Activity.Enter Enter.Announce }
     ensures call { local.new.call ≡ Some call }
     ensures unread { local.new.has_read ≡ false }
     ensures opens { Opens pass.old pass.new call }
@@ -118,17 +119,17 @@ pub fn go(shared: &Shared, pass: &mut Pass, local: &mut Local, choice: Choice) -
 /// stop. Takes no memory.
 pub fn clear(shared: &Shared, pass: &mut Pass, local: &mut Local, choice: Choice)
     requires follows { Follows shared.now pass.old local.old }
-    requires over { (answer : Answer) × (local.old.activity ≡ Activity.ClearScan answer) }
+    requires over { (answer : Answer) × (local.old.activity ≡ Activity.EndScan answer) }
     ensures goes { GoesTo shared.now pass.old pass.new }
     ensures follows { Follows shared.now pass.new local.new }
-    ensures leaves { (answer : Answer) → activity_in pass.old ≡ Activity.ClearScan answer →
+    ensures leaves { (answer : Answer) → activity_in pass.old ≡ Activity.EndScan answer →
         activity_in pass.new ≡ Activity.Leave (answer_or_stopped answer choice) }
-    ensures activity { (answer : Answer) → local.old.activity ≡ Activity.ClearScan answer →
+    ensures activity { (answer : Answer) → local.old.activity ≡ Activity.EndScan answer →
         local.new.activity ≡ Activity.Leave (answer_or_stopped answer choice) }
     ensures calls { KeepsCalls pass.old pass.new }
     ensures held { is_stop choice ≡ false → held pass.new ≡ held pass.old }
 {
-    let Activity::ClearScan(answer) = local.activity else {
+    let Activity::EndScan(answer) = local.activity else {
         unreachable!()
     };
     clear_version(shared, pass, local, answer, choice);

@@ -34,6 +34,8 @@ use kw_words::layout::Name;
 use kw_words::pend::Pend;
 use kw_words::plain::{pack_cell_link, pack_key, pack_value, pack_version};
 use kw_world::activity::Activity;
+use kw_world::activity::insert::Insert;
+use kw_world::activity::put::Put;
 use kw_world::answer::Answer;
 use kw_world::calls::{first_key, put_value};
 use kw_world::event::{Choice, StepDone};
@@ -43,7 +45,7 @@ use kw_world::local::Local;
 #[inline(always)]
 fn load_given(shared: &Shared, pass: &mut Pass, local: &mut Local) -> Happened
     requires follows { Follows shared.now pass.old local.old }
-    requires activity { local.old.activity ≡ Activity.PutCount }
+    requires activity { local.old.activity ≡ Activity.Put Put.Count }
     ensures makes { Makes shared.now pass.old Choice.Go result.told pass.new }
     ensures line { outcome local.new result.done ≡ next_of product shared.now.opening.rows Choice.Go
         local.old result.told }
@@ -58,7 +60,7 @@ fn load_given(shared: &Shared, pass: &mut Pass, local: &mut Local) -> Happened
 #[inline(always)]
 fn ask_for_cell(shared: &Shared, pass: &mut Pass, local: &mut Local) -> Happened
     requires follows { Follows shared.now pass.old local.old }
-    requires activity { local.old.activity ≡ Activity.PutAdd }
+    requires activity { local.old.activity ≡ Activity.Put Put.Add }
     ensures makes { Makes shared.now pass.old Choice.Go result.told pass.new }
     ensures line { outcome local.new result.done ≡ next_of product shared.now.opening.rows Choice.Go
         local.old result.told }
@@ -73,7 +75,7 @@ fn ask_for_cell(shared: &Shared, pass: &mut Pass, local: &mut Local) -> Happened
 #[inline(always)]
 fn write_key(shared: &Shared, pass: &mut Pass, local: &mut Local) -> Happened
     requires follows { Follows shared.now pass.old local.old }
-    requires activity { local.old.activity ≡ Activity.PutKey }
+    requires activity { local.old.activity ≡ Activity.Put Put.Key }
     ensures makes { Makes shared.now pass.old Choice.Go result.told pass.new }
     ensures line { outcome local.new result.done ≡ next_of product shared.now.opening.rows Choice.Go
         local.old result.told }
@@ -81,7 +83,7 @@ fn write_key(shared: &Shared, pass: &mut Pass, local: &mut Local) -> Happened
     let word = Name::Key(local.row, local.cell);
     let key = pack_key(first_key(local.call));
     let told = store_key(shared, pass, Choice::Go, word, key);
-    let done = to(local, Activity::PutValue);
+    let done = to(local, Activity::Put(Put::Value));
     Happened { told, done }
 }
 
@@ -89,7 +91,7 @@ fn write_key(shared: &Shared, pass: &mut Pass, local: &mut Local) -> Happened
 #[inline(always)]
 fn write_value(shared: &Shared, pass: &mut Pass, local: &mut Local) -> Happened
     requires follows { Follows shared.now pass.old local.old }
-    requires activity { local.old.activity ≡ Activity.PutValue }
+    requires activity { local.old.activity ≡ Activity.Put Put.Value }
     ensures makes { Makes shared.now pass.old Choice.Go result.told pass.new }
     ensures line { outcome local.new result.done ≡ next_of product shared.now.opening.rows Choice.Go
         local.old result.told }
@@ -97,7 +99,7 @@ fn write_value(shared: &Shared, pass: &mut Pass, local: &mut Local) -> Happened
     let word = Name::Value(local.row, local.cell);
     let value = pack_value(put_value(local.call));
     let told = store_value(shared, pass, Choice::Go, word, value);
-    let done = to(local, Activity::Announce);
+    let done = to(local, Activity::Put(Put::Announce));
     Happened { told, done }
 }
 
@@ -105,7 +107,7 @@ fn write_value(shared: &Shared, pass: &mut Pass, local: &mut Local) -> Happened
 #[inline(always)]
 fn announce_cell(shared: &Shared, pass: &mut Pass, local: &mut Local) -> Happened
     requires follows { Follows shared.now pass.old local.old }
-    requires activity { local.old.activity ≡ Activity.Announce }
+    requires activity { local.old.activity ≡ Activity.Put Put.Announce }
     ensures makes { Makes shared.now pass.old Choice.Go result.told pass.new }
     ensures line { outcome local.new result.done ≡ next_of product shared.now.opening.rows Choice.Go
         local.old result.told }
@@ -122,14 +124,14 @@ fn announce_cell(shared: &Shared, pass: &mut Pass, local: &mut Local) -> Happene
 #[inline(always)]
 fn load_own_clock(shared: &Shared, pass: &mut Pass, local: &mut Local) -> Happened
     requires follows { Follows shared.now pass.old local.old }
-    requires activity { local.old.activity ≡ Activity.PutClock }
+    requires activity { local.old.activity ≡ Activity.Put Put.Clock }
     ensures makes { Makes shared.now pass.old Choice.Go result.told pass.new }
     ensures line { outcome local.new result.done ≡ next_of product shared.now.opening.rows Choice.Go
         local.old result.told }
 {
     let told = load_clock(shared, pass, Choice::Go, Name::Clock);
     local.version = told;
-    let done = to(local, Activity::Stamp);
+    let done = to(local, Activity::Put(Put::Stamp));
     Happened { told, done }
 }
 
@@ -137,7 +139,7 @@ fn load_own_clock(shared: &Shared, pass: &mut Pass, local: &mut Local) -> Happen
 #[inline(always)]
 fn stamp_cell(shared: &Shared, pass: &mut Pass, local: &mut Local) -> Happened
     requires follows { Follows shared.now pass.old local.old }
-    requires activity { local.old.activity ≡ Activity.Stamp }
+    requires activity { local.old.activity ≡ Activity.Put Put.Stamp }
     ensures makes { Makes shared.now pass.old Choice.Go result.told pass.new }
     ensures line { outcome local.new result.done ≡ next_of product shared.now.opening.rows Choice.Go
         local.old result.told }
@@ -154,7 +156,7 @@ fn stamp_cell(shared: &Shared, pass: &mut Pass, local: &mut Local) -> Happened
 #[inline(always)]
 fn write_version(shared: &Shared, pass: &mut Pass, local: &mut Local) -> Happened
     requires follows { Follows shared.now pass.old local.old }
-    requires activity { local.old.activity ≡ Activity.PutVersion }
+    requires activity { local.old.activity ≡ Activity.Put Put.Version }
     ensures makes { Makes shared.now pass.old Choice.Go result.told pass.new }
     ensures line { outcome local.new result.done ≡ next_of product shared.now.opening.rows Choice.Go
         local.old result.told }
@@ -170,7 +172,7 @@ fn write_version(shared: &Shared, pass: &mut Pass, local: &mut Local) -> Happene
 #[inline(always)]
 fn clear_entry(shared: &Shared, pass: &mut Pass, local: &mut Local) -> Happened
     requires follows { Follows shared.now pass.old local.old }
-    requires activity { local.old.activity ≡ Activity.PutClear }
+    requires activity { local.old.activity ≡ Activity.Put Put.Clear }
     ensures makes { Makes shared.now pass.old Choice.Go result.told pass.new }
     ensures line { outcome local.new result.done ≡ next_of product shared.now.opening.rows Choice.Go
         local.old result.told }
@@ -203,7 +205,7 @@ pub fn meet_insert_key(local: &mut Local, found: u64) -> StepDone
 #[inline(always)]
 fn load_link(shared: &Shared, pass: &mut Pass, local: &mut Local) -> Happened
     requires follows { Follows shared.now pass.old local.old }
-    requires activity { local.old.activity ≡ Activity.InsFrom }
+    requires activity { local.old.activity ≡ Activity.Insert Insert.Link }
     ensures makes { Makes shared.now pass.old Choice.Go result.told pass.new }
     ensures line { outcome local.new result.done ≡ next_of product shared.now.opening.rows Choice.Go
         local.old result.told }
@@ -218,7 +220,7 @@ fn load_link(shared: &Shared, pass: &mut Pass, local: &mut Local) -> Happened
 #[inline(always)]
 fn load_met_key(shared: &Shared, pass: &mut Pass, local: &mut Local) -> Happened
     requires follows { Follows shared.now pass.old local.old }
-    requires activity { local.old.activity ≡ Activity.InsKey }
+    requires activity { local.old.activity ≡ Activity.Insert Insert.Key }
     ensures makes { Makes shared.now pass.old Choice.Go result.told pass.new }
     ensures line { outcome local.new result.done ≡ next_of product shared.now.opening.rows Choice.Go
         local.old result.told }
@@ -233,7 +235,7 @@ fn load_met_key(shared: &Shared, pass: &mut Pass, local: &mut Local) -> Happened
 #[inline(always)]
 fn load_met_version(shared: &Shared, pass: &mut Pass, local: &mut Local) -> Happened
     requires follows { Follows shared.now pass.old local.old }
-    requires activity { local.old.activity ≡ Activity.InsVer }
+    requires activity { local.old.activity ≡ Activity.Insert Insert.Version }
     ensures makes { Makes shared.now pass.old Choice.Go result.told pass.new }
     ensures line { outcome local.new result.done ≡ next_of product shared.now.opening.rows Choice.Go
         local.old result.told }
@@ -248,7 +250,7 @@ fn load_met_version(shared: &Shared, pass: &mut Pass, local: &mut Local) -> Happ
 #[inline(always)]
 fn store_link(shared: &Shared, pass: &mut Pass, local: &mut Local) -> Happened
     requires follows { Follows shared.now pass.old local.old }
-    requires activity { local.old.activity ≡ Activity.InsSet }
+    requires activity { local.old.activity ≡ Activity.Insert Insert.Set }
     ensures makes { Makes shared.now pass.old Choice.Go result.told pass.new }
     ensures line { outcome local.new result.done ≡ next_of product shared.now.opening.rows Choice.Go
         local.old result.told }
@@ -256,7 +258,7 @@ fn store_link(shared: &Shared, pass: &mut Pass, local: &mut Local) -> Happened
     let after = Name::After(local.row, local.cell);
     let held = pack_cell_link(local.held);
     let told = store_after(shared, pass, Choice::Go, after, held);
-    let done = to(local, Activity::Insert);
+    let done = to(local, Activity::Insert(Insert::Exchange));
     Happened { told, done }
 }
 
@@ -264,7 +266,7 @@ fn store_link(shared: &Shared, pass: &mut Pass, local: &mut Local) -> Happened
 #[inline(always)]
 fn exchange_link(shared: &Shared, pass: &mut Pass, local: &mut Local) -> Happened
     requires follows { Follows shared.now pass.old local.old }
-    requires activity { local.old.activity ≡ Activity.Insert }
+    requires activity { local.old.activity ≡ Activity.Insert Insert.Exchange }
     ensures makes { Makes shared.now pass.old Choice.Go result.told pass.new }
     ensures line { outcome local.new result.done ≡ next_of product shared.now.opening.rows Choice.Go
         local.old result.told }
@@ -287,20 +289,20 @@ fn put_event(shared: &Shared, pass: &mut Pass, local: &mut Local) -> Happened
         local.old result.told }
 {
     match local.activity {
-        Activity::PutCount => load_given(shared, pass, local),
-        Activity::PutAdd => ask_for_cell(shared, pass, local),
-        Activity::PutKey => write_key(shared, pass, local),
-        Activity::PutValue => write_value(shared, pass, local),
-        Activity::Announce => announce_cell(shared, pass, local),
-        Activity::PutClock => load_own_clock(shared, pass, local),
-        Activity::Stamp => stamp_cell(shared, pass, local),
-        Activity::PutVersion => write_version(shared, pass, local),
-        Activity::InsFrom => load_link(shared, pass, local),
-        Activity::InsKey => load_met_key(shared, pass, local),
-        Activity::InsVer => load_met_version(shared, pass, local),
-        Activity::InsSet => store_link(shared, pass, local),
-        Activity::Insert => exchange_link(shared, pass, local),
-        Activity::PutClear => clear_entry(shared, pass, local),
+        Activity::Put(Put::Count) => load_given(shared, pass, local),
+        Activity::Put(Put::Add) => ask_for_cell(shared, pass, local),
+        Activity::Put(Put::Key) => write_key(shared, pass, local),
+        Activity::Put(Put::Value) => write_value(shared, pass, local),
+        Activity::Put(Put::Announce) => announce_cell(shared, pass, local),
+        Activity::Put(Put::Clock) => load_own_clock(shared, pass, local),
+        Activity::Put(Put::Stamp) => stamp_cell(shared, pass, local),
+        Activity::Put(Put::Version) => write_version(shared, pass, local),
+        Activity::Insert(Insert::Link) => load_link(shared, pass, local),
+        Activity::Insert(Insert::Key) => load_met_key(shared, pass, local),
+        Activity::Insert(Insert::Version) => load_met_version(shared, pass, local),
+        Activity::Insert(Insert::Set) => store_link(shared, pass, local),
+        Activity::Insert(Insert::Exchange) => exchange_link(shared, pass, local),
+        Activity::Put(Put::Clear) => clear_entry(shared, pass, local),
         _ => unreachable!(),
     }
 }

@@ -26,6 +26,8 @@ use kw_table::{Pass, Shared, load_key, load_value};
 use kw_words::layout::Name;
 use kw_words::plain::unpack_key;
 use kw_world::activity::Activity;
+use kw_world::activity::read::Read;
+use kw_world::activity::walk::Walk;
 use kw_world::answer::Answer;
 use kw_world::calls::{first_key, is_in_range};
 use kw_world::event::Choice;
@@ -36,7 +38,7 @@ use kw_world::local::Local;
 #[inline(always)]
 fn load_rest_key(shared: &Shared, pass: &mut Pass, local: &mut Local) -> u64
     requires follows { Follows shared.now pass.old local.old }
-    requires activity { local.old.activity ≡ Activity.RestKey }
+    requires activity { local.old.activity ≡ Activity.Read Read.LeftOverKey }
     ensures makes { Makes shared.now pass.old Choice.Go result pass.new }
     ensures follows { Follows shared.now pass.new local.new }
 {
@@ -50,7 +52,7 @@ fn load_rest_key(shared: &Shared, pass: &mut Pass, local: &mut Local) -> u64
 #[inline(always)]
 fn load_rest_value(shared: &Shared, pass: &mut Pass, local: &mut Local) -> u64
     requires follows { Follows shared.now pass.old local.old }
-    requires activity { local.old.activity ≡ Activity.RestVal }
+    requires activity { local.old.activity ≡ Activity.Read Read.LeftOverValue }
     ensures makes { Makes shared.now pass.old Choice.Go result pass.new }
     ensures follows { Follows shared.now pass.new local.new }
 {
@@ -69,8 +71,8 @@ fn remembered_event(shared: &Shared, pass: &mut Pass, local: &mut Local) -> u64
     ensures follows { Follows shared.now pass.new local.new }
 {
     match local.activity {
-        Activity::RestKey => load_rest_key(shared, pass, local),
-        Activity::RestVal => load_rest_value(shared, pass, local),
+        Activity::Read(Read::LeftOverKey) => load_rest_key(shared, pass, local),
+        Activity::Read(Read::LeftOverValue) => load_rest_value(shared, pass, local),
         _ => unreachable!(),
     }
 }
@@ -105,7 +107,7 @@ fn left_key(local: &mut Local, found: u64)
     let key = unpack_key(found);
     if is_in_range(local.call, key) {
         local.place_key = key;
-        local.activity = Activity::RestVal;
+        local.activity = Activity::Read(Read::LeftOverValue);
     } else {
         go_to_rest(local);
     }
@@ -125,7 +127,7 @@ pub fn go_to_rest(local: &mut Local)
     ensures { CarriesOn to_rest local.old local.new }
 {
     if take_remembered(local) {
-        local.activity = Activity::RestKey;
+        local.activity = Activity::Read(Read::LeftOverKey);
     } else {
         end_row(local);
     }
@@ -169,8 +171,8 @@ fn go_on(local: &mut Local, upto: u32)
             local.want = local.upper;
             local.next = None;
             local.upper = 0;
-            local.activity = Activity::Walk;
+            local.activity = Activity::Walk(Walk::Next);
         }
-        _ => local.activity = Activity::ClearScan(Answer::Pairs),
+        _ => local.activity = Activity::EndScan(Answer::Pairs),
     }
 }

@@ -19,6 +19,7 @@ use kw_table::{Pass, Shared, clear_pass, load_epoch, load_min, load_state, store
 use kw_words::layout::Name;
 use kw_words::plain::pack_pass;
 use kw_world::activity::Activity;
+use kw_world::activity::walk::Walk;
 use kw_world::answer::Answer;
 use kw_world::event::Choice;
 use kw_world::local::Local;
@@ -50,7 +51,7 @@ impl Way {
         requires table { IsPassOf shared.now pass.old }
         requires idle { activity_in pass.old ≡ Activity.Idle }
         ensures goes { GoesTo shared.now pass.old pass.new }
-        ensures follows { Follows shared.now pass.new (on_way Activity.Start result) }
+        ensures follows { Follows shared.now pass.new (on_way (Activity.Walk Walk.Start) result) }
         ensures key { result.key ≡ key }
         ensures opens { Opens pass.old pass.new (Call.Get key) }
     {
@@ -89,7 +90,7 @@ impl Way {
     /// no memory.
     #[inline(always)]
     pub fn load_state(self, shared: &Shared, pass: &mut Pass, row: u32) -> u64
-        requires follows { Follows shared.now pass.old (on_way Activity.Start self) }
+        requires follows { Follows shared.now pass.old (on_way (Activity.Walk Walk.Start) self) }
         requires in_range { row < shared.now.opening.rows }
         ensures { Makes shared.now pass.old (Choice.Guess row) result pass.new }
     {
@@ -100,7 +101,7 @@ impl Way {
     /// told. Takes no memory.
     #[inline(always)]
     pub fn load_least(self, shared: &Shared, pass: &mut Pass) -> u64
-        requires { Follows shared.now pass.old (on_way Activity.GuessMin self) }
+        requires { Follows shared.now pass.old (on_way (Activity.Walk Walk.GuessedLeast) self) }
         ensures { Makes shared.now pass.old Choice.Go result pass.new }
     {
         load_min(shared, pass, Choice::Go, Name::Min(self.row))

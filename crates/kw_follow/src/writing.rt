@@ -23,6 +23,8 @@ use kw_table::{Pass, Shared, store_infant};
 use kw_words::layout::Name;
 use kw_words::pend::Pend;
 use kw_world::activity::Activity;
+use kw_world::activity::rebalance::Rebalance;
+use kw_world::activity::rebalance::write::Write;
 use kw_world::event::Choice;
 use kw_world::local::Local;
 
@@ -30,7 +32,7 @@ use kw_world::local::Local;
 #[inline(always)]
 pub(crate) fn write_count(shared: &Shared, pass: &mut Pass, local: &mut Local) -> Happened
     requires follows { Follows shared.now pass.old local.old }
-    requires activity { local.old.activity ≡ Activity.WriteCount }
+    requires activity { local.old.activity ≡ Activity.Rebalance (Rebalance.Write Write.Count) }
     ensures makes { Makes shared.now pass.old Choice.Go result.told pass.new }
     ensures line { outcome local.new result.done ≡ next_of product shared.now.opening.rows Choice.Go
         local.old result.told }
@@ -38,7 +40,7 @@ pub(crate) fn write_count(shared: &Shared, pass: &mut Pass, local: &mut Local) -
     let word = Name::Count(infant(local));
     let count = count_word(local);
     let told = store_infant(shared, pass, Choice::Go, word, count);
-    let done = to(local, Activity::WriteMin);
+    let done = to(local, Activity::Rebalance(Rebalance::Write(Write::Least)));
     Happened { told, done }
 }
 
@@ -46,7 +48,7 @@ pub(crate) fn write_count(shared: &Shared, pass: &mut Pass, local: &mut Local) -
 #[inline(always)]
 pub(crate) fn write_least(shared: &Shared, pass: &mut Pass, local: &mut Local) -> Happened
     requires follows { Follows shared.now pass.old local.old }
-    requires activity { local.old.activity ≡ Activity.WriteMin }
+    requires activity { local.old.activity ≡ Activity.Rebalance (Rebalance.Write Write.Least) }
     ensures makes { Makes shared.now pass.old Choice.Go result.told pass.new }
     ensures line { outcome local.new result.done ≡ next_of product shared.now.opening.rows Choice.Go
         local.old result.told }
@@ -54,7 +56,7 @@ pub(crate) fn write_least(shared: &Shared, pass: &mut Pass, local: &mut Local) -
     let word = Name::Min(infant(local));
     let least = least_word(local);
     let told = store_infant(shared, pass, Choice::Go, word, least);
-    let done = to(local, Activity::WriteNext);
+    let done = to(local, Activity::Rebalance(Rebalance::Write(Write::Next)));
     Happened { told, done }
 }
 
@@ -62,7 +64,7 @@ pub(crate) fn write_least(shared: &Shared, pass: &mut Pass, local: &mut Local) -
 #[inline(always)]
 pub(crate) fn write_next(shared: &Shared, pass: &mut Pass, local: &mut Local) -> Happened
     requires follows { Follows shared.now pass.old local.old }
-    requires activity { local.old.activity ≡ Activity.WriteNext }
+    requires activity { local.old.activity ≡ Activity.Rebalance (Rebalance.Write Write.Next) }
     ensures makes { Makes shared.now pass.old Choice.Go result.told pass.new }
     ensures line { outcome local.new result.done ≡ next_of product shared.now.opening.rows Choice.Go
         local.old result.told }
@@ -70,7 +72,7 @@ pub(crate) fn write_next(shared: &Shared, pass: &mut Pass, local: &mut Local) ->
     let word = Name::Next(infant(local));
     let next = next_word(local);
     let told = store_infant(shared, pass, Choice::Go, word, next);
-    let done = to(local, Activity::WriteFirst);
+    let done = to(local, Activity::Rebalance(Rebalance::Write(Write::First)));
     Happened { told, done }
 }
 
@@ -78,7 +80,7 @@ pub(crate) fn write_next(shared: &Shared, pass: &mut Pass, local: &mut Local) ->
 #[inline(always)]
 pub(crate) fn write_first(shared: &Shared, pass: &mut Pass, local: &mut Local) -> Happened
     requires follows { Follows shared.now pass.old local.old }
-    requires activity { local.old.activity ≡ Activity.WriteFirst }
+    requires activity { local.old.activity ≡ Activity.Rebalance (Rebalance.Write Write.First) }
     ensures makes { Makes shared.now pass.old Choice.Go result.told pass.new }
     ensures line { outcome local.new result.done ≡ next_of product shared.now.opening.rows Choice.Go
         local.old result.told }
@@ -99,7 +101,7 @@ pub(crate) fn write_entry(
     entry: u32,
 ) -> Happened
     requires follows { Follows shared.now pass.old local.old }
-    requires activity { local.old.activity ≡ Activity.WritePend entry }
+    requires activity { local.old.activity ≡ Activity.Rebalance (Rebalance.Write (Write.Entry entry)) }
     ensures makes { Makes shared.now pass.old Choice.Go result.told pass.new }
     ensures line { outcome local.new result.done ≡ next_of product shared.now.opening.rows Choice.Go
         local.old result.told }
@@ -115,7 +117,7 @@ pub(crate) fn write_entry(
 #[inline(always)]
 pub(crate) fn write_key(shared: &Shared, pass: &mut Pass, local: &mut Local, cell: u32) -> Happened
     requires follows { Follows shared.now pass.old local.old }
-    requires activity { local.old.activity ≡ Activity.WriteKey cell }
+    requires activity { local.old.activity ≡ Activity.Rebalance (Rebalance.Write (Write.Key cell)) }
     ensures makes { Makes shared.now pass.old Choice.Go result.told pass.new }
     ensures line { outcome local.new result.done ≡ next_of product shared.now.opening.rows Choice.Go
         local.old result.told }
@@ -123,7 +125,10 @@ pub(crate) fn write_key(shared: &Shared, pass: &mut Pass, local: &mut Local, cel
     let word = Name::Key(infant(local), cell);
     let key = key_word(local, cell);
     let told = store_infant(shared, pass, Choice::Go, word, key);
-    let done = to(local, Activity::WriteValue(cell));
+    let done = to(
+        local,
+        Activity::Rebalance(Rebalance::Write(Write::Value(cell))),
+    );
     Happened { told, done }
 }
 
@@ -136,7 +141,7 @@ pub(crate) fn write_value(
     cell: u32,
 ) -> Happened
     requires follows { Follows shared.now pass.old local.old }
-    requires activity { local.old.activity ≡ Activity.WriteValue cell }
+    requires activity { local.old.activity ≡ Activity.Rebalance (Rebalance.Write (Write.Value cell)) }
     ensures makes { Makes shared.now pass.old Choice.Go result.told pass.new }
     ensures line { outcome local.new result.done ≡ next_of product shared.now.opening.rows Choice.Go
         local.old result.told }
@@ -144,7 +149,10 @@ pub(crate) fn write_value(
     let word = Name::Value(infant(local), cell);
     let value = value_word(local, cell);
     let told = store_infant(shared, pass, Choice::Go, word, value);
-    let done = to(local, Activity::WriteVersion(cell));
+    let done = to(
+        local,
+        Activity::Rebalance(Rebalance::Write(Write::Version(cell))),
+    );
     Happened { told, done }
 }
 
@@ -157,7 +165,7 @@ pub(crate) fn write_version(
     cell: u32,
 ) -> Happened
     requires follows { Follows shared.now pass.old local.old }
-    requires activity { local.old.activity ≡ Activity.WriteVersion cell }
+    requires activity { local.old.activity ≡ Activity.Rebalance (Rebalance.Write (Write.Version cell)) }
     ensures makes { Makes shared.now pass.old Choice.Go result.told pass.new }
     ensures line { outcome local.new result.done ≡ next_of product shared.now.opening.rows Choice.Go
         local.old result.told }
@@ -165,7 +173,10 @@ pub(crate) fn write_version(
     let word = Name::Version(infant(local), cell);
     let version = version_word(local, cell);
     let told = store_infant(shared, pass, Choice::Go, word, version);
-    let done = to(local, Activity::WriteAfter(cell));
+    let done = to(
+        local,
+        Activity::Rebalance(Rebalance::Write(Write::After(cell))),
+    );
     Happened { told, done }
 }
 
@@ -178,7 +189,7 @@ pub(crate) fn write_after(
     cell: u32,
 ) -> Happened
     requires follows { Follows shared.now pass.old local.old }
-    requires activity { local.old.activity ≡ Activity.WriteAfter cell }
+    requires activity { local.old.activity ≡ Activity.Rebalance (Rebalance.Write (Write.After cell)) }
     ensures makes { Makes shared.now pass.old Choice.Go result.told pass.new }
     ensures line { outcome local.new result.done ≡ next_of product shared.now.opening.rows Choice.Go
         local.old result.told }

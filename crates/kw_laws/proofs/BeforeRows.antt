@@ -18,7 +18,8 @@ use Rattle.kw_rows.specs.Rows.{Chain, HoldsKey, IsBefore, WasLinked}
 use Rattle.kw_rows.specs.Structure.{Structure}
 use Rattle.kw_rows.proofs.Named.{above_least, ends_at, held_by, normal_live, one_beginning}
 use Rattle.kw_world.specs.declared.activity.Activity.{Activity}
-use Rattle.kw_world.specs.declared.activity.Activity.TheVariants.{Before, BeforeGuess, BeforeLink, BeforeMin}
+use Rattle.kw_world.specs.declared.activity.rebalance.Rebalance.TheVariants as Rebalance
+use Rattle.kw_world.specs.declared.activity.rebalance.replace.Replace.TheVariants as Replace
 use Rattle.kw_world.specs.declared.event.Choice.{Choice}
 use Rattle.kw_world.specs.declared.event.Event.{Event}
 use Rattle.kw_world.specs.declared.local.Local.{Local}
@@ -59,9 +60,9 @@ use Rattle.kw_reads.proofs.Opens.{inv_start}
 
 -- the seat knows a row on the way to that before its full one
 abbrev IsWalkingBefore : Activity → Type 0
-IsWalkingBefore BeforeGuess = Unit {0}
-IsWalkingBefore BeforeLink = Unit {0}
-IsWalkingBefore BeforeMin = Unit {0}
+IsWalkingBefore (Activity.Rebalance (Rebalance.Replace Replace.GuessedLeast)) = Unit {0}
+IsWalkingBefore (Activity.Rebalance (Rebalance.Replace Replace.Next)) = Unit {0}
+IsWalkingBefore (Activity.Rebalance (Rebalance.Replace Replace.NextLeast)) = Unit {0}
 IsWalkingBefore _ = ⊥
 
 -- if the full row q is in the list, and x is so no more, x went after q came
@@ -77,30 +78,30 @@ record WalksBefore (v : Words) (g : Ledger) (a : Activity) (l : Local) : Type 0 
   other : HasMetNext a → l.candidate ≢ l.row
 
 met_walks : (a : Activity) → HasMetNext a → IsWalkingBefore a
-met_walks BeforeMin x = tt
+met_walks (Activity.Rebalance (Rebalance.Replace Replace.NextLeast)) x = tt
 met_walks _ x = absurd x
 
 met_searches : (a : Activity) (l : Local) → HasMetNext a → IsSearching a l
-met_searches BeforeMin l x = tt
+met_searches (Activity.Rebalance (Rebalance.Replace Replace.NextLeast)) l x = tt
 met_searches _ l x = absurd x
 
 walking_balances : (a : Activity) → IsWalkingBefore a → IsBalancing a
-walking_balances BeforeGuess x = tt
-walking_balances BeforeLink x = tt
-walking_balances BeforeMin x = tt
+walking_balances (Activity.Rebalance (Rebalance.Replace Replace.GuessedLeast)) x = tt
+walking_balances (Activity.Rebalance (Rebalance.Replace Replace.Next)) x = tt
+walking_balances (Activity.Rebalance (Rebalance.Replace Replace.NextLeast)) x = tt
 walking_balances _ x = absurd x
 
 walking_builds : (a : Activity) → IsWalkingBefore a → IsBuilding a
-walking_builds BeforeGuess x = tt
-walking_builds BeforeLink x = tt
-walking_builds BeforeMin x = tt
+walking_builds (Activity.Rebalance (Rebalance.Replace Replace.GuessedLeast)) x = tt
+walking_builds (Activity.Rebalance (Rebalance.Replace Replace.Next)) x = tt
+walking_builds (Activity.Rebalance (Rebalance.Replace Replace.NextLeast)) x = tt
 walking_builds _ x = absurd x
 
 -- a seat is on its walk, or is not
 is_walking : (a : Activity) → IsWalkingBefore a ⊎ (IsWalkingBefore a → ⊥)
-is_walking BeforeGuess = inl tt
-is_walking BeforeLink = inl tt
-is_walking BeforeMin = inl tt
+is_walking (Activity.Rebalance (Rebalance.Replace Replace.GuessedLeast)) = inl tt
+is_walking (Activity.Rebalance (Rebalance.Replace Replace.Next)) = inl tt
+is_walking (Activity.Rebalance (Rebalance.Replace Replace.NextLeast)) = inl tt
 is_walking _ = inr (λ x. x)
 
 -- elsewhere it knows nothing of it
@@ -112,11 +113,11 @@ elsewhere v g a l n = record { late = λ p x. absurd (n x); late_next = λ x. ab
 -- how a seat comes to a row of its walk, or goes on there: at the first row, at one that it
 -- guessed, and along links
 data StepsBefore (v : Words) (l : Local) : Activity → Local → Type 0 where
-  from_first : (a : Activity) → StepsBefore v l a (record (at_before (Some (row_or_first (row_linked (link_of (v name.Head))))) 0 l) { activity = BeforeLink })
-  from_guess : (q : ℕ) → state_of (v (name.State q)) ≡ Some Normal → StepsBefore v l Before (record l { rebalance = record l.rebalance { before = Some q }; activity = BeforeGuess })
-  serves : StepsBefore v l BeforeGuess (record l { rebalance = record l.rebalance { least = least_in v (row_or_first l.rebalance.before) }; activity = BeforeLink })
-  meets : (q : ℕ) → next_in v (row_or_first l.rebalance.before) ≡ Some q → q ≢ l.row → StepsBefore v l BeforeLink (record l { candidate = q; activity = BeforeMin })
-  moves : StepsBefore v l BeforeMin (record (at_before (Some l.candidate) (least_in v l.candidate) l) { activity = BeforeLink })
+  from_first : (a : Activity) → StepsBefore v l a (record (at_before (Some (row_or_first (row_linked (link_of (v name.Head))))) 0 l) { activity = Activity.Rebalance (Rebalance.Replace Replace.Next) })
+  from_guess : (q : ℕ) → state_of (v (name.State q)) ≡ Some Normal → StepsBefore v l (Activity.Rebalance (Rebalance.Replace Replace.Start)) (record l { rebalance = record l.rebalance { before = Some q }; activity = Activity.Rebalance (Rebalance.Replace Replace.GuessedLeast) })
+  serves : StepsBefore v l (Activity.Rebalance (Rebalance.Replace Replace.GuessedLeast)) (record l { rebalance = record l.rebalance { least = least_in v (row_or_first l.rebalance.before) }; activity = Activity.Rebalance (Rebalance.Replace Replace.Next) })
+  meets : (q : ℕ) → next_in v (row_or_first l.rebalance.before) ≡ Some q → q ≢ l.row → StepsBefore v l (Activity.Rebalance (Rebalance.Replace Replace.Next)) (record l { candidate = q; activity = Activity.Rebalance (Rebalance.Replace Replace.NextLeast) })
+  moves : StepsBefore v l (Activity.Rebalance (Rebalance.Replace Replace.NextLeast)) (record (at_before (Some l.candidate) (least_in v l.candidate) l) { activity = Activity.Rebalance (Rebalance.Replace Replace.Next) })
 
 -- its full row stays the same
 row_same : (v : Words) (l : Local) (a : Activity) (k : Local) → StepsBefore v l a k → k.row ≡ l.row
@@ -327,11 +328,11 @@ module _ (v : Words) (g : Ledger) (t now : ℕ) (i : Structure (rows_in v) g now
 
 -- at the end of the list that the walk meets the full row is met no more
 abbrev pub EndsBefore : Sizes → Run → Type 0
-EndsBefore z r = (t : ℕ) (l : Local) → slice_get r.world.locals t ≡ Some l → l.activity ≡ BeforeLink → next_in (word z r.world) (row_or_first l.rebalance.before) ≡ None → IsMet (word z r.world) l.row → ⊥
+EndsBefore z r = (t : ℕ) (l : Local) → slice_get r.world.locals t ≡ Some l → l.activity ≡ Activity.Rebalance (Rebalance.Replace Replace.Next) → next_in (word z r.world) (row_or_first l.rebalance.before) ≡ None → IsMet (word z r.world) l.row → ⊥
 
 -- nor is it where the walk meets a row whose least key is not below that of the full one
 abbrev pub PassesFull : Sizes → Run → Type 0
-PassesFull z r = (t : ℕ) (l : Local) → slice_get r.world.locals t ≡ Some l → l.activity ≡ BeforeMin → l.lower ≤ least_in (word z r.world) l.candidate → IsMet (word z r.world) l.row → ⊥
+PassesFull z r = (t : ℕ) (l : Local) → slice_get r.world.locals t ≡ Some l → l.activity ≡ Activity.Rebalance (Rebalance.Replace Replace.NextLeast) → l.lower ≤ least_in (word z r.world) l.candidate → IsMet (word z r.world) l.row → ⊥
 
 -- the invariant, and what each seat knows of the rows of its walk
 record Walking (z : Sizes) (r : Run) : Type 0 where
@@ -362,10 +363,10 @@ passes_by z r k t l g a o m = which (cases_lt l.lower (least_in (word z r.world)
     live : IsLive r.ledger.rows l.row
     live = met_live (word z r.world) r.ledger.rows i.rows.chain l.row m
 
-    s : Search (word z r.world) r.ledger.rows t BeforeMin l
+    s : Search (word z r.world) r.ledger.rows t (Activity.Rebalance (Rebalance.Replace Replace.NextLeast)) l
     s = subst (λ c. Search (word z r.world) r.ledger.rows t c l) a (i.search t l g)
 
-    w : WalksBefore (word z r.world) r.ledger.rows BeforeMin l
+    w : WalksBefore (word z r.world) r.ledger.rows (Activity.Rebalance (Rebalance.Replace Replace.NextLeast)) l
     w = subst (λ c. WalksBefore (word z r.world) r.ledger.rows c l) a (k.walks t l g)
 
     which : (l.lower < least_in (word z r.world) l.candidate) ⊎ (least_in (word z r.world) l.candidate ≤ l.lower) → ⊥

@@ -9,7 +9,13 @@ use Rattle.kw_words.specs.Count.{count_of}
 use Rattle.kw_cells.specs.declared.cell.Cell as kw_cell
 use Rattle.kw_model.specs.declared.call.Call.{Call}
 use Rattle.kw_world.specs.declared.activity.Activity.{Activity}
-use Rattle.kw_world.specs.declared.activity.Activity.TheVariants.{Idle, Look, LookHelp, ListVal, RestVal, PutAdd, Announce, Stamp, Freeze, ScanSettle}
+use Rattle.kw_world.specs.declared.activity.draw.Draw.TheVariants as Draw
+use Rattle.kw_world.specs.declared.activity.rebalance.freeze.Freeze.TheVariants as Freeze
+use Rattle.kw_world.specs.declared.activity.look.Look.TheVariants as Look
+use Rattle.kw_world.specs.declared.activity.put.Put.TheVariants as Put
+use Rattle.kw_world.specs.declared.activity.read.Read.TheVariants as Read
+use Rattle.kw_world.specs.declared.activity.rebalance.Rebalance.TheVariants as Rebalance
+use Rattle.kw_world.specs.declared.activity.rebalance.engage.Engage.TheVariants as Engage
 use Rattle.kw_world.specs.declared.local.Local.{Local}
 use Rattle.kw_world.specs.declared.event.Event.{Event}
 use Rattle.kw_world.specs.declared.event.Choice.{Choice}
@@ -74,22 +80,22 @@ none_below z cells (Ends x reply answer draw) n = tt
 
 -- what an event gives is a cell of the table
 given_below : (z : Sizes) (a : Activity) (s : ℕ) (choice : Choice) (l : Local) (found : ℕ) (g : SeatLog) (o : Origins) (rows : ℕ) → l.row < rows → IsGivenBelow z (rows * z.cells) (change_of z a s choice l found g o)
-given_below z PutAdd s choice l found g o rows below = met (has_room z (count_of found)) refl
+given_below z (Activity.Put Put.Add) s choice l found g o rows below = met (has_room z (count_of found)) refl
   where
-    met : (b : Bool) → has_room z (count_of found) ≡ b → IsGivenBelow z (rows * z.cells) (change_of z PutAdd s choice l found g o)
+    met : (b : Bool) → has_room z (count_of found) ≡ b → IsGivenBelow z (rows * z.cells) (change_of z (Activity.Put Put.Add) s choice l found g o)
     met true e = rw e (place_within z.cells l.row (given_of (count_of found)) rows below (room_given z (count_of found) e))
     met false e = rw e tt
-given_below z Idle s choice l found g o rows below = begins choice
+given_below z Activity.Idle s choice l found g o rows below = begins choice
   where
     begins : (x : Choice) → IsGivenBelow z (rows * z.cells) (beginning x s l)
     begins (Begin call) = tt
     begins Go = tt
     begins (Guess r) = tt
     begins Stop = tt
-given_below z LookHelp s choice l found g o rows below = none_below z (rows * z.cells) _ (none_of (found == pend_word (pend.Pending l.met)) (helping (o l.row l.met) l.helping g.loaded) Nothing (none_helping (o l.row l.met) l.helping g.loaded) tt)
-given_below z Announce s choice l found g o rows below = none_below z (rows * z.cells) _ (none_of (found == pend_word pend.Idle) (Announces g.own) Nothing tt tt)
-given_below z Stamp s choice l found g o rows below = none_below z (rows * z.cells) _ (none_of (found == pend_word (pend.Pending l.cell)) (Stamps g.own l.version g.loaded) Nothing tt tt)
-given_below z (Freeze i) s choice l found g o rows below = none_below z (rows * z.cells) _ (none_of (found == pend_word l.rebalance.entry) (freezing l.rebalance.entry l.row o) Nothing (none_freezing l.rebalance.entry l.row o) tt)
+given_below z (Activity.Look Look.Help) s choice l found g o rows below = none_below z (rows * z.cells) _ (none_of (found == pend_word (pend.Pending l.met)) (helping (o l.row l.met) l.helping g.loaded) Nothing (none_helping (o l.row l.met) l.helping g.loaded) tt)
+given_below z (Activity.Put Put.Announce) s choice l found g o rows below = none_below z (rows * z.cells) _ (none_of (found == pend_word pend.Idle) (Announces g.own) Nothing tt tt)
+given_below z (Activity.Put Put.Stamp) s choice l found g o rows below = none_below z (rows * z.cells) _ (none_of (found == pend_word (pend.Pending l.cell)) (Stamps g.own l.version g.loaded) Nothing tt tt)
+given_below z (Activity.Rebalance (Rebalance.Freeze (Freeze.Entry i))) s choice l found g o rows below = none_below z (rows * z.cells) _ (none_of (found == pend_word l.rebalance.entry) (freezing l.rebalance.entry l.row o) Nothing (none_freezing l.rebalance.entry l.row o) tt)
 given_below z _ s choice l found g o rows below = tt
 
 -- a cell of the table that is given has its attempt at the end of the history
@@ -113,45 +119,47 @@ as_many h o q call (c ∷ cells) (p ∷ ids) a = ap suc (as_many h o q call cell
 
 -- a reader loads the value of the cell in hand, which it gathers
 abbrev Gathering : Activity → Type 0
-Gathering ListVal = Unit {0}
-Gathering RestVal = Unit {0}
+Gathering (Activity.Read Read.Value) = Unit {0}
+Gathering (Activity.Read Read.LeftOverValue) = Unit {0}
 Gathering _ = ⊥
 
 -- it takes cells
 gathering_takes : (a : Activity) → Gathering a → IsTaking a
-gathering_takes ListVal x = tt
-gathering_takes RestVal x = tt
+gathering_takes (Activity.Read Read.Value) x = tt
+gathering_takes (Activity.Read Read.LeftOverValue) x = tt
 gathering_takes _ x = absurd x
 
 -- and fewer than there are cells are gathered: the one in hand is not
 gathering_room : (z : Sizes) (row : Row) (a : Activity) (l : Local) → Gathering a → ReadsList z.cells row a l → Apart z row a l → l.place < z.cells → length l.gathered < z.cells
-gathering_room z row ListVal l x k m w = gather_room z row ListVal l None m w (hand_fresh z row l k m) (m.hand tt)
-gathering_room z row RestVal l x k m w = gather_room z row RestVal l None m w (m.fresh tt) (m.hand tt)
+gathering_room z row (Activity.Read Read.Value) l x k m w = gather_room z row (Activity.Read Read.Value) l None m w (hand_fresh z row l k m) (m.hand tt)
+gathering_room z row (Activity.Read Read.LeftOverValue) l x k m w = gather_room z row (Activity.Read Read.LeftOverValue) l None m w (m.fresh tt) (m.hand tt)
 gathering_room z row _ l x k m w = absurd x
 
 -- only the load of a value gathers a cell
 room_for : (z : Sizes) (a : Activity) (choice : Choice) (l : Local) (found : ℕ) (o : Origins) (h : History) (settled : ℕ) (g : SeatLog) → (Gathering a → (length g.ids < z.cells) × (length l.gathered ≡ length g.ids)) → HasRoomFor z.cells (remark_of z a choice l found o h settled) g
-room_for z ListVal choice l found o h settled g f = let x = f tt in (x.0, omega (arith, place_in-within (cell_in_hand (value_of_word found) l) l.gathered, x.1))
-room_for z RestVal choice l found o h settled g f = let x = f tt in (x.0, omega (arith, place_in-within (cell_in_hand (value_of_word found) l) l.gathered, x.1))
-room_for z Idle (Begin call) l found o h settled g f = tt
-room_for z Idle Go l found o h settled g f = tt
-room_for z Idle (Guess r) l found o h settled g f = tt
-room_for z Idle Stop l found o h settled g f = tt
-room_for z ScanSettle choice l found o h settled g f = met (found == scan_word (Waiting l.waiting)) refl
+room_for z (Activity.Read Read.Value) choice l found o h settled g f = let x = f tt in (x.0, omega (arith, place_in-within (cell_in_hand (value_of_word found) l) l.gathered, x.1))
+room_for z (Activity.Read Read.LeftOverValue) choice l found o h settled g f = let x = f tt in (x.0, omega (arith, place_in-within (cell_in_hand (value_of_word found) l) l.gathered, x.1))
+room_for z Activity.Idle (Begin call) l found o h settled g f = tt
+room_for z Activity.Idle Go l found o h settled g f = tt
+room_for z Activity.Idle (Guess r) l found o h settled g f = tt
+room_for z Activity.Idle Stop l found o h settled g f = tt
+room_for z (Activity.Draw Draw.Settle) choice l found o h settled g f = met (found == scan_word (Waiting l.waiting)) refl
   where
-    met : (b : Bool) → (found == scan_word (Waiting l.waiting)) ≡ b → HasRoomFor z.cells (remark_of z ScanSettle choice l found o h settled) g
+    met : (b : Bool) → (found == scan_word (Waiting l.waiting)) ≡ b → HasRoomFor z.cells (remark_of z (Activity.Draw Draw.Settle) choice l found o h settled) g
     met true e = rw e tt
     met false e = rw e tt
-room_for z (Look i) choice l found o h settled g f = met (i == 0) refl
+room_for z (Activity.Look (Look.Entry i)) choice l found o h settled g f = met (i == 0) refl
   where
-    met : (b : Bool) → (i == 0) ≡ b → HasRoomFor z.cells (remark_of z (Look i) choice l found o h settled) g
+    met : (b : Bool) → (i == 0) ≡ b → HasRoomFor z.cells (remark_of z (Activity.Look (Look.Entry i)) choice l found o h settled) g
     met true e = rw e tt
     met false e = rw e tt
-room_for z PutAdd choice l found o h settled g f = met (has_room z (count_of found)) refl
+room_for z (Activity.Put Put.Add) choice l found o h settled g f = met (has_room z (count_of found)) refl
   where
-    met : (b : Bool) → has_room z (count_of found) ≡ b → HasRoomFor z.cells (remark_of z PutAdd choice l found o h settled) g
+    met : (b : Bool) → has_room z (count_of found) ≡ b → HasRoomFor z.cells (remark_of z (Activity.Put Put.Add) choice l found o h settled) g
     met true e = rw e tt
     met false e = rw e tt
+room_for z (Activity.Rebalance (Rebalance.Engage Engage.Clock)) choice l found o h settled g f = tt
+room_for z (Activity.Rebalance (Rebalance.Freeze Freeze.Count)) choice l found o h settled g f = tt
 room_for z _ choice l found o h settled g f = tt
 
 -- All of it.
@@ -194,14 +202,14 @@ pub can_offer : (rows : ℕ) (choice : Choice) (l : Local) → CanBegin choice l
 can_offer rows choice l h = which l.activity choice h
   where
     which : (a : Activity) (c : Choice) → CanBeginAt a c l → CanBeginAt a (offered rows c) l
-    which Idle (Begin call) g = g
-    which Idle Go g = tt
-    which Idle (Guess q) g = met (nat_lt q rows)
+    which Activity.Idle (Begin call) g = g
+    which Activity.Idle Go g = tt
+    which Activity.Idle (Guess q) g = met (nat_lt q rows)
       where
-        met : (b : Bool) → CanBeginAt Idle (if b then Guess q else Go) l
+        met : (b : Bool) → CanBeginAt Activity.Idle (if b then Guess q else Go) l
         met true = tt
         met false = tt
-    which Idle Stop g = tt
+    which Activity.Idle Stop g = tt
     which _ c g = tt
 
 -- the call that begins is in range
@@ -209,5 +217,5 @@ pub begun_of : (choice : Choice) (l : Local) → CanBegin choice l → IsBegun l
 begun_of choice l h = which l.activity choice h
   where
     which : (a : Activity) (c : Choice) → CanBeginAt a c l → IsBegun a c
-    which Idle (Begin call) g = g.0
+    which Activity.Idle (Begin call) g = g.0
     which _ c g = tt

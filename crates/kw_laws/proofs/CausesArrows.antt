@@ -15,7 +15,11 @@ use Rattle.kw_words.proofs.StateWords.{state_of-Free}
 use Rattle.kw_model.specs.declared.call.Call.{Call}
 use Rattle.kw_model.specs.declared.call.Call.TheVariants.{Put, Del, Get, Scan}
 use Rattle.kw_world.specs.declared.activity.Activity.{Activity}
-use Rattle.kw_world.specs.declared.activity.Activity.TheVariants.{Leave, Again, ClearScan, ScanClock, BalClock, BalEpoch, SeekFirst, Seek, SeekPass, Reclaim, TakeRow, GiveBack, WriteCount}
+use Rattle.kw_world.specs.declared.activity.draw.Draw.TheVariants as Draw
+use Rattle.kw_world.specs.declared.activity.rebalance.engage.Engage.TheVariants as Engage
+use Rattle.kw_world.specs.declared.activity.rebalance.Rebalance.TheVariants as Rebalance
+use Rattle.kw_world.specs.declared.activity.rebalance.seek.Seek.TheVariants as Seek
+use Rattle.kw_world.specs.declared.activity.rebalance.write.Write.TheVariants as Write
 use Rattle.kw_world.specs.declared.answer.Answer.{Answer}
 use Rattle.kw_world.specs.declared.answer.Answer.TheVariants.{Done, Pairs, NoRows, Spent}
 use Rattle.kw_world.specs.declared.event.Choice.{Choice}
@@ -43,7 +47,7 @@ use Rattle.kw_core.specs.Events.{event, world}
 use Rattle.kw_core.specs.Run.{Run}
 use Rattle.kw_core.specs.Stages.{IsBusy}
 use Rattle.kw_core.specs.Words.{Words}
-use Rattle.kw_core.proofs.Arrows.{Arrow, NextLook, looks, lists, NextRest, rests, answers, ends_scan, scans_on, is_spent, meets_stamped, meets_neither, is_passed, helps, finds_stamped, finds_other, list_ends, key_above, rest_passed, gathers_rest, clears_scan, clock_is_spent, epoch_is_spent, takes_no_more, keeps_no_more, builds, ends_at_clock, ends_at_epoch}
+use Rattle.kw_core.proofs.Arrows.{Arrow, NextLook, looks, lists, NextRest, rests, answers, ends_scan, scans_on, is_spent, meets_stamped, meets_neither, is_passed, helps, finds_stamped, finds_other, list_ends, key_above, rest_passed, gathers_rest, clears_scan, clock_is_spent, epoch_is_spent, takes_no_more, keeps_no_more, builds}
 use Rattle.kw_core.proofs.Building.{Building, first_is_free, first_is_taken, first_is_retired, sought_is_free, sought_is_taken, sought_is_retired, pass_is_old, pass_is_young, frees_row, takes_row, loses_row, gives_one_back, gives_last_back, writes_first, writes_entry, writes_after, begins_before, takes_head_before, leads_on_marked, leads_nowhere, walks_past, is_marked_before, is_replaced}
 use Rattle.kw_core.proofs.NextBuilt.{tries_again, moves_left, NextBack, gives_back, has_none, NextNewRow, writes_row, has_written, NextNewCell, fills, empties, has_cells, NextNewEntry, writes_idle, has_entries, NextBefore, is_first, is_behind, was_done}
 use Rattle.kw_core.proofs.Happens.{Happens, found_at}
@@ -61,14 +65,12 @@ use Rattle.kw_laws.proofs.Occurs.{occurs_now, occurs_was, occurs_within}
 
 -- what the events of the call, which began at this position, say of its seat
 abbrev pub Since : Activity → Sizes → Opening → List Event → ℕ → ℕ → Call → Local → Type 0
-Since (Leave Spent) z o es s first call l = IsSpentBy z o es call s first (length es)
-Since (Leave NoRows) z o es s first call l = AskedAll z o es s o.rows first (length es)
-Since GiveBack z o es s first call l = l.rebalance.afterwards ≡ Refuse → AskedAll z o es s o.rows first (length es)
-Since SeekFirst z o es s first call l = IsBeforeSearch l.rebalance
-Since Seek z o es s first call l = Searching z o es s first l.rebalance
-Since (SeekPass i) z o es s first call l = (w : Searching z o es s first l.rebalance) × AsksPasses z o es s w.begun l.rebalance.sought l.rebalance.number
-Since Reclaim z o es s first call l = Searching z o es s first l.rebalance
-Since TakeRow z o es s first call l = Searching z o es s first l.rebalance
+Since (Activity.Leave Spent) z o es s first call l = IsSpentBy z o es call s first (length es)
+Since (Activity.Leave NoRows) z o es s first call l = AskedAll z o es s o.rows first (length es)
+Since (Activity.Rebalance (Rebalance.Seek Seek.GiveBack)) z o es s first call l = l.rebalance.afterwards ≡ Refuse → AskedAll z o es s o.rows first (length es)
+Since (Activity.Rebalance (Rebalance.Seek Seek.First)) z o es s first call l = IsBeforeSearch l.rebalance
+Since (Activity.Rebalance (Rebalance.Seek (Seek.Pass i))) z o es s first call l = (w : Searching z o es s first l.rebalance) × AsksPasses z o es s w.begun l.rebalance.sought l.rebalance.number
+Since (Activity.Rebalance (Rebalance.Seek _)) z o es s first call l = Searching z o es s first l.rebalance
 Since _ z o es s first call l = Unit {0}
 
 -- over one more event, by which the seat asks for no row
@@ -83,39 +85,37 @@ since_lasts z o es e s first call l a w idle p = by a p
     rows = asked_lasts z o es e s (length es) (length (es ++ e ∷ [])) w inside idle o.rows first
 
     search : Searching z o es s first l.rebalance → Searching z o (es ++ e ∷ []) s first l.rebalance
-    search = searching_lasts z o es e s first l.rebalance w (λ u found op f g c. idle u found SeekFirst op tt f g c) (λ q u found b op n f g d c. idle u found b op (trying_searches s q b op d) f g c)
+    search = searching_lasts z o es e s first l.rebalance w (λ u found op f g c. idle u found (Activity.Rebalance (Rebalance.Seek Seek.First)) op tt f g c) (λ q u found b op n f g d c. idle u found b op (trying_searches s q b op d) f g c)
 
     passes : (t : Searching z o es s first l.rebalance) → AsksPasses z o es s t.begun l.rebalance.sought l.rebalance.number → AsksPasses z o (es ++ e ∷ []) s (search t).begun l.rebalance.sought l.rebalance.number
     passes t q =
-        let same : (search t).begun ≡ t.begun = searching_begun z o es e s first l.rebalance w (λ u found op f g c. idle u found SeekFirst op tt f g c) (λ d u found b op n f g x c. idle u found b op (trying_searches s d b op x) f g c) t in
+        let same : (search t).begun ≡ t.begun = searching_begun z o es e s first l.rebalance w (λ u found op f g c. idle u found (Activity.Rebalance (Rebalance.Seek Seek.First)) op tt f g c) (λ d u found b op n f g x c. idle u found b op (trying_searches s d b op x) f g c) t in
         subst (λ x. AsksPasses z o (es ++ e ∷ []) s x l.rebalance.sought l.rebalance.number) (sym same) (asks_lasts z o es e s t.begun l.rebalance.sought l.rebalance.number (λ u found b op f g d c. idle u found b op (trying_searches s l.rebalance.sought b op d) f g c) q)
 
     by : (b : Activity) → Since b z o es s first call l → Since b z o (es ++ e ∷ []) s first call l
-    by (Leave Spent) q = spent_lasts z o es e s (length es) (length (es ++ e ∷ [])) w call first q
-    by (Leave NoRows) q = rows q
-    by GiveBack q = λ x. rows (q x)
-    by SeekFirst q = q
-    by Seek q = search q
-    by (SeekPass i) q = (search q.0, passes q.0 q.1)
-    by Reclaim q = search q
-    by TakeRow q = search q
+    by (Activity.Leave Spent) q = spent_lasts z o es e s (length es) (length (es ++ e ∷ [])) w call first q
+    by (Activity.Leave NoRows) q = rows q
+    by (Activity.Rebalance (Rebalance.Seek Seek.GiveBack)) q = λ x. rows (q x)
+    by (Activity.Rebalance (Rebalance.Seek Seek.First)) q = q
+    by (Activity.Rebalance (Rebalance.Seek (Seek.Pass i))) q = (search q.0, passes q.0 q.1)
+    by (Activity.Rebalance (Rebalance.Seek _)) q = search q
     by _ q = tt
 
 -- Which calls ask, and when.
 
-asks_scan : (call : Call) → IsScanCall (Some call) → IsAsking call ScanClock (record { kind = kind.LoadClock; name = name.Clock; action = Load })
+asks_scan : (call : Call) → IsScanCall (Some call) → IsAsking call (Activity.Draw Draw.Clock) (record { kind = kind.LoadClock; name = name.Clock; action = Load })
 asks_scan (Put key value) k = absurd k
 asks_scan (Del key) k = absurd k
 asks_scan (Get key) k = absurd k
 asks_scan (Scan from upto) k = refl
 
-asks_clock : (call : Call) → IsPutCall (Some call) → IsAsking call BalClock (record { kind = kind.LoadClock; name = name.Clock; action = Load })
+asks_clock : (call : Call) → IsPutCall (Some call) → IsAsking call (Activity.Rebalance (Rebalance.Engage Engage.Clock)) (record { kind = kind.LoadClock; name = name.Clock; action = Load })
 asks_clock (Put key value) k = refl
 asks_clock (Del key) k = refl
 asks_clock (Get key) k = absurd k
 asks_clock (Scan from upto) k = absurd k
 
-asks_epoch : (call : Call) → IsPutCall (Some call) → IsAsking call BalEpoch (record { kind = kind.LoadEpoch; name = name.Epoch; action = Load })
+asks_epoch : (call : Call) → IsPutCall (Some call) → IsAsking call (Activity.Rebalance (Rebalance.Engage Engage.Epoch)) (record { kind = kind.LoadEpoch; name = name.Epoch; action = Load })
 asks_epoch (Put key value) k = refl
 asks_epoch (Del key) k = refl
 asks_epoch (Get key) k = absurd k
@@ -127,12 +127,7 @@ not_free w x e n f = n (sym e ∙ ap state_of f ∙ state_of-Free)
 
 -- the activity is none of a search, or of what gives back what it took
 abbrev IsOffSearch : Activity → Type 0
-IsOffSearch SeekFirst = ⊥
-IsOffSearch Seek = ⊥
-IsOffSearch (SeekPass i) = ⊥
-IsOffSearch Reclaim = ⊥
-IsOffSearch TakeRow = ⊥
-IsOffSearch GiveBack = ⊥
+IsOffSearch (Activity.Rebalance (Rebalance.Seek _)) = ⊥
 IsOffSearch _ = Unit {0}
 
 -- One more event, of a seat that makes this call and knows l.
@@ -179,7 +174,7 @@ module _ (z : Sizes) (o : Opening) (es : List Event) (e : Event) (r r' : Run) (l
   next_look j next k (looks w) = tt
   next_look j next k (lists w) = tt
 
-  found_leaves : (x : Option ℕ) (k : Local) → Since (Leave (answer_found x)) z o (es ++ e ∷ []) e.seat first call k
+  found_leaves : (x : Option ℕ) (k : Local) → Since (Activity.Leave (answer_found x)) z o (es ++ e ∷ []) e.seat first call k
   found_leaves (Some value) k = tt
   found_leaves None k = tt
 
@@ -189,7 +184,7 @@ module _ (z : Sizes) (o : Opening) (es : List Event) (e : Event) (r r' : Run) (l
   next_rest m k (ends_scan w x y) = tt
   next_rest m k (scans_on q w x y n) = tt
 
-  cleared : (answer : Answer) (c : Choice) (k : Local) → IsPairs answer → Since (Leave (answer_or_stopped answer c)) z o (es ++ e ∷ []) e.seat first call k
+  cleared : (answer : Answer) (c : Choice) (k : Local) → IsPairs answer → Since (Activity.Leave (answer_or_stopped answer c)) z o (es ++ e ∷ []) e.seat first call k
   cleared Pairs (Begin x) k p = tt
   cleared Pairs Go k p = tt
   cleared Pairs (Guess q) k p = tt
@@ -253,9 +248,9 @@ module _ (z : Sizes) (o : Opening) (es : List Event) (e : Event) (r r' : Run) (l
 
   by_arrow : (b : Activity) (k : Local) → a ≡ b → Arrow z v e.seat choice l b k → IsOffSearch b → Then k
   by_arrow b k is (builds c next y t) x = built c next t x
-  by_arrow b k is (is_spent w) x = spent_here ScanClock _ is refl (asks_scan call (subst IsScanCall asked (kind_here ScanClock is))) w
-  by_arrow b k is (clock_is_spent w nd) x = spent_here BalClock _ is refl (asks_clock call (subst IsPutCall asked (kind_here BalClock is))) w
-  by_arrow b k is (epoch_is_spent w nd) x = spent_here BalEpoch _ is refl (asks_epoch call (subst IsPutCall asked (kind_here BalEpoch is))) w
+  by_arrow b k is (is_spent w) x = spent_here (Activity.Draw Draw.Clock) _ is refl (asks_scan call (subst IsScanCall asked (kind_here (Activity.Draw Draw.Clock) is))) w
+  by_arrow b k is (clock_is_spent w nd) x = spent_here (Activity.Rebalance (Rebalance.Engage Engage.Clock)) _ is refl (asks_clock call (subst IsPutCall asked (kind_here (Activity.Rebalance (Rebalance.Engage Engage.Clock)) is))) w
+  by_arrow b k is (epoch_is_spent w nd) x = spent_here (Activity.Rebalance (Rebalance.Engage Engage.Epoch)) _ is refl (asks_epoch call (subst IsPutCall asked (kind_here (Activity.Rebalance (Rebalance.Engage Engage.Epoch)) is))) w
   by_arrow b k is (meets_stamped j c version next f n) x = next_look _ next _ n
   by_arrow b k is (meets_neither j next f n) x = next_look _ next _ n
   by_arrow b k is (is_passed next f n) x = next_look _ next _ n
@@ -266,7 +261,7 @@ module _ (z : Sizes) (o : Opening) (es : List Event) (e : Event) (r r' : Run) (l
   by_arrow b k is (key_above next f n) x = next_rest _ k n
   by_arrow b k is (rest_passed next f n) x = next_rest _ k n
   by_arrow b k is (gathers_rest next n) x = next_rest _ k n
-  by_arrow b k is (clears_scan answer) x = cleared answer choice _ (kind_here (ClearScan answer) is).1
+  by_arrow b k is (clears_scan answer) x = cleared answer choice _ (kind_here (Activity.EndScan answer) is).1
   by_arrow b k is (takes_no_more f n) x = record { sought = refl; asked = refl; taken = refl; some = starts_some z.built _ }
   by_arrow b k is (keeps_no_more n) x = record { sought = refl; asked = refl; taken = refl; some = starts_some z.built _ }
   by_arrow b k is _ x = tt
@@ -306,7 +301,7 @@ module _ (z : Sizes) (o : Opening) (es : List Event) (e : Event) (r r' : Run) (l
   gives_up : (k : Local) → AskedAll z o (es ++ e ∷ []) e.seat o.rows first (length (es ++ e ∷ [])) → Then (give_back Refuse k).local
   gives_up k p = met (nat_lt 0 (length k.rebalance.taken))
     where
-      met : (b : Bool) → Then (let x : Outcome = if b then to GiveBack (record k { rebalance = record k.rebalance { at = 0; afterwards = Refuse } }) else given_back Refuse k in x).local
+      met : (b : Bool) → Then (let x : Outcome = if b then to (Activity.Rebalance (Rebalance.Seek Seek.GiveBack)) (record k { rebalance = record k.rebalance { at = 0; afterwards = Refuse } }) else given_back Refuse k in x).local
       met true = λ x. p
       met false = no_rows_left k.tidies
         where
@@ -318,7 +313,7 @@ module _ (z : Sizes) (o : Opening) (es : List Event) (e : Event) (r r' : Run) (l
   goes_on : (k : Local) → (p : Searching z o (es ++ e ∷ []) e.seat first k.rebalance) → IsIn k.rebalance.taken k.rebalance.sought ⊎ FoundTaken z o (es ++ e ∷ []) e.seat p.begun (length (es ++ e ∷ [])) k.rebalance.sought → Then (to_seek o.rows k).local
   goes_on k p here = met (nat_lt k.rebalance.asked o.rows) refl
     where
-      met : (b : Bool) → nat_lt k.rebalance.asked o.rows ≡ b → Then (let x : Outcome = if b then to Seek (record k { rebalance = record k.rebalance { sought = row_behind o.rows k.rebalance.sought; asked = k.rebalance.asked + 1 } }) else give_back Refuse k in x).local
+      met : (b : Bool) → nat_lt k.rebalance.asked o.rows ≡ b → Then (let x : Outcome = if b then to (Activity.Rebalance (Rebalance.Seek Seek.Next)) (record k { rebalance = record k.rebalance { sought = row_behind o.rows k.rebalance.sought; asked = k.rebalance.asked + 1 } }) else give_back Refuse k in x).local
       met true y = let more : k.rebalance.asked < o.rows = grind (arith, nat_tests) in next_row z o (es ++ e ∷ []) e.seat first k.rebalance more p here
       met false y = let all : o.rows ≤ k.rebalance.asked = grind (arith, nat_tests) in gives_up k (asked_all z o (es ++ e ∷ []) e.seat first k.rebalance all p here)
 
@@ -344,14 +339,14 @@ module _ (z : Sizes) (o : Opening) (es : List Event) (e : Event) (r r' : Run) (l
   then_so k f p = subst Then (sym f) p
 
   -- a search begins at this row
-  begins_search : (q : ℕ) → a ≡ SeekFirst → q < o.rows → (transition z SeekFirst e.seat (offered r.world.rows e.choice) l).operation ≡ asking q → IsBeforeSearch l.rebalance → Searching z o (es ++ e ∷ []) e.seat first (seeking q l).rebalance
+  begins_search : (q : ℕ) → a ≡ Activity.Rebalance (Rebalance.Seek Seek.First) → q < o.rows → (transition z (Activity.Rebalance (Rebalance.Seek Seek.First)) e.seat (offered r.world.rows e.choice) l).operation ≡ asking q → IsBeforeSearch l.rebalance → Searching z o (es ++ e ∷ []) e.seat first (seeking q l).rebalance
   begins_search q is w f p = record {
     begun = length es;
     after = past;
     before = longer;
     row = q;
     found = word z r.world (name.State q);
-    begins = acts_here SeekFirst (asking q) (word z r.world (name.State q)) is f refl;
+    begins = acts_here (Activity.Rebalance (Rebalance.Seek Seek.First)) (asking q) (word z r.world (name.State q)) is f refl;
     starts = refl;
     within = w;
     sought = w;
@@ -362,21 +357,21 @@ module _ (z : Sizes) (o : Opening) (es : List Event) (e : Event) (r r' : Run) (l
     passed = λ d x y. none_passed q d y;
   }
 
-  first_row : (q : ℕ) → a ≡ SeekFirst → q < o.rows → (transition z SeekFirst e.seat (offered r.world.rows e.choice) l).operation ≡ asking q → l' ≡ (seek_met o.rows (state_of (word z r.world (name.State q))) (seeking q l)).local → IsBeforeSearch l.rebalance → Then l'
+  first_row : (q : ℕ) → a ≡ Activity.Rebalance (Rebalance.Seek Seek.First) → q < o.rows → (transition z (Activity.Rebalance (Rebalance.Seek Seek.First)) e.seat (offered r.world.rows e.choice) l).operation ≡ asking q → l' ≡ (seek_met o.rows (state_of (word z r.world (name.State q))) (seeking q l)).local → IsBeforeSearch l.rebalance → Then l'
   first_row q is w f n p =
-      then_so _ n (meets (seeking q l) (state_of (word z r.world (name.State q))) (begins_search q is w f p) (λ x. taken_here SeekFirst (asking q) q is f refl refl (not_free _ _ refl x)) (λ number x. asks_here SeekFirst q number is f refl x))
+      then_so _ n (meets (seeking q l) (state_of (word z r.world (name.State q))) (begins_search q is w f p) (λ x. taken_here (Activity.Rebalance (Rebalance.Seek Seek.First)) (asking q) q is f refl refl (not_free _ _ refl x)) (λ number x. asks_here (Activity.Rebalance (Rebalance.Seek Seek.First)) q number is f refl x))
 
-  at_first : a ≡ SeekFirst → IsBeforeSearch l.rebalance → Then l'
+  at_first : a ≡ Activity.Rebalance (Rebalance.Seek Seek.First) → IsBeforeSearch l.rebalance → Then l'
   at_first is p = chosen (offered r.world.rows e.choice) refl h.offers
     where
       some_rows : l.rebalance.sought < o.rows
       some_rows = omega (arith, p.sought, rows, i.shape.sane.sized.some_rows)
 
-      line : (d : Choice) → offered r.world.rows e.choice ≡ d → (transition z SeekFirst e.seat (offered r.world.rows e.choice) l).operation ≡ (seek_first_transition d l).operation
+      line : (d : Choice) → offered r.world.rows e.choice ≡ d → (transition z (Activity.Rebalance (Rebalance.Seek Seek.First)) e.seat (offered r.world.rows e.choice) l).operation ≡ (seek_first_transition d l).operation
       line d c = ap (λ x. (seek_first_transition x l).operation) c
 
       next : (d : Choice) → offered r.world.rows e.choice ≡ d → l' ≡ (followed o.rows (seek_first_transition d l) (word z r.world (seek_first_transition d l).operation.name)).local
-      next d c = next_is SeekFirst is ∙ ap (λ x. (followed o.rows (seek_first_transition x l) (word z r.world (seek_first_transition x l).operation.name)).local) c
+      next d c = next_is (Activity.Rebalance (Rebalance.Seek Seek.First)) is ∙ ap (λ x. (followed o.rows (seek_first_transition x l) (word z r.world (seek_first_transition x l).operation.name)).local) c
 
       chosen : (d : Choice) → offered r.world.rows e.choice ≡ d → IsOffered r.world.rows (offered r.world.rows e.choice) → Then l'
       chosen (Begin x) c y = first_row l.rebalance.sought is some_rows (line (Begin x) c) (next (Begin x) c) p
@@ -385,14 +380,14 @@ module _ (z : Sizes) (o : Opening) (es : List Event) (e : Event) (r r' : Run) (l
       chosen Stop c y = first_row l.rebalance.sought is some_rows (line Stop c) (next Stop c) p
 
   -- the search that goes on, over this event
-  still : (b : Activity) (op : Operation) → a ≡ b → (transition z b e.seat (offered r.world.rows e.choice) l).operation ≡ op → b ≢ SeekFirst → ((q : ℕ) → q ≢ l.rebalance.sought → IsTrying e.seat q b op → ⊥) → Searching z o es e.seat first l.rebalance → Searching z o (es ++ e ∷ []) e.seat first l.rebalance
+  still : (b : Activity) (op : Operation) → a ≡ b → (transition z b e.seat (offered r.world.rows e.choice) l).operation ≡ op → b ≢ Activity.Rebalance (Rebalance.Seek Seek.First) → ((q : ℕ) → q ≢ l.rebalance.sought → IsTrying e.seat q b op → ⊥) → Searching z o es e.seat first l.rebalance → Searching z o (es ++ e ∷ []) e.seat first l.rebalance
   still b op is f n other p =
       let w : length es ≤ length (es ++ e ∷ []) = omega (arith, longer) in
-      searching_lasts z o es e e.seat first l.rebalance w (λ u found d x y t. n (sym is ∙ (acts_same u found SeekFirst d x y t).0)) (λ q u found c d g x y k t.
+      searching_lasts z o es e e.seat first l.rebalance w (λ u found d x y t. n (sym is ∙ (acts_same u found (Activity.Rebalance (Rebalance.Seek Seek.First)) d x y t).0)) (λ q u found c d g x y k t.
       let s = acts_same u found c d x y t in
       other q g (subst (λ m. IsTrying e.seat q m op) (sym s.0 ∙ is) (subst (λ m. IsTrying e.seat q c m) (sym s.1 ∙ operates_here b op is f) k))) p
 
-  still_begun : (b : Activity) (op : Operation) (is : a ≡ b) (f : (transition z b e.seat (offered r.world.rows e.choice) l).operation ≡ op) (n : b ≢ SeekFirst) (other : (q : ℕ) → q ≢ l.rebalance.sought → IsTrying e.seat q b op → ⊥) (p : Searching z o es e.seat first l.rebalance) → (still b op is f n other p).begun ≡ p.begun
+  still_begun : (b : Activity) (op : Operation) (is : a ≡ b) (f : (transition z b e.seat (offered r.world.rows e.choice) l).operation ≡ op) (n : b ≢ Activity.Rebalance (Rebalance.Seek Seek.First)) (other : (q : ℕ) → q ≢ l.rebalance.sought → IsTrying e.seat q b op → ⊥) (p : Searching z o es e.seat first l.rebalance) → (still b op is f n other p).begun ≡ p.begun
   unfolding still
   still_begun b op is f n other p = searching_begun z o es e e.seat first l.rebalance _ _ _ p
 
@@ -404,51 +399,51 @@ module _ (z : Sizes) (o : Opening) (es : List Event) (e : Event) (r r' : Run) (l
   takes_one q row n f = n (let x : name.State row ≡ name.State q = ap (λ (op : Operation). op.name) f in cc)
 
   -- a search that asks for a row, and one that tries to take it
-  still_asking : a ≡ Seek → Searching z o es e.seat first l.rebalance → Searching z o (es ++ e ∷ []) e.seat first l.rebalance
-  still_asking is = still Seek (asking l.rebalance.sought) is refl (λ x. cc) (λ q n f. asks_one q l.rebalance.sought n f)
+  still_asking : a ≡ Activity.Rebalance (Rebalance.Seek Seek.Next) → Searching z o es e.seat first l.rebalance → Searching z o (es ++ e ∷ []) e.seat first l.rebalance
+  still_asking is = still (Activity.Rebalance (Rebalance.Seek Seek.Next)) (asking l.rebalance.sought) is refl (λ x. cc) (λ q n f. asks_one q l.rebalance.sought n f)
 
-  still_taking : a ≡ TakeRow → Searching z o es e.seat first l.rebalance → Searching z o (es ++ e ∷ []) e.seat first l.rebalance
-  still_taking is = still TakeRow (taking e.seat l.rebalance.sought) is refl (λ x. cc) (λ q n f. takes_one q l.rebalance.sought n f)
+  still_taking : a ≡ Activity.Rebalance (Rebalance.Seek Seek.Take) → Searching z o es e.seat first l.rebalance → Searching z o (es ++ e ∷ []) e.seat first l.rebalance
+  still_taking is = still (Activity.Rebalance (Rebalance.Seek Seek.Take)) (taking e.seat l.rebalance.sought) is refl (λ x. cc) (λ q n f. takes_one q l.rebalance.sought n f)
 
-  at_seek : a ≡ Seek → Searching z o es e.seat first l.rebalance → Then l'
+  at_seek : a ≡ Activity.Rebalance (Rebalance.Seek Seek.Next) → Searching z o es e.seat first l.rebalance → Then l'
   at_seek is p =
-      then_so _ (next_is Seek is) (meets (seeking l.rebalance.sought l) (state_of (word z r.world (name.State l.rebalance.sought))) (still_asking is p)
-      (λ x. taken_here Seek (asking l.rebalance.sought) l.rebalance.sought is refl refl refl (not_free _ _ refl x)) (λ number x. asks_here Seek l.rebalance.sought number is refl refl x))
+      then_so _ (next_is (Activity.Rebalance (Rebalance.Seek Seek.Next)) is) (meets (seeking l.rebalance.sought l) (state_of (word z r.world (name.State l.rebalance.sought))) (still_asking is p)
+      (λ x. taken_here (Activity.Rebalance (Rebalance.Seek Seek.Next)) (asking l.rebalance.sought) l.rebalance.sought is refl refl refl (not_free _ _ refl x)) (λ number x. asks_here (Activity.Rebalance (Rebalance.Seek Seek.Next)) l.rebalance.sought number is refl refl x))
 
   -- The passes.
 
   -- a pass that is not younger than the number is met, and the row was found taken
-  meets_pass : (j epoch : ℕ) → a ≡ SeekPass j → pass_of_word (word z r.world (name.Pass j)) ≡ Some epoch → (at : ℕ) → at < length es → (number : ℕ) → epoch ≤ number → MetPass z o (es ++ e ∷ []) e.seat at (length (es ++ e ∷ [])) number
+  meets_pass : (j epoch : ℕ) → a ≡ Activity.Rebalance (Rebalance.Seek (Seek.Pass j)) → pass_of_word (word z r.world (name.Pass j)) ≡ Some epoch → (at : ℕ) → at < length es → (number : ℕ) → epoch ≤ number → MetPass z o (es ++ e ∷ []) e.seat at (length (es ++ e ∷ [])) number
   meets_pass j epoch is f at w number old = record {
     at = length es;
     after = w;
     before = longer;
     seat = j;
     epoch = epoch;
-    acts = acts_here (SeekPass j) (asking_pass j) epoch is refl (sym (number_word-number_of_word (word z r.world (name.Pass j))) ∙ ap number_word f);
+    acts = acts_here (Activity.Rebalance (Rebalance.Seek (Seek.Pass j))) (asking_pass j) epoch is refl (sym (number_word-number_of_word (word z r.world (name.Pass j))) ∙ ap number_word f);
     some = subst IsCounted f (IsCounted-number_of_word (word z r.world (name.Pass j)));
     old = old;
   }
 
-  at_pass : (j : ℕ) → a ≡ SeekPass j → (w : Searching z o es e.seat first l.rebalance) → AsksPasses z o es e.seat w.begun l.rebalance.sought l.rebalance.number → Then l'
-  at_pass j is w q = then_so _ (next_is (SeekPass j) is) (passed (pass_of_word (word z r.world (name.Pass j))) refl)
+  at_pass : (j : ℕ) → a ≡ Activity.Rebalance (Rebalance.Seek (Seek.Pass j)) → (w : Searching z o es e.seat first l.rebalance) → AsksPasses z o es e.seat w.begun l.rebalance.sought l.rebalance.number → Then l'
+  at_pass j is w q = then_so _ (next_is (Activity.Rebalance (Rebalance.Seek (Seek.Pass j))) is) (passed (pass_of_word (word z r.world (name.Pass j))) refl)
     where
-      tries_none : (d : ℕ) → d ≢ l.rebalance.sought → IsTrying e.seat d (SeekPass j) (asking_pass j) → ⊥
+      tries_none : (d : ℕ) → d ≢ l.rebalance.sought → IsTrying e.seat d (Activity.Rebalance (Rebalance.Seek (Seek.Pass j))) (asking_pass j) → ⊥
       tries_none d n f = f
 
       search : Searching z o (es ++ e ∷ []) e.seat first l.rebalance
-      search = still (SeekPass j) (asking_pass j) is refl (λ x. cc) tries_none w
+      search = still (Activity.Rebalance (Rebalance.Seek (Seek.Pass j))) (asking_pass j) is refl (λ x. cc) tries_none w
 
       idle : (u found : ℕ) (b : Activity) (op : Operation) → length es ≤ u → u < length (es ++ e ∷ []) → IsTrying e.seat l.rebalance.sought b op → Acts z o (es ++ e ∷ []) u e.seat b op found → ⊥
       idle u found b op f g d t = subst (λ x. IsTrying e.seat l.rebalance.sought x op) (sym (acts_same u found b op f g t).0 ∙ is) d
 
       begun : search.begun ≡ w.begun
-      begun = still_begun (SeekPass j) (asking_pass j) is refl (λ x. cc) tries_none w
+      begun = still_begun (Activity.Rebalance (Rebalance.Seek (Seek.Pass j))) (asking_pass j) is refl (λ x. cc) tries_none w
 
       asks : AsksPasses z o (es ++ e ∷ []) e.seat search.begun l.rebalance.sought l.rebalance.number
       asks = subst (λ x. AsksPasses z o (es ++ e ∷ []) e.seat x l.rebalance.sought l.rebalance.number) (sym begun) (asks_lasts z o es e e.seat w.begun l.rebalance.sought l.rebalance.number idle q)
 
-      looks_on : (b : Bool) → Then (let x : Outcome = if b then to (SeekPass (j + 1)) l else to Reclaim l in x).local
+      looks_on : (b : Bool) → Then (let x : Outcome = if b then to (Activity.Rebalance (Rebalance.Seek (Seek.Pass (j + 1)))) l else to (Activity.Rebalance (Rebalance.Seek Seek.Reclaim)) l in x).local
       looks_on true = (search, asks)
       looks_on false = search
 
@@ -463,14 +458,14 @@ module _ (z : Sizes) (o : Opening) (es : List Event) (e : Event) (r r' : Run) (l
       passed (Some epoch) f = met epoch f (nat_le epoch l.rebalance.number) refl
       passed None f = looks_on (nat_lt (j + 1) z.seats)
 
-  at_reclaim : a ≡ Reclaim → Searching z o es e.seat first l.rebalance → Then l'
-  at_reclaim is p = then_so _ (next_is Reclaim is) (still Reclaim (reclaiming l.rebalance.sought l.rebalance.number) is refl (λ x. cc) (λ q n f. reclaims_one q n f) p)
+  at_reclaim : a ≡ Activity.Rebalance (Rebalance.Seek Seek.Reclaim) → Searching z o es e.seat first l.rebalance → Then l'
+  at_reclaim is p = then_so _ (next_is (Activity.Rebalance (Rebalance.Seek Seek.Reclaim)) is) (still (Activity.Rebalance (Rebalance.Seek Seek.Reclaim)) (reclaiming l.rebalance.sought l.rebalance.number) is refl (λ x. cc) (λ q n f. reclaims_one q n f) p)
     where
       reclaims_one : (q : ℕ) → q ≢ l.rebalance.sought → (number : ℕ) × (reclaiming l.rebalance.sought l.rebalance.number ≡ reclaiming q number) → ⊥
       reclaims_one q n f = n (let x : name.State l.rebalance.sought ≡ name.State q = ap (λ (op : Operation). op.name) f.1 in cc)
 
   -- a row that the seat takes
-  with_taken : (p : Searching z o es e.seat first l.rebalance) → a ≡ TakeRow → word z r.world (name.State l.rebalance.sought) ≡ state_word Free → length (with_row l).rebalance.taken < length l.rebalance.starts → Searching z o (es ++ e ∷ []) e.seat first (with_row l).rebalance
+  with_taken : (p : Searching z o es e.seat first l.rebalance) → a ≡ Activity.Rebalance (Rebalance.Seek Seek.Take) → word z r.world (name.State l.rebalance.sought) ≡ state_word Free → length (with_row l).rebalance.taken < length l.rebalance.starts → Searching z o (es ++ e ∷ []) e.seat first (with_row l).rebalance
   with_taken p is won fewer = record {
     begun = same.begun;
     after = same.after;
@@ -492,7 +487,7 @@ module _ (z : Sizes) (o : Opening) (es : List Event) (e : Event) (r r' : Run) (l
       same = still_taking is p
 
       now : TookRow z o (es ++ e ∷ []) e.seat same.begun (length (es ++ e ∷ [])) l.rebalance.sought
-      now = record { at = length es; after = omega (arith, same.before, length-append es (e ∷ [])); before = longer; acts = acts_here TakeRow (taking e.seat l.rebalance.sought) (state_word Free) is refl won }
+      now = record { at = length es; after = omega (arith, same.before, length-append es (e ∷ [])); before = longer; acts = acts_here (Activity.Rebalance (Rebalance.Seek Seek.Take)) (taking e.seat l.rebalance.sought) (state_word Free) is refl won }
 
       took : (q : ℕ) → IsIn l.rebalance.taken q ⊎ (q ≡ l.rebalance.sought) → TookRow z o (es ++ e ∷ []) e.seat same.begun (length (es ++ e ∷ [])) q
       took q (inl x) = same.took q x
@@ -502,15 +497,15 @@ module _ (z : Sizes) (o : Opening) (es : List Event) (e : Event) (r r' : Run) (l
       passed q (inl x) = inl (in_front l.rebalance.taken l.rebalance.sought q x)
       passed q (inr x) = inr x
 
-  at_take : a ≡ TakeRow → Searching z o es e.seat first l.rebalance → Then l'
-  at_take is p = then_so _ (next_is TakeRow is) (met (word z r.world (name.State l.rebalance.sought) == state_word Free) refl)
+  at_take : a ≡ Activity.Rebalance (Rebalance.Seek Seek.Take) → Searching z o es e.seat first l.rebalance → Then l'
+  at_take is p = then_so _ (next_is (Activity.Rebalance (Rebalance.Seek Seek.Take)) is) (met (word z r.world (name.State l.rebalance.sought) == state_word Free) refl)
     where
       -- a row that is found retired there went in the pass of the seat
       retaken : IsPassedNow (state_of (word z r.world (name.State l.rebalance.sought)))
       retaken n f = inl (((i.shape.passes e.seat l h.knows).epoch (subst IsBusy (sym (h.activity ∙ is)) tt)).0, retakes z r i.shape e.seat n l h.knows (h.activity ∙ is) (ap state_met f))
 
       more : word z r.world (name.State l.rebalance.sought) ≡ state_word Free → (b : Bool) → nat_lt (length (with_row l).rebalance.taken) (length l.rebalance.starts) ≡ b →
-          Then (let x : Outcome = if b then to_seek o.rows (with_row l) else to WriteCount (at_infant 0 (with_row l)) in x).local
+          Then (let x : Outcome = if b then to_seek o.rows (with_row l) else to (Activity.Rebalance (Rebalance.Write Write.Count)) (at_infant 0 (with_row l)) in x).local
       more won true y = let w : length (with_row l).rebalance.taken < length l.rebalance.starts = grind (arith, nat_tests) in goes_on (with_row l) (with_taken p is won w) (inl (in_last l.rebalance.taken l.rebalance.sought))
       more won false y = tt
 
@@ -518,10 +513,10 @@ module _ (z : Sizes) (o : Opening) (es : List Event) (e : Event) (r r' : Run) (l
       met true y = let won : word z r.world (name.State l.rebalance.sought) ≡ state_word Free = grind (arith, nat_tests) in more won (nat_lt (length (with_row l).rebalance.taken) (length l.rebalance.starts)) refl
       met false y =
           let lost : word z r.world (name.State l.rebalance.sought) ≢ state_word Free = grind (arith, nat_tests) in
-          goes_past l (still_taking is p) (taken_here TakeRow (taking e.seat l.rebalance.sought) l.rebalance.sought is refl refl refl lost retaken)
+          goes_past l (still_taking is p) (taken_here (Activity.Rebalance (Rebalance.Seek Seek.Take)) (taking e.seat l.rebalance.sought) l.rebalance.sought is refl refl refl lost retaken)
 
-  at_give_back : a ≡ GiveBack → (l.rebalance.afterwards ≡ Refuse → AskedAll z o es e.seat o.rows first (length es)) → Then l'
-  at_give_back is p = then_so _ (next_is GiveBack is) (met (has_more l))
+  at_give_back : a ≡ Activity.Rebalance (Rebalance.Seek Seek.GiveBack) → (l.rebalance.afterwards ≡ Refuse → AskedAll z o es e.seat o.rows first (length es)) → Then l'
+  at_give_back is p = then_so _ (next_is (Activity.Rebalance (Rebalance.Seek Seek.GiveBack)) is) (met (has_more l))
     where
       later : l.rebalance.afterwards ≡ Refuse → AskedAll z o (es ++ e ∷ []) e.seat o.rows first (length (es ++ e ∷ []))
       later x =
@@ -532,7 +527,7 @@ module _ (z : Sizes) (o : Opening) (es : List Event) (e : Event) (r r' : Run) (l
       given : (f : Afterwards) → l.rebalance.afterwards ≡ f → Then (given_back f l).local
       given TryAgain x = again_or_over l.tidies
         where
-          again_or_over : (b : Bool) → Then (to (if b then Leave Done else Again) (without_rows (without_rebalance l))).local
+          again_or_over : (b : Bool) → Then (to (if b then (Activity.Leave Done) else Activity.Retry) (without_rows (without_rebalance l))).local
           again_or_over true = tt
           again_or_over false = tt
       given Refuse x = no_rows_left l.tidies
@@ -542,7 +537,7 @@ module _ (z : Sizes) (o : Opening) (es : List Event) (e : Event) (r r' : Run) (l
           no_rows_left false = later x
       given MoveLeft x = tt
 
-      met : (b : Bool) → Then (let x : Outcome = if b then to GiveBack (at_infant (l.rebalance.at + 1) l) else given_back l.rebalance.afterwards l in x).local
+      met : (b : Bool) → Then (let x : Outcome = if b then to (Activity.Rebalance (Rebalance.Seek Seek.GiveBack)) (at_infant (l.rebalance.at + 1) l) else given_back l.rebalance.afterwards l in x).local
       met true = later
       met false = given l.rebalance.afterwards refl
 
@@ -552,10 +547,10 @@ module _ (z : Sizes) (o : Opening) (es : List Event) (e : Event) (r r' : Run) (l
   since_own p = by a refl p
     where
       by : (b : Activity) → a ≡ b → Since b z o es e.seat first call l → Then l'
-      by SeekFirst is q = at_first is q
-      by Seek is q = at_seek is q
-      by (SeekPass j) is q = at_pass j is q.0 q.1
-      by Reclaim is q = at_reclaim is q
-      by TakeRow is q = at_take is q
-      by GiveBack is q = at_give_back is q
+      by (Activity.Rebalance (Rebalance.Seek Seek.First)) is q = at_first is q
+      by (Activity.Rebalance (Rebalance.Seek Seek.Next)) is q = at_seek is q
+      by (Activity.Rebalance (Rebalance.Seek (Seek.Pass j))) is q = at_pass j is q.0 q.1
+      by (Activity.Rebalance (Rebalance.Seek Seek.Reclaim)) is q = at_reclaim is q
+      by (Activity.Rebalance (Rebalance.Seek Seek.Take)) is q = at_take is q
+      by (Activity.Rebalance (Rebalance.Seek Seek.GiveBack)) is q = at_give_back is q
       by b is q = by_arrow b l' is (subst (λ c. Arrow z (word z r.world) e.seat (offered r.world.rows e.choice) l c l') is h.arrow) tt

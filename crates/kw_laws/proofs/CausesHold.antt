@@ -6,7 +6,6 @@ use Rattle.kw_model.specs.declared.call.Call.{Call}
 use Rattle.kw_model.specs.declared.call.Reply.{Reply}
 use Rattle.kw_model.specs.declared.call.Reply.TheVariants as reply
 use Rattle.kw_world.specs.declared.activity.Activity.{Activity}
-use Rattle.kw_world.specs.declared.activity.Activity.TheVariants.{Idle, Leave}
 use Rattle.kw_world.specs.declared.answer.Answer.{Answer}
 use Rattle.kw_world.specs.declared.answer.Answer.TheVariants.{Done, Value, Absent, Pairs, NoRows, Spent, Stopped}
 use Rattle.kw_world.specs.declared.event.Choice.{Choice}
@@ -92,7 +91,7 @@ next_rest_busy l k (ends_scan w e f) = tt
 next_rest_busy l k (scans_on q w e f g) = tt
 
 after_busy : (b : Activity) → IsAfterBuilding b → IsBusy b
-after_busy Idle x = absurd x
+after_busy Activity.Idle x = absurd x
 after_busy _ x = tt
 
 arrow_busy : (z : Sizes) (v : Words) (s : ℕ) (choice : Choice) (l : Local) (a : Activity) (k : Local) → Arrow z v s choice l a k → IsUnderway a → IsBusy k.activity
@@ -125,7 +124,7 @@ module _ (z : Sizes) (o : Opening) (es : List Event) (e : Event) (r r' : Run) (l
   done_here = ap (λ (x : Stepped). x.done) (step-moved z r.world e l h.knows moves) ∙ ap (λ (x : Transition). (followed r.world.rows x (word z r.world x.operation.name)).done) (transition_of-transition z e.seat (offered r.world.rows e.choice) l ∙ ap (λ b. transition z b e.seat (offered r.world.rows e.choice) l) h.activity)
 
   -- a seat that leaves ends its call
-  leaving_ends : (answer : Answer) → a ≡ Leave answer → EndsCall z o (es ++ e ∷ []) (length es) e.seat (reply_of answer l.pairs)
+  leaving_ends : (answer : Answer) → a ≡ Activity.Leave answer → EndsCall z o (es ++ e ∷ []) (length es) e.seat (reply_of answer l.pairs)
   leaving_ends answer is = record {
     before = world z o es;
     choice = e.choice;
@@ -139,14 +138,14 @@ module _ (z : Sizes) (o : Opening) (es : List Event) (e : Event) (r r' : Run) (l
 
   -- its seat is not about to leave
   underway : (x : ℕ) → x < length es → NoEnd z o (es ++ e ∷ []) e.seat x (length (es ++ e ∷ [])) → (b : Activity) → a ≡ b → IsBusy b → IsUnderway b
-  underway x w n Idle is u = absurd u
-  underway x w n (Leave answer) is u = absurd (n (length es) (reply_of answer l.pairs) (omega (arith, w)) longer (leaving_ends answer is))
+  underway x w n Activity.Idle is u = absurd u
+  underway x w n (Activity.Leave answer) is u = absurd (n (length es) (reply_of answer l.pairs) (omega (arith, w)) longer (leaving_ends answer is))
   underway x w n _ is u = tt
 
-  begun_was : (x t : ℕ) (call : Call) → BeginsCall z o (es ++ e ∷ []) x t call → BeginsCall z o es x t call ⊎ ((x ≡ length es) × (e ≡ event t (Begin call)) × (a ≡ Idle))
+  begun_was : (x t : ℕ) (call : Call) → BeginsCall z o (es ++ e ∷ []) x t call → BeginsCall z o es x t call ⊎ ((x ≡ length es) × (e ≡ event t (Begin call)) × (a ≡ Activity.Idle))
   begun_was x t call b = which (occurs_was z o es e x b.before (event t (Begin call)) b.occurs)
     where
-      which : Occurs z o es x b.before (event t (Begin call)) ⊎ ((x ≡ length es) × (e ≡ event t (Begin call)) × (world z o es ≡ b.before)) → BeginsCall z o es x t call ⊎ ((x ≡ length es) × (e ≡ event t (Begin call)) × (a ≡ Idle))
+      which : Occurs z o es x b.before (event t (Begin call)) ⊎ ((x ≡ length es) × (e ≡ event t (Begin call)) × (world z o es ≡ b.before)) → BeginsCall z o es x t call ⊎ ((x ≡ length es) × (e ≡ event t (Begin call)) × (a ≡ Activity.Idle))
       which (inl f) = inl (record { before = b.before; local = b.local; occurs = f; knows = b.knows; idle = b.idle })
       which (inr f) =
           let k : slice_get r.world.locals t ≡ Some b.local = subst (λ (q : WorldView). slice_get q.locals t ≡ Some b.local) (sym f.2 ∙ led) b.knows in
@@ -186,12 +185,12 @@ module _ (z : Sizes) (o : Opening) (es : List Event) (e : Event) (r r' : Run) (l
           which (inr k) = d (sym (ap (λ (q : Event). q.seat) k.1))
 
   -- a call that begins now
-  makes_new : (t : ℕ) (call : Call) → e ≡ event t (Begin call) → a ≡ Idle → MakesCall z o (es ++ e ∷ []) t (length es) call l'
+  makes_new : (t : ℕ) (call : Call) → e ≡ event t (Begin call) → a ≡ Activity.Idle → MakesCall z o (es ++ e ∷ []) t (length es) call l'
   makes_new t call f is = subst (MakesCall z o (es ++ e ∷ []) t (length es) call) (sym next) (record { busy = tt; asked = refl; since = tt })
     where
-      next : l' ≡ (followed r.world.rows (transition z Idle e.seat (Begin call) l) (found_at z (word z r.world) Idle e.seat (Begin call) l)).local
+      next : l' ≡ (followed r.world.rows (transition z Activity.Idle e.seat (Begin call) l) (found_at z (word z r.world) Activity.Idle e.seat (Begin call) l)).local
       next = h.next ∙ ap (λ b. (followed r.world.rows (transition z b e.seat (offered r.world.rows e.choice) l) (found_at z (word z r.world) b e.seat (offered r.world.rows e.choice) l)).local) is
-          ∙ ap (λ (q : Event). (followed r.world.rows (transition z Idle e.seat (offered r.world.rows q.choice) l) (found_at z (word z r.world) Idle e.seat (offered r.world.rows q.choice) l)).local) f
+          ∙ ap (λ (q : Event). (followed r.world.rows (transition z Activity.Idle e.seat (offered r.world.rows q.choice) l) (found_at z (word z r.world) Activity.Idle e.seat (offered r.world.rows q.choice) l)).local) f
 
   makes_on : AllMake z o (es ++ e ∷ [])
   makes_on x t call m b n g = which (begun_was x t call b)
@@ -199,7 +198,7 @@ module _ (z : Sizes) (o : Opening) (es : List Event) (e : Event) (r r' : Run) (l
       knows : slice_get r'.world.locals t ≡ Some m
       knows = ap (λ (q : WorldView). slice_get q.locals t) (sym led') ∙ g
 
-      which : BeginsCall z o es x t call ⊎ ((x ≡ length es) × (e ≡ event t (Begin call)) × (a ≡ Idle)) → MakesCall z o (es ++ e ∷ []) t x call m
+      which : BeginsCall z o es x t call ⊎ ((x ≡ length es) × (e ≡ event t (Begin call)) × (a ≡ Activity.Idle)) → MakesCall z o (es ++ e ∷ []) t x call m
       which (inl c) = each_seat h GoesOn makes_own makes_other t m knows x call c n
       which (inr c) =
           let same : l' ≡ m = same_Some l' m (sym (knows_next h) ∙ ap (λ (q : Event). slice_get r'.world.locals q.seat) c.1 ∙ knows) in
@@ -212,7 +211,7 @@ module _ (z : Sizes) (o : Opening) (es : List Event) (e : Event) (r r' : Run) (l
   cause_lasts x y t call reply.NoRows w c = let same : y ≤ y = omega arith in asked_lasts z o es e t y y same w (λ u found a op i f g d. omega (arith, f, g)) o.rows x c
   cause_lasts x y t call _ w c = tt
 
-  cause_now : (x : ℕ) (call : Call) (answer : Answer) (pairs : List (ℕ × ℕ)) → Since (Leave answer) z o es e.seat x call l → CauseOf (reply_of answer pairs) z o es call e.seat x (length es)
+  cause_now : (x : ℕ) (call : Call) (answer : Answer) (pairs : List (ℕ × ℕ)) → Since (Activity.Leave answer) z o es e.seat x call l → CauseOf (reply_of answer pairs) z o es call e.seat x (length es)
   cause_now x call Spent pairs c = c
   cause_now x call NoRows pairs c = c
   cause_now x call Done pairs c = tt
@@ -224,7 +223,7 @@ module _ (z : Sizes) (o : Opening) (es : List Event) (e : Event) (r r' : Run) (l
   caused_on : AllCaused z o (es ++ e ∷ [])
   caused_on x y t call answer w b n d = which (ends_was z o es e y t answer d) (begun_was x t call b)
     where
-      which : EndsCall z o es y t answer ⊎ ((y ≡ length es) × (e.seat ≡ t) × ((step z (world z o es) e).done ≡ Ended answer)) → BeginsCall z o es x t call ⊎ ((x ≡ length es) × (e ≡ event t (Begin call)) × (a ≡ Idle)) → CauseOf answer z o (es ++ e ∷ []) call t x y
+      which : EndsCall z o es y t answer ⊎ ((y ≡ length es) × (e.seat ≡ t) × ((step z (world z o es) e).done ≡ Ended answer)) → BeginsCall z o es x t call ⊎ ((x ≡ length es) × (e ≡ event t (Begin call)) × (a ≡ Activity.Idle)) → CauseOf answer z o (es ++ e ∷ []) call t x y
       which (inl c) (inl k) =
           let inside = occurs_within z o es y c.before (event t c.choice) c.occurs in
           let same : y ≤ y = omega arith in

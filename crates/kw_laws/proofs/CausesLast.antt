@@ -3,7 +3,8 @@ use Rattle.std.proofs.Common.{ℕ, ◌≡◌, ◌⊎◌, inl, inr, ◌<◌, ◌�
 use Rattle.std.proofs.lemmas.Bool.{cases_lt}
 use Rattle.kw_model.specs.declared.call.Call.{Call}
 use Rattle.kw_world.specs.declared.activity.Activity.{Activity}
-use Rattle.kw_world.specs.declared.activity.Activity.TheVariants.{SeekFirst, Seek, Reclaim, TakeRow}
+use Rattle.kw_world.specs.declared.activity.rebalance.Rebalance.TheVariants as Rebalance
+use Rattle.kw_world.specs.declared.activity.rebalance.seek.Seek.TheVariants as Seek
 use Rattle.kw_world.specs.declared.event.Event.{Event}
 use Rattle.kw_world.specs.declared.opening.Opening.{Opening}
 use Rattle.kw_world.specs.declared.operation.Operation.{Operation}
@@ -16,18 +17,18 @@ use Rattle.kw_laws.proofs.Occurs.{occurs_lasts, occurs_was}
 
 -- a seat at this activity asks for rows
 abbrev pub IsSearching : Activity → Type 0
-IsSearching SeekFirst = Unit {0}
-IsSearching Seek = Unit {0}
-IsSearching Reclaim = Unit {0}
-IsSearching TakeRow = Unit {0}
+IsSearching (Activity.Rebalance (Rebalance.Seek Seek.First)) = Unit {0}
+IsSearching (Activity.Rebalance (Rebalance.Seek Seek.Next)) = Unit {0}
+IsSearching (Activity.Rebalance (Rebalance.Seek Seek.Reclaim)) = Unit {0}
+IsSearching (Activity.Rebalance (Rebalance.Seek Seek.Take)) = Unit {0}
 IsSearching _ = ⊥
 
 -- only such a seat does
 pub trying_searches : (s q : ℕ) (a : Activity) (op : Operation) → IsTrying s q a op → IsSearching a
-trying_searches s q SeekFirst op t = tt
-trying_searches s q Seek op t = tt
-trying_searches s q Reclaim op t = tt
-trying_searches s q TakeRow op t = tt
+trying_searches s q (Activity.Rebalance (Rebalance.Seek Seek.First)) op t = tt
+trying_searches s q (Activity.Rebalance (Rebalance.Seek Seek.Next)) op t = tt
+trying_searches s q (Activity.Rebalance (Rebalance.Seek Seek.Reclaim)) op t = tt
+trying_searches s q (Activity.Rebalance (Rebalance.Seek Seek.Take)) op t = tt
 trying_searches s q _ op t = absurd t
 
 -- what a seat did in a longer list it did before, or does now
@@ -80,10 +81,10 @@ module _ (z : Sizes) (o : Opening) (es : List Event) (e : Event) (s last last' :
       named n (inr x) = inr (record { at = x.at; after = x.after; before = omega (arith, w, x.before); seat = x.seat; epoch = x.epoch; acts = acts_on z o es e x.at s _ _ x.epoch x.acts; some = x.some; old = x.old })
 
   -- where it begins no search between them
-  pub search_lasts : last ≤ length es → (first : ℕ) → ((u found : ℕ) (op : Operation) → last ≤ u → u < last' → Acts z o (es ++ e ∷ []) u s SeekFirst op found → ⊥) → NoSearch z o es s first last → NoSearch z o (es ++ e ∷ []) s first last'
-  search_lasts inside first quiet n u found op f g t = where_at (cases_lt u last) (acts_was z o es e u s SeekFirst op found t)
+  pub search_lasts : last ≤ length es → (first : ℕ) → ((u found : ℕ) (op : Operation) → last ≤ u → u < last' → Acts z o (es ++ e ∷ []) u s (Activity.Rebalance (Rebalance.Seek Seek.First)) op found → ⊥) → NoSearch z o es s first last → NoSearch z o (es ++ e ∷ []) s first last'
+  search_lasts inside first quiet n u found op f g t = where_at (cases_lt u last) (acts_was z o es e u s (Activity.Rebalance (Rebalance.Seek Seek.First)) op found t)
     where
-      where_at : (u < last) ⊎ (last ≤ u) → Acts z o es u s SeekFirst op found ⊎ (u ≡ length es) → ⊥
+      where_at : (u < last) ⊎ (last ≤ u) → Acts z o es u s (Activity.Rebalance (Rebalance.Seek Seek.First)) op found ⊎ (u ≡ length es) → ⊥
       where_at (inr x) y = quiet u found op x g t
       where_at (inl x) (inl y) = n u found op f x y
       where_at (inl x) (inr y) = omega (arith, x, y, inside)
@@ -98,7 +99,7 @@ module _ (z : Sizes) (o : Opening) (es : List Event) (e : Event) (s last last' :
       row = t.row;
       found = t.found;
       begins = acts_on z o es e t.begun s _ _ _ t.begins;
-      alone = search_lasts inside t.begun (λ u found op f g c. idle u found SeekFirst op tt f g c) t.alone;
+      alone = search_lasts inside t.begun (λ u found op f g c. idle u found (Activity.Rebalance (Rebalance.Seek Seek.First)) op tt f g c) t.alone;
       taken = t.taken;
       took = λ q x. took_lasts t.begun q (t.took q x);
       fewer = t.fewer;

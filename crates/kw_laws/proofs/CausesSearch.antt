@@ -1,17 +1,17 @@
 -- A search of the table, as it goes round: which rows it has asked, and what it found at each.
-use Rattle.std.proofs.Common.{ℕ, zero, suc, ◌≡◌, ◌≢◌, ◌⊎◌, inl, inr, ◌+◌, ◌<◌, ◌≤◌, Bool, true, false, nat_lt, if◌then◌else◌, Some, List, [], ◌∷◌, ◌++◌, arith, refl, sym, ◌∙◌, ap, subst, length, length-append}
+use Rattle.std.proofs.Common.{ℕ, ◌≡◌, ◌≢◌, ◌⊎◌, inl, inr, ◌+◌, ◌<◌, ◌≤◌, Bool, true, false, nat_lt, if◌then◌else◌, Some, List, [], ◌∷◌, ◌++◌, arith, refl, sym, ◌∙◌, ap, subst, length, length-append}
 use Rattle.std.proofs.lemmas.Bool.{cases_lt}
 use Rattle.std.proofs.lemmas.Bool.Decides.{nat_tests}
 use Rattle.kw_words.specs.declared.state.State.TheVariants as state
 use Rattle.kw_words.specs.State.{state_of, state_word}
 use Rattle.kw_words.proofs.StateWords.{state_of-Free}
-use Rattle.kw_cells.specs.declared.cell.Cell.{Cell}
 use Rattle.kw_world.specs.declared.activity.Activity.{Activity}
-use Rattle.kw_world.specs.declared.activity.Activity.TheVariants.{SeekFirst}
+use Rattle.kw_world.specs.declared.activity.rebalance.Rebalance.TheVariants as Rebalance
+use Rattle.kw_world.specs.declared.activity.rebalance.seek.Seek.TheVariants as Seek
 use Rattle.kw_world.specs.declared.event.Event.{Event}
 use Rattle.kw_world.specs.declared.opening.Opening.{Opening}
 use Rattle.kw_world.specs.declared.operation.Operation.{Operation}
-use Rattle.kw_world.specs.declared.rebalance.Rebalance.{Rebalance}
+use Rattle.kw_world.specs.declared.rebalance.Rebalancing.{Rebalancing}
 use Rattle.kw_world.specs.SeekTransitions.{row_behind}
 use Rattle.kw_world.specs.Sizes.{Sizes}
 use Rattle.kw_rows.specs.Events.{IsIn}
@@ -112,7 +112,7 @@ in_was (x ∷ xs) y q (inr t) = which (in_was xs y q t)
 -- What is kept of a search.
 
 -- before a search: row 0 is asked first, and no row is taken
-pub record IsBeforeSearch (b : Rebalance) : Type 0 where
+pub record IsBeforeSearch (b : Rebalancing) : Type 0 where
   pub sought : b.sought ≡ 0
   pub asked : b.asked ≡ 1
   pub taken : b.taken ≡ []
@@ -120,13 +120,13 @@ pub record IsBeforeSearch (b : Rebalance) : Type 0 where
 
 -- the seat began its search in its call, and of the rows that it asked each one was taken, or is
 -- one that it took
-pub record Searching (z : Sizes) (o : Opening) (es : List Event) (s first : ℕ) (b : Rebalance) : Type 0 where
+pub record Searching (z : Sizes) (o : Opening) (es : List Event) (s first : ℕ) (b : Rebalancing) : Type 0 where
   pub begun : ℕ
   pub after : first < begun
   pub before : begun < length es
   pub row : ℕ
   pub found : ℕ
-  pub begins : Acts z o es begun s SeekFirst (asking row) found
+  pub begins : Acts z o es begun s (Activity.Rebalance (Rebalance.Seek Seek.First)) (asking row) found
   pub starts : b.starts ≡ begins.local.rebalance.starts
   pub within : row < o.rows
   pub sought : b.sought < o.rows
@@ -138,7 +138,7 @@ pub record Searching (z : Sizes) (o : Opening) (es : List Event) (s first : ℕ)
 
 -- one more event, by which the seat begins no search, and asks for no row but the one that is
 -- sought
-pub searching_lasts : (z : Sizes) (o : Opening) (es : List Event) (e : Event) (s first : ℕ) (b : Rebalance) → length es ≤ length (es ++ e ∷ []) → ((u found : ℕ) (op : Operation) → length es ≤ u → u < length (es ++ e ∷ []) → Acts z o (es ++ e ∷ []) u s SeekFirst op found → ⊥) →
+pub searching_lasts : (z : Sizes) (o : Opening) (es : List Event) (e : Event) (s first : ℕ) (b : Rebalancing) → length es ≤ length (es ++ e ∷ []) → ((u found : ℕ) (op : Operation) → length es ≤ u → u < length (es ++ e ∷ []) → Acts z o (es ++ e ∷ []) u s (Activity.Rebalance (Rebalance.Seek Seek.First)) op found → ⊥) →
     ((q u found : ℕ) (a : Activity) (op : Operation) → q ≢ b.sought → length es ≤ u → u < length (es ++ e ∷ []) → IsTrying s q a op → Acts z o (es ++ e ∷ []) u s a op found → ⊥) → Searching z o es s first b → Searching z o (es ++ e ∷ []) s first b
 searching_lasts z o es e s first b longer quiet untried t = record {
   begun = t.begun;
@@ -165,13 +165,13 @@ searching_lasts z o es e s first b longer quiet untried t = record {
     either q n (inr x) = inr (taken_lasts z o es e s (length es) (length (es ++ e ∷ [])) longer inside t.begun q (λ u found a op f g d c. untried q u found a op n f g d c) x)
 
 -- it began where it did
-pub searching_begun : (z : Sizes) (o : Opening) (es : List Event) (e : Event) (s first : ℕ) (b : Rebalance) (w : length es ≤ length (es ++ e ∷ [])) (quiet : (u found : ℕ) (op : Operation) → length es ≤ u → u < length (es ++ e ∷ []) → Acts z o (es ++ e ∷ []) u s SeekFirst op found → ⊥) →
+pub searching_begun : (z : Sizes) (o : Opening) (es : List Event) (e : Event) (s first : ℕ) (b : Rebalancing) (w : length es ≤ length (es ++ e ∷ [])) (quiet : (u found : ℕ) (op : Operation) → length es ≤ u → u < length (es ++ e ∷ []) → Acts z o (es ++ e ∷ []) u s (Activity.Rebalance (Rebalance.Seek Seek.First)) op found → ⊥) →
     (untried : (q u found : ℕ) (a : Activity) (op : Operation) → q ≢ b.sought → length es ≤ u → u < length (es ++ e ∷ []) → IsTrying s q a op → Acts z o (es ++ e ∷ []) u s a op found → ⊥) → (t : Searching z o es s first b) → (searching_lasts z o es e s first b w quiet untried t).begun ≡ t.begun
 unfolding searching_lasts
 searching_begun z o es e s first b w quiet untried t = refl
 
 -- the number of a retired row that is asked for says nothing of the search
-abbrev pub searching_number : (z : Sizes) (o : Opening) (es : List Event) (s first number : ℕ) (b : Rebalance) → Searching z o es s first b → Searching z o es s first (record b { number = number })
+abbrev pub searching_number : (z : Sizes) (o : Opening) (es : List Event) (s first number : ℕ) (b : Rebalancing) → Searching z o es s first b → Searching z o es s first (record b { number = number })
 searching_number z o es s first number b t = record { begun = t.begun; after = t.after; before = t.before; row = t.row; found = t.found; begins = t.begins; starts = t.starts; within = t.within; sought = t.sought; turn = t.turn; alone = t.alone; took = t.took; fewer = t.fewer; passed = t.passed }
 
 -- The passes.
@@ -224,7 +224,7 @@ module _ (z : Sizes) (o : Opening) (es : List Event) (e : Event) (s begun row nu
       same_number n f = let x : Some (state.Retired number) ≡ Some (state.Retired n) = sym t.retired ∙ f in cc
 
 -- of a search that has asked all rows, the one that is sought too
-pub asked_all : (z : Sizes) (o : Opening) (es : List Event) (s first : ℕ) (b : Rebalance) → o.rows ≤ b.asked → (t : Searching z o es s first b) → IsIn b.taken b.sought ⊎ FoundTaken z o es s t.begun (length es) b.sought → AskedAll z o es s o.rows first (length es)
+pub asked_all : (z : Sizes) (o : Opening) (es : List Event) (s first : ℕ) (b : Rebalancing) → o.rows ≤ b.asked → (t : Searching z o es s first b) → IsIn b.taken b.sought ⊎ FoundTaken z o es s t.begun (length es) b.sought → AskedAll z o es s o.rows first (length es)
 asked_all z o es s first b all t here = record {
   begun = t.begun;
   after = t.after;
@@ -244,7 +244,7 @@ asked_all z o es s first b all t here = record {
     which q w (inr x) = subst (λ y. IsIn b.taken y ⊎ FoundTaken z o es s t.begun (length es) y) (sym x) here
 
 -- and one that has not goes on to the next row
-pub next_row : (z : Sizes) (o : Opening) (es : List Event) (s first : ℕ) (b : Rebalance) → b.asked < o.rows → (t : Searching z o es s first b) → IsIn b.taken b.sought ⊎ FoundTaken z o es s t.begun (length es) b.sought → Searching z o es s first (record b { sought = row_behind o.rows b.sought; asked = b.asked + 1 })
+pub next_row : (z : Sizes) (o : Opening) (es : List Event) (s first : ℕ) (b : Rebalancing) → b.asked < o.rows → (t : Searching z o es s first b) → IsIn b.taken b.sought ⊎ FoundTaken z o es s t.begun (length es) b.sought → Searching z o es s first (record b { sought = row_behind o.rows b.sought; asked = b.asked + 1 })
 next_row z o es s first b more t here =
     let turn = turn_next t.row b.sought b.asked o.rows t.within t.sought more t.turn in
     record {

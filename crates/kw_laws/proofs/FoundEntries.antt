@@ -7,7 +7,8 @@ use Rattle.kw_words.specs.declared.pend.Pend.TheVariants.{Idle, Pending, Stamped
 use Rattle.kw_words.specs.declared.sizes.TheConstants.{MOST_CELLS}
 use Rattle.kw_words.specs.Pend.{pend_of, pend_word}
 use Rattle.kw_words.proofs.PendWords.{pend_of-Idle, pend_of-Pending, pend_of-Stamped, pend_of-Frozen}
-use Rattle.kw_world.specs.declared.activity.Activity.TheVariants.{Announce}
+use Rattle.kw_world.specs.declared.activity.Activity.TheVariants as Activity
+use Rattle.kw_world.specs.declared.activity.put.Put.TheVariants as Put
 use Rattle.kw_world.specs.declared.local.Local.{Local}
 use Rattle.kw_world.specs.Sane.{IsVersion}
 use Rattle.kw_world.specs.Sizes.{Sizes}
@@ -55,7 +56,7 @@ module _ (z : Sizes) (r : Run) (i : Inv z r) where
       entry_has_cell (attempt r.history (r.seats t).own) l.cell _ o.cell (omega (arith, (i.shape.sane.locals t l g).ranges.cell, i.shape.sane.sized.few_cells)) (λ s. version_in_range z r i (r.seats t).own s) (o.entry p)
 
   -- one that is to announce it finds its entry idle, or frozen
-  pub finds_idle : (t : ℕ) (l : Local) → slice_get r.world.locals t ≡ Some l → l.activity ≡ Announce → IsIdleOrFrozen (pend_of (word z r.world (name.Pend l.row t)))
+  pub finds_idle : (t : ℕ) (l : Local) → slice_get r.world.locals t ≡ Some l → l.activity ≡ Activity.Put Put.Announce → IsIdleOrFrozen (pend_of (word z r.world (name.Pend l.row t)))
   finds_idle t l g a = which (i.puts.entry l.row t (i.shape.sane.locals t l g).below.row (seat t l g))
     where
       which : (word z r.world (name.Pend l.row t) ≡ pend_word Idle) ⊎ (word z r.world (name.Pend l.row t) ≡ pend_word Frozen) ⊎ IsPublishedAt (slice_get r.world.locals) l.row t → IsIdleOrFrozen (pend_of (word z r.world (name.Pend l.row t)))

@@ -8,7 +8,8 @@ use Rattle.kw_words.proofs.ScanWords.{scan_of-Waiting, scan_of-scan_word}
 use Rattle.kw_cells.specs.declared.cell.Cell as kw_cell
 use Rattle.kw_model.specs.Map.{RisesFrom}
 use Rattle.kw_world.specs.declared.activity.Activity.{Activity}
-use Rattle.kw_world.specs.declared.activity.Activity.TheVariants.{InsFrom, InsKey, InsVer, InsSet, Insert, ScanSettle}
+use Rattle.kw_world.specs.declared.activity.draw.Draw.TheVariants as Draw
+use Rattle.kw_world.specs.declared.activity.insert.Insert.TheVariants as Insert
 use Rattle.kw_world.specs.declared.local.Local.{Local}
 use Rattle.kw_world.specs.declared.opening.Opening.{Opening}
 use Rattle.kw_world.specs.declared.event.Event.{Event}
@@ -78,8 +79,8 @@ beside h o q l (c ∷ cells) (x ∷ ids) p a n = which (λ m. beside h o q l cel
 
 -- a put that has met a cell stands at a link before it
 meets_behind : (z : Sizes) (row : Row) (a : Activity) (l : Local) → IsMeeting a → WalksList z.cells row a l → IsBehind row l.link l.place
-meets_behind z row InsKey l m w = w.0
-meets_behind z row InsVer l m w = w.0
+meets_behind z row (Activity.Insert Insert.Key) l m w = w.0
+meets_behind z row (Activity.Insert Insert.Version) l m w = w.0
 meets_behind z row _ l m w = absurd m
 
 -- a put whose own cell is not listed has met fewer cells than there are
@@ -88,11 +89,9 @@ walked_less z row l u o w = walked_fewer z.cells row l.link l.walked l.cell o u 
 
 -- and has lost fewer exchanges
 lost_less : (z : Sizes) (row : Row) (a : Activity) (l : Local) → IsInserting a → l.cell < z.cells → Inserts z.cells row a l → l.lost < z.cells
-lost_less z row InsFrom l m o i = put_lost z.cells row l.cell l.lost l.link o i
-lost_less z row InsKey l m o i = put_lost z.cells row l.cell l.lost l.link o i.0.from
-lost_less z row InsVer l m o i = put_lost z.cells row l.cell l.lost l.link o i.0.from
-lost_less z row InsSet l m o i = put_lost z.cells row l.cell l.lost l.link o i.0.from
-lost_less z row Insert l m o i = put_lost z.cells row l.cell l.lost l.link o i.met.from
+lost_less z row (Activity.Insert Insert.Link) l m o i = put_lost z.cells row l.cell l.lost l.link o i
+lost_less z row (Activity.Insert Insert.Exchange) l m o i = put_lost z.cells row l.cell l.lost l.link o i.met.from
+lost_less z row (Activity.Insert _) l m o i = put_lost z.cells row l.cell l.lost l.link o i.0.from
 lost_less z row _ l m o i = absurd m
 
 -- a reader that has met a cell stands at a link before it
@@ -153,7 +152,7 @@ laws_from z r i stated ends passes = record {
     above : (q u t : ℕ) → IsFresh r.ledger.rows t q → (r.ledger.rows.fates q).upper ≡ Some u → least_in (word z r.world) q < u
     above q u t f e = above_least (rows_in (word z r.world)) r.ledger.rows i.shape.rows.closed q u (held_by r.ledger.rows t q f) e
 
-    settles : (t : ℕ) (l : Local) → slice_get r.world.locals t ≡ Some l → l.activity ≡ ScanSettle → IsWaitingOrDrawn l.waiting (scan_of (word z r.world (name.Scan t)))
+    settles : (t : ℕ) (l : Local) → slice_get r.world.locals t ≡ Some l → l.activity ≡ Activity.Draw Draw.Settle → IsWaitingOrDrawn l.waiting (scan_of (word z r.world (name.Scan t)))
     settles t l g a = which ((i.positions.draws t l g).waits (subst IsWaiting (sym a) tt))
       where
         which : (word z r.world (name.Scan t) ≡ scan_word (Waiting l.waiting)) ⊎ IsHelped (word z r.world) r.history t (r.ledger.waits t) (r.settled t) → IsWaitingOrDrawn l.waiting (scan_of (word z r.world (name.Scan t)))

@@ -11,7 +11,8 @@ use Rattle.kw_words.specs.Scan.{scan_word}
 use Rattle.kw_model.specs.declared.call.Call.{Call}
 use Rattle.kw_model.specs.declared.call.Call.TheVariants.{Del, Get, Put, Scan}
 use Rattle.kw_world.specs.declared.activity.Activity.{Activity}
-use Rattle.kw_world.specs.declared.activity.Activity.TheVariants.{Announce, InsFrom, InsKey, InsSet, InsVer, Insert, ListFrom, ListKey, ListVal, ListVer, Look, LookClock, LookHelp, LookKey, PutAdd, PutClear, PutClock, PutCount, PutKey, PutValue, PutVersion, RestKey, RestVal, Stamp}
+use Rattle.kw_world.specs.declared.activity.insert.Insert.TheVariants as Insert
+use Rattle.kw_world.specs.declared.activity.put.Put.TheVariants as Put
 use Rattle.kw_world.specs.declared.event.Choice.{Choice}
 use Rattle.kw_world.specs.declared.event.Event.{Event}
 use Rattle.kw_world.specs.declared.local.Local.{Local}
@@ -182,30 +183,12 @@ no_scan None p e = absurd p
 
 -- a scan that is at its row has its version
 row_drawn : (a : Activity) (l : Local) → IsKind a l → IsAtRow a → is_scan l.call ≡ true → HasDrawn a
-row_drawn (Look j) l k x e = tt
-row_drawn LookKey l k x e = tt
-row_drawn LookClock l k x e = tt
-row_drawn LookHelp l k x e = tt
-row_drawn ListFrom l k x e = tt
-row_drawn ListKey l k x e = tt
-row_drawn ListVer l k x e = tt
-row_drawn ListVal l k x e = tt
-row_drawn RestKey l k x e = tt
-row_drawn RestVal l k x e = tt
-row_drawn PutCount l k x e = no_scan l.call k e
-row_drawn PutAdd l k x e = no_scan l.call k e
-row_drawn PutKey l k x e = no_scan l.call k e
-row_drawn PutValue l k x e = no_scan l.call k e
-row_drawn Announce l k x e = no_scan l.call k e
-row_drawn PutClock l k x e = no_scan l.call k e
-row_drawn Stamp l k x e = no_scan l.call k e
-row_drawn PutVersion l k x e = no_scan l.call k e
-row_drawn InsFrom l k x e = no_scan l.call k e
-row_drawn InsKey l k x e = no_scan l.call k e
-row_drawn InsVer l k x e = no_scan l.call k e
-row_drawn InsSet l k x e = no_scan l.call k e
-row_drawn Insert l k x e = no_scan l.call k e
-row_drawn PutClear l k x e = no_scan l.call k e
+row_drawn (Activity.Look _) l k x e = tt
+row_drawn (Activity.Read _) l k x e = tt
+row_drawn (Activity.Put Put.Count) l k x e = no_scan l.call k e
+row_drawn (Activity.Put _) l k x e = no_scan l.call k e
+row_drawn (Activity.Insert Insert.Link) l k x e = no_scan l.call k e
+row_drawn (Activity.Insert _) l k x e = no_scan l.call k e
 row_drawn _ l k x e = absurd x
 
 -- the row of each seat that has arrived

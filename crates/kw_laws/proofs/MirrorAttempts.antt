@@ -7,7 +7,8 @@ use Rattle.kw_words.specs.declared.layout.Name.TheVariants as name
 use Rattle.kw_words.specs.declared.pend.Pend.TheVariants as pend
 use Rattle.kw_words.specs.Pend.{pend_word}
 use Rattle.kw_world.specs.declared.activity.Activity.{Activity}
-use Rattle.kw_world.specs.declared.activity.Activity.TheVariants.{LookClock, LookHelp, PutAdd, Announce, PutClock, Stamp, Leave}
+use Rattle.kw_world.specs.declared.activity.look.Look.TheVariants as Look
+use Rattle.kw_world.specs.declared.activity.put.Put.TheVariants as Put
 use Rattle.kw_world.specs.declared.local.Local.{Local}
 use Rattle.kw_world.specs.declared.event.Event.{Event}
 use Rattle.kw_world.specs.declared.opening.Opening.{Opening}
@@ -39,7 +40,7 @@ use Rattle.kw_laws.proofs.Mirroring.{Kept, acts_here}
 module _ (z : Sizes) (o : Opening) (es : List Event) (e : Event) (r r' : Run) (l l' : Local) (a : Activity) (h : Happens z r r' e.seat (offered r.world.rows e.choice) l l' a) (i : Inv z r) (k : Kept z o es r) where
   -- what is said of an attempt that is announced
   abbrev AnnouncedSo : Attempt → Type 0
-  AnnouncedSo q = q.is_announced ≡ true → Acts z o (es ++ e ∷ []) q.announced q.seat Announce (announcing q.row q.seat q.cell) (pend_word pend.Idle)
+  AnnouncedSo q = q.is_announced ≡ true → Acts z o (es ++ e ∷ []) q.announced q.seat (Activity.Put Put.Announce) (announcing q.row q.seat q.cell) (pend_word pend.Idle)
 
   -- and of one that is stamped
   abbrev StampedSo : Attempt → Type 0
@@ -55,16 +56,16 @@ module _ (z : Sizes) (o : Opening) (es : List Event) (e : Event) (r r' : Run) (l
   -- An attempt that was there.
 
   announced_so : (p : ℕ) → p < length r.history.attempts → AttemptOver (word z r.world) r.history r'.history e.seat l (r.seats e.seat) r.origin a p → AnnouncedSo (attempt r'.history p)
-  announced_so p w (stays f) = subst AnnouncedSo (sym f) (λ x. acts_lasts z o es e _ _ Announce _ _ ((k.mirrors.attempts p w).announced x))
+  announced_so p w (stays f) = subst AnnouncedSo (sym f) (λ x. acts_lasts z o es e _ _ (Activity.Put Put.Announce) _ _ ((k.mirrors.attempts p w).announced x))
   announced_so p w (is_announced is own idle f) =
       let q = own_here (subst IsPutting (sym is) tt) in
       let row : (attempt r.history p).row ≡ l.row = ap (λ x. (attempt r.history x).row) own ∙ q.row in
       let cell : (attempt r.history p).cell ≡ l.cell = ap (λ x. (attempt r.history x).cell) own ∙ q.cell in
       let seat : (attempt r.history p).seat ≡ e.seat = ap (λ x. (attempt r.history x).seat) own ∙ q.seat in
-      subst AnnouncedSo (sym f) (λ x. rw (row, cell, seat) (acts_here z o es e r r' l l' a h k Announce (announcing l.row e.seat l.cell) _ is refl idle))
-  announced_so p w (is_stamped is own pending f) = subst AnnouncedSo (sym f) (λ x. acts_lasts z o es e _ _ Announce _ _ ((k.mirrors.attempts p w).announced x))
-  announced_so p w (is_helped is origin pending f) = subst AnnouncedSo (sym f) (λ x. acts_lasts z o es e _ _ Announce _ _ ((k.mirrors.attempts p w).announced x))
-  announced_so p w (is_lost j c is entry origin pending f) = subst AnnouncedSo (sym f) (λ x. acts_lasts z o es e _ _ Announce _ _ ((k.mirrors.attempts p w).announced x))
+      subst AnnouncedSo (sym f) (λ x. rw (row, cell, seat) (acts_here z o es e r r' l l' a h k (Activity.Put Put.Announce) (announcing l.row e.seat l.cell) _ is refl idle))
+  announced_so p w (is_stamped is own pending f) = subst AnnouncedSo (sym f) (λ x. acts_lasts z o es e _ _ (Activity.Put Put.Announce) _ _ ((k.mirrors.attempts p w).announced x))
+  announced_so p w (is_helped is origin pending f) = subst AnnouncedSo (sym f) (λ x. acts_lasts z o es e _ _ (Activity.Put Put.Announce) _ _ ((k.mirrors.attempts p w).announced x))
+  announced_so p w (is_lost j c is entry origin pending f) = subst AnnouncedSo (sym f) (λ x. acts_lasts z o es e _ _ (Activity.Put Put.Announce) _ _ ((k.mirrors.attempts p w).announced x))
 
   -- what a stamp says, of an attempt with the same row, seat, cell and stamp
   restamped : (q p : Attempt) → StampedAt z o (es ++ e ∷ []) q → p.row ≡ q.row → p.seat ≡ q.seat → p.cell ≡ q.cell → p.version ≡ q.version → p.load ≡ q.load → p.at ≡ q.at → StampedAt z o (es ++ e ∷ []) p
@@ -82,12 +83,12 @@ module _ (z : Sizes) (o : Opening) (es : List Event) (e : Event) (r r' : Run) (l
       let seat : (attempt r.history p).seat ≡ e.seat = ap (λ x. (attempt r.history x).seat) own ∙ q.seat in
       subst StampedSo (sym f) (λ x. inl (by_own p row cell seat is pending))
     where
-      by_own : (p : ℕ) → (attempt r.history p).row ≡ l.row → (attempt r.history p).cell ≡ l.cell → (attempt r.history p).seat ≡ e.seat → a ≡ Stamp → word z r.world (name.Pend l.row e.seat) ≡ pend_word (pend.Pending l.cell) →
+      by_own : (p : ℕ) → (attempt r.history p).row ≡ l.row → (attempt r.history p).cell ≡ l.cell → (attempt r.history p).seat ≡ e.seat → a ≡ Activity.Put Put.Stamp → word z r.world (name.Pend l.row e.seat) ≡ pend_word (pend.Pending l.cell) →
           let p' : Attempt = record (attempt r.history p) { is_stamped = true; version = l.version; load = (r.seats e.seat).loaded; at = length r.history.log } in
-          StampedBy z o (es ++ e ∷ []) p' p'.seat Stamp PutClock kind.Stamp
+          StampedBy z o (es ++ e ∷ []) p' p'.seat (Activity.Put Put.Stamp) (Activity.Put Put.Clock) kind.Stamp
       by_own p row cell seat is pending = record {
-        stamps = rw (row, cell, seat) (acts_here z o es e r r' l l' a h k Stamp (stamping kind.Stamp l.row e.seat l.cell l.version) _ is refl pending);
-        loads = rw seat (acts_lasts z o es e _ _ PutClock _ _ (k.stamp e.seat l h.knows (subst IsStamp (sym (h.activity ∙ is)) tt)));
+        stamps = rw (row, cell, seat) (acts_here z o es e r r' l l' a h k (Activity.Put Put.Stamp) (stamping kind.Stamp l.row e.seat l.cell l.version) _ is refl pending);
+        loads = rw seat (acts_lasts z o es e _ _ (Activity.Put Put.Clock) _ _ (k.stamp e.seat l h.knows (subst IsStamp (sym (h.activity ∙ is)) tt)));
         last = rw seat (no_load_lasts z o es e e.seat (r.seats e.seat).loaded (length r.history.log) (omega (arith, k.mirrors.events)) (subst (NoLoad z o es e.seat (r.seats e.seat).loaded) (sym k.mirrors.events) (k.loads e.seat)));
       }
   stamped_so p w (is_helped is origin pending f) =
@@ -99,11 +100,11 @@ module _ (z : Sizes) (o : Opening) (es : List Event) (e : Event) (r r' : Run) (l
       let at = λ (P : ℕ → Type 0) (x : P (r.seats l.looked).own). subst P same x in
       subst StampedSo (sym f) (λ x. inr (e.seat, by_helper p (at (λ y. (attempt r.history y).row ≡ l.row) row) (at (λ y. (attempt r.history y).cell ≡ l.met) t.cell) (at (λ y. (attempt r.history y).seat ≡ l.looked) q.seat) is pending))
     where
-      by_helper : (p : ℕ) → (attempt r.history p).row ≡ l.row → (attempt r.history p).cell ≡ l.met → (attempt r.history p).seat ≡ l.looked → a ≡ LookHelp → word z r.world (name.Pend l.row l.looked) ≡ pend_word (pend.Pending l.met) →
-          StampedBy z o (es ++ e ∷ []) (record (attempt r.history p) { is_stamped = true; version = l.helping; load = (r.seats e.seat).loaded; at = length r.history.log }) e.seat LookHelp LookClock kind.HelpStamp
+      by_helper : (p : ℕ) → (attempt r.history p).row ≡ l.row → (attempt r.history p).cell ≡ l.met → (attempt r.history p).seat ≡ l.looked → a ≡ Activity.Look Look.Help → word z r.world (name.Pend l.row l.looked) ≡ pend_word (pend.Pending l.met) →
+          StampedBy z o (es ++ e ∷ []) (record (attempt r.history p) { is_stamped = true; version = l.helping; load = (r.seats e.seat).loaded; at = length r.history.log }) e.seat (Activity.Look Look.Help) (Activity.Look Look.Clock) kind.HelpStamp
       by_helper p row cell seat is pending = record {
-        stamps = rw (row, cell, seat) (acts_here z o es e r r' l l' a h k LookHelp (stamping kind.HelpStamp l.row l.looked l.met l.helping) _ is refl pending);
-        loads = acts_lasts z o es e _ _ LookClock _ _ (k.help e.seat l h.knows (subst IsHelp (sym (h.activity ∙ is)) tt));
+        stamps = rw (row, cell, seat) (acts_here z o es e r r' l l' a h k (Activity.Look Look.Help) (stamping kind.HelpStamp l.row l.looked l.met l.helping) _ is refl pending);
+        loads = acts_lasts z o es e _ _ (Activity.Look Look.Clock) _ _ (k.help e.seat l h.knows (subst IsHelp (sym (h.activity ∙ is)) tt));
         last = no_load_lasts z o es e e.seat (r.seats e.seat).loaded (length r.history.log) (omega (arith, k.mirrors.events)) (subst (NoLoad z o es e.seat (r.seats e.seat).loaded) (sym k.mirrors.events) (k.loads e.seat));
       }
 
@@ -129,7 +130,7 @@ module _ (z : Sizes) (o : Opening) (es : List Event) (e : Event) (r r' : Run) (l
   -- An attempt that is added.
 
   -- its call runs
-  runs_here : (b : IsBusy a) → a ≡ PutAdd → (d : End) → (called r'.history (r.seats e.seat).call).end ≡ Some d → ⊥
+  runs_here : (b : IsBusy a) → a ≡ Activity.Put Put.Add → (d : End) → (called r'.history (r.seats e.seat).call).end ≡ Some d → ⊥
   runs_here b is d g = which (call_over r.history r'.history _ z (word z r.world) e.seat (offered r.world.rows e.choice) l (r.seats e.seat) r.origin a _ (made z (word z r.world) e.seat (offered r.world.rows e.choice) l (r.seats e.seat) r.origin a) h.history (r.seats e.seat).call call.within)
     where
       call : Calling r.history e.seat l.activity l (r.seats e.seat)
@@ -137,13 +138,13 @@ module _ (z : Sizes) (o : Opening) (es : List Event) (e : Event) (r r' : Run) (l
 
       which : CallOver r.history r'.history l (r.seats e.seat) a (r.seats e.seat).call → ⊥
       which (goes_on t) = none_some (called r.history (r.seats e.seat).call).end d call.runs (sym t.end ∙ g)
-      which (is_ended answer f c t) = let x : PutAdd ≡ Leave answer = sym is ∙ f in cc
+      which (is_ended answer f c t) = let x : (Activity.Put Put.Add) ≡ (Activity.Leave answer) = sym is ∙ f in cc
 
   new_attempt : (p : ℕ) → IsNew z r r' e.seat l a p → MirrorsAttempt z o (es ++ e ∷ []) r'.history p
   new_attempt p n = record {
     takes = subst (λ (q : Attempt). TakesCell z o (es ++ e ∷ []) q.add q.seat q.row q.cell) (sym n.is) (record {
       found = word z r.world (name.Count l.row);
-      acts = acts_here z o es e r r' l l' a h k PutAdd (operation kind.AddCount (name.Count l.row) _) _ n.gives.takes refl refl;
+      acts = acts_here z o es e r r' l l' a h k (Activity.Put Put.Add) (operation kind.AddCount (name.Count l.row) _) _ n.gives.takes refl refl;
       room = n.gives.room;
       given = refl;
       below = room_below z _ n.gives.room;

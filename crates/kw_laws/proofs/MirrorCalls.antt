@@ -12,7 +12,20 @@ use Rattle.kw_model.specs.declared.call.Reply.{Reply}
 use Rattle.kw_world.specs.declared.answer.Answer.{Answer}
 use Rattle.kw_world.specs.Answers.{reply_of}
 use Rattle.kw_world.specs.declared.activity.Activity.{Activity}
-use Rattle.kw_world.specs.declared.activity.Activity.TheVariants.{Idle, ScanDraw, Start, Walk, PutAdd, Leave, HelpDraw, SeekFirst, Before}
+use Rattle.kw_world.specs.declared.activity.draw.Draw.TheVariants as Draw
+use Rattle.kw_world.specs.declared.activity.rebalance.freeze.Freeze.TheVariants as Freeze
+use Rattle.kw_world.specs.declared.activity.put.Put.TheVariants as Put
+use Rattle.kw_world.specs.declared.activity.rebalance.Rebalance.TheVariants as Rebalance
+use Rattle.kw_world.specs.declared.activity.rebalance.replace.Replace.TheVariants as Replace
+use Rattle.kw_world.specs.declared.activity.rebalance.seek.Seek.TheVariants as Seek
+use Rattle.kw_world.specs.declared.activity.walk.Walk.TheVariants as Walk
+use Rattle.kw_world.specs.declared.activity.rebalance.engage.Engage.TheVariants as Engage
+use Rattle.kw_world.specs.declared.activity.enter.Enter.TheVariants as Enter
+use Rattle.kw_world.specs.declared.activity.rebalance.gather.Gather.TheVariants as Gather
+use Rattle.kw_world.specs.declared.activity.insert.Insert.TheVariants as Insert
+use Rattle.kw_world.specs.declared.activity.look.Look.TheVariants as Look
+use Rattle.kw_world.specs.declared.activity.read.Read.TheVariants as Read
+use Rattle.kw_world.specs.declared.activity.rebalance.write.Write.TheVariants as Write
 use Rattle.kw_world.specs.declared.local.Local.{Local}
 use Rattle.kw_world.specs.declared.event.Choice.{Choice}
 use Rattle.kw_world.specs.declared.event.Choice.TheVariants.{Begin, Go, Guess, Stop}
@@ -61,34 +74,42 @@ use Rattle.kw_laws.proofs.MirrorSeats.{number_begun}
 
 -- a line whose kind is that of a draw, for its own scan or for another's, adds one to the clock
 draw_line : (z : Sizes) (a : Activity) (s : ℕ) (choice : Choice) (l : Local) → IsDraw (transition z a s choice l).operation.kind → (transition z a s choice l).operation ≡ operation (transition z a s choice l).operation.kind name.Clock (Add 1)
-draw_line z ScanDraw s choice l d = refl
-draw_line z Start s choice l d = absurd (starts choice d)
+draw_line z (Activity.Draw Draw.Version) s choice l d = refl
+draw_line z (Activity.Walk Walk.Start) s choice l d = absurd (starts choice d)
   where
     starts : (c : Choice) → IsDraw (start_transition c l).operation.kind → ⊥
     starts (Begin call) x = x
     starts Go x = x
     starts (Guess q) x = x
     starts Stop x = x
-draw_line z Walk s choice l d = absurd (walks (is_stopped choice l) d)
+draw_line z (Activity.Walk Walk.Next) s choice l d = absurd (walks (is_stopped choice l) d)
   where
     walks : (b : Bool) → IsDraw (walk_transition b s l).operation.kind → ⊥
     walks true x = x
     walks false x = x
-draw_line z (HelpDraw i) s choice l d = refl
-draw_line z SeekFirst s choice l d = absurd (seeks choice d)
+draw_line z (Activity.Rebalance (Rebalance.Freeze (Freeze.Draw i))) s choice l d = refl
+draw_line z (Activity.Rebalance (Rebalance.Seek Seek.First)) s choice l d = absurd (seeks choice d)
   where
     seeks : (c : Choice) → IsDraw (seek_first_transition c l).operation.kind → ⊥
     seeks (Begin call) x = x
     seeks Go x = x
     seeks (Guess q) x = x
     seeks Stop x = x
-draw_line z Before s choice l d = absurd (begins choice d)
+draw_line z (Activity.Rebalance (Rebalance.Replace Replace.Start)) s choice l d = absurd (begins choice d)
   where
     begins : (c : Choice) → IsDraw (before_transition c l).operation.kind → ⊥
     begins (Begin call) x = x
     begins Go x = x
     begins (Guess q) x = x
     begins Stop x = x
+draw_line z (Activity.Enter Enter.Announce) s choice l d = absurd d
+draw_line z (Activity.Look Look.Key) s choice l d = absurd d
+draw_line z (Activity.Read Read.Link) s choice l d = absurd d
+draw_line z (Activity.Put Put.Count) s choice l d = absurd d
+draw_line z (Activity.Insert Insert.Link) s choice l d = absurd d
+draw_line z (Activity.Rebalance (Rebalance.Engage Engage.Clock)) s choice l d = absurd d
+draw_line z (Activity.Rebalance (Rebalance.Gather Gather.Link)) s choice l d = absurd d
+draw_line z (Activity.Rebalance (Rebalance.Write Write.Count)) s choice l d = absurd d
 draw_line z a s choice l d = absurd d
 
 -- a version that the log says was drawn was drawn by the event there
@@ -120,7 +141,7 @@ drawn_there z o es h log d t = record {
     its_kind = ap (λ (p : Operation). p.kind) (sym line ∙ it.acts.operates) ∙ it.kind
 
 -- a seat that asks for a cell asks the row that it is at
-add_line : (z : Sizes) (w : WorldView) (s : ℕ) (choice : Choice) (l : Local) (q : ℕ) → l.activity ≡ PutAdd → (transition_at z w (event s choice) l).operation ≡ operation kind.AddCount (name.Count q) (Add 1) → l.row ≡ q
+add_line : (z : Sizes) (w : WorldView) (s : ℕ) (choice : Choice) (l : Local) (q : ℕ) → l.activity ≡ Activity.Put Put.Add → (transition_at z w (event s choice) l).operation ≡ operation kind.AddCount (name.Count q) (Add 1) → l.row ≡ q
 add_line z w s choice l q is op =
     let line : operation kind.AddCount (name.Count l.row) (Add 1) ≡ operation kind.AddCount (name.Count q) (Add 1) = sym (ap (λ (x : Transition). x.operation) (transition_of-transition z s (offered w.rows choice) l ∙ ap (λ b. transition z b s (offered w.rows choice) l) is)) ∙ op in
     let n : name.Count l.row ≡ name.Count q = ap (λ (p : Operation). p.name) line in
@@ -165,7 +186,7 @@ module _ (z : Sizes) (o : Opening) (es : List Event) (e : Event) (r r' : Run) (l
       }
 
   -- a call that ends
-  call_ends : (x : ℕ) → x < length r.history.calls → (answer : Answer) → a ≡ Leave answer → x ≡ (r.seats e.seat).call → (c : CallLog) → called r'.history x ≡ c → c.seat ≡ (called r.history x).seat → c.number ≡ (called r.history x).number → c.call ≡ (called r.history x).call → c.first ≡ (called r.history x).first → c.end ≡ Some (record { at = length r.history.log; reply = reply_of answer l.pairs }) →
+  call_ends : (x : ℕ) → x < length r.history.calls → (answer : Answer) → a ≡ Activity.Leave answer → x ≡ (r.seats e.seat).call → (c : CallLog) → called r'.history x ≡ c → c.seat ≡ (called r.history x).seat → c.number ≡ (called r.history x).number → c.call ≡ (called r.history x).call → c.first ≡ (called r.history x).first → c.end ≡ Some (record { at = length r.history.log; reply = reply_of answer l.pairs }) →
       (step z r.world e).done ≡ Ended (reply_of answer l.pairs) → MirrorsCall z o (es ++ e ∷ []) r'.history x
   call_ends x w answer is at c f s n q b d done =
       let m = k.mirrors.calls x w in
@@ -227,7 +248,7 @@ module _ (z : Sizes) (o : Opening) (es : List Event) (e : Event) (r r' : Run) (l
           which (inl y) = omega (arith, occurs_within z o es u y.before _ y.occurs, f, k.mirrors.events)
           which (inr y) =
               let u = leaves_here z o es e r r' l l' a h k reply (subst (λ (q : WorldView). (step z q e).done ≡ Ended reply) k.world y.2) in
-              let v : Idle ≡ Leave u.0 = sym n.idle ∙ u.1 in
+              let v : Activity.Idle ≡ (Activity.Leave u.0) = sym n.idle ∙ u.1 in
               cc
 
   pub calls_keep : (x : ℕ) → x < length r'.history.calls → MirrorsCall z o (es ++ e ∷ []) r'.history x
@@ -248,7 +269,7 @@ module _ (z : Sizes) (o : Opening) (es : List Event) (e : Event) (r r' : Run) (l
   all_calls_keep x s call t = which (occurs_was z o es e x t.before (event s (Begin call)) t.occurs)
     where
       -- the event begins it
-      now : a ≡ Idle → offered r.world.rows e.choice ≡ Begin call → x ≡ length r.history.log → IsCallOf r'.history x
+      now : a ≡ Activity.Idle → offered r.world.rows e.choice ≡ Begin call → x ≡ length r.history.log → IsCallOf r'.history x
       now is chosen at =
           let f = subst (λ b. r'.history ≡ noted r.history (logged e.seat (transition z a e.seat (offered r.world.rows e.choice) l).operation.kind (word z r.world name.Clock)) (change_of z b e.seat (offered r.world.rows e.choice) l (found_at z (word z r.world) a e.seat (offered r.world.rows e.choice) l) (r.seats e.seat) r.origin)) is h.history in
           let g = subst (λ c. r'.history ≡ noted r.history (logged e.seat (transition z a e.seat (offered r.world.rows e.choice) l).operation.kind (word z r.world name.Clock)) (beginning c e.seat l)) chosen f in
@@ -273,7 +294,7 @@ module _ (z : Sizes) (o : Opening) (es : List Event) (e : Event) (r r' : Run) (l
   all_attempts_keep x s q cell t = which (occurs_was z o es e x t.acts.before (event s t.acts.choice) t.acts.occurs)
     where
       -- the event gives it
-      now : a ≡ PutAdd → has_room z (count_of (word z r.world (name.Count l.row))) ≡ true → x ≡ length r.history.log → IsAttemptOf r'.history x
+      now : a ≡ Activity.Put Put.Add → has_room z (count_of (word z r.world (name.Count l.row))) ≡ true → x ≡ length r.history.log → IsAttemptOf r'.history x
       now is room at =
           let g = subst (Happens z r r' e.seat (offered r.world.rows e.choice) l l') is h in
           record {

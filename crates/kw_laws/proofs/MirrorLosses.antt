@@ -1,7 +1,7 @@
 -- The record says of lost attempts what the events say: an attempt is lost where a seat that
 -- rebalances freezes its entry, and until then the entry was pending since the attempt was
 -- announced.
-use Rattle.std.proofs.Common.{ℕ, ◌≡◌, ◌⊎◌, inl, inr, ◌+◌, ◌<◌, ◌≤◌, Bool, true, false, Some, None, List, [], ◌∷◌, ◌++◌, arith, refl, sym, ◌∙◌, ap, subst, length, slice_get, length-append}
+use Rattle.std.proofs.Common.{ℕ, ◌≡◌, ◌⊎◌, inl, inr, ◌+◌, ◌<◌, ◌≤◌, Bool, true, false, Some, None, List, [], ◌∷◌, ◌++◌, arith, refl, sym, ◌∙◌, ap, subst, length, length-append}
 use Rattle.std.specs.Prelude.{take}
 use Rattle.std.proofs.lemmas.Bool.{cases_lt}
 use Rattle.std.proofs.lemmas.List.{take-append-le, take_all}
@@ -11,7 +11,20 @@ use Rattle.kw_words.specs.declared.pend.Pend.{Pend}
 use Rattle.kw_words.specs.declared.pend.Pend.TheVariants as pend
 use Rattle.kw_words.specs.Pend.{pend_word}
 use Rattle.kw_world.specs.declared.activity.Activity.{Activity}
-use Rattle.kw_world.specs.declared.activity.Activity.TheVariants.{Announce, Before, Freeze, SeekFirst, Start, Walk}
+use Rattle.kw_world.specs.declared.activity.rebalance.freeze.Freeze.TheVariants as Freeze
+use Rattle.kw_world.specs.declared.activity.rebalance.Rebalance.TheVariants as Rebalance
+use Rattle.kw_world.specs.declared.activity.rebalance.replace.Replace.TheVariants as Replace
+use Rattle.kw_world.specs.declared.activity.rebalance.seek.Seek.TheVariants as Seek
+use Rattle.kw_world.specs.declared.activity.walk.Walk.TheVariants as Walk
+use Rattle.kw_world.specs.declared.activity.draw.Draw.TheVariants as Draw
+use Rattle.kw_world.specs.declared.activity.rebalance.engage.Engage.TheVariants as Engage
+use Rattle.kw_world.specs.declared.activity.enter.Enter.TheVariants as Enter
+use Rattle.kw_world.specs.declared.activity.rebalance.gather.Gather.TheVariants as Gather
+use Rattle.kw_world.specs.declared.activity.insert.Insert.TheVariants as Insert
+use Rattle.kw_world.specs.declared.activity.look.Look.TheVariants as Look
+use Rattle.kw_world.specs.declared.activity.put.Put.TheVariants as Put
+use Rattle.kw_world.specs.declared.activity.read.Read.TheVariants as Read
+use Rattle.kw_world.specs.declared.activity.rebalance.write.Write.TheVariants as Write
 use Rattle.kw_world.specs.declared.event.Choice.{Choice}
 use Rattle.kw_world.specs.declared.event.Choice.TheVariants.{Begin, Go, Guess, Stop}
 use Rattle.kw_world.specs.declared.event.Event.{Event}
@@ -35,7 +48,6 @@ use Rattle.kw_core.specs.Run.{Run, change_of, goes_on, history, logged, losing, 
 use Rattle.kw_core.specs.Run as led
 use Rattle.kw_core.specs.declared.history.Attempt.{Attempt}
 use Rattle.kw_core.specs.declared.history.Change.TheVariants.{Loses, Nothing}
-use Rattle.kw_core.specs.declared.history.Logged.{Logged}
 use Rattle.kw_core.specs.Stages.{IsFresh, IsPutting}
 use Rattle.kw_core.proofs.Changes.{made}
 use Rattle.kw_core.proofs.Events.{may_come, world-nil, world-snoc}
@@ -62,34 +74,43 @@ use Rattle.kw_laws.proofs.Over.{AttemptOver, attempt_over, is_announced, is_help
 -- Which line freezes an entry.
 
 -- only that of a seat which freezes one is of this kind
-freeze_line : (z : Sizes) (s : ℕ) (choice : Choice) (l : Local) (a : Activity) → (transition z a s choice l).operation.kind ≡ kind.FreezePend → (i : ℕ) × (a ≡ Freeze i)
-freeze_line z s choice l (Freeze i) e = (i, refl)
-freeze_line z s choice l Start e = absurd (starts choice e)
+freeze_line : (z : Sizes) (s : ℕ) (choice : Choice) (l : Local) (a : Activity) → (transition z a s choice l).operation.kind ≡ kind.FreezePend → (i : ℕ) × (a ≡ Activity.Rebalance (Rebalance.Freeze (Freeze.Entry i)))
+freeze_line z s choice l (Activity.Rebalance (Rebalance.Freeze (Freeze.Entry i))) e = (i, refl)
+freeze_line z s choice l (Activity.Walk Walk.Start) e = absurd (starts choice e)
   where
     starts : (d : Choice) → (start_transition d l).operation.kind ≡ kind.FreezePend → ⊥
     starts (Begin call) y = cc
     starts Go y = cc
     starts (Guess d) y = cc
     starts Stop y = cc
-freeze_line z s choice l Walk e = absurd (walks (is_stopped choice l) e)
+freeze_line z s choice l (Activity.Walk Walk.Next) e = absurd (walks (is_stopped choice l) e)
   where
     walks : (b : Bool) → (walk_transition b s l).operation.kind ≡ kind.FreezePend → ⊥
     walks true y = cc
     walks false y = cc
-freeze_line z s choice l SeekFirst e = absurd (seeks choice e)
+freeze_line z s choice l (Activity.Rebalance (Rebalance.Seek Seek.First)) e = absurd (seeks choice e)
   where
     seeks : (d : Choice) → (seek_first_transition d l).operation.kind ≡ kind.FreezePend → ⊥
     seeks (Begin call) y = cc
     seeks Go y = cc
     seeks (Guess d) y = cc
     seeks Stop y = cc
-freeze_line z s choice l Before e = absurd (befores choice e)
+freeze_line z s choice l (Activity.Rebalance (Rebalance.Replace Replace.Start)) e = absurd (befores choice e)
   where
     befores : (d : Choice) → (before_transition d l).operation.kind ≡ kind.FreezePend → ⊥
     befores (Begin call) y = cc
     befores Go y = cc
     befores (Guess d) y = cc
     befores Stop y = cc
+freeze_line z s choice l (Activity.Enter Enter.Announce) e = absurd (cc)
+freeze_line z s choice l (Activity.Draw Draw.Clock) e = absurd (cc)
+freeze_line z s choice l (Activity.Look Look.Key) e = absurd (cc)
+freeze_line z s choice l (Activity.Read Read.Link) e = absurd (cc)
+freeze_line z s choice l (Activity.Put Put.Count) e = absurd (cc)
+freeze_line z s choice l (Activity.Insert Insert.Link) e = absurd (cc)
+freeze_line z s choice l (Activity.Rebalance (Rebalance.Engage Engage.Clock)) e = absurd (cc)
+freeze_line z s choice l (Activity.Rebalance (Rebalance.Gather Gather.Link)) e = absurd (cc)
+freeze_line z s choice l (Activity.Rebalance (Rebalance.Write Write.Count)) e = absurd (cc)
 freeze_line z s choice l a e = absurd (cc)
 
 -- the names of one entry
@@ -188,7 +209,7 @@ module _ (z : Sizes) (o : Opening) (es : List Event) (e : Event) (r r' : Run) (l
 
   -- An attempt that is lost now.
 
-  module _ (j c : ℕ) (is : a ≡ Freeze j) (entry : l.rebalance.entry ≡ pend.Pending c) (pending : word z r.world (name.Pend l.row j) ≡ pend_word (pend.Pending c)) where
+  module _ (j c : ℕ) (is : a ≡ Activity.Rebalance (Rebalance.Freeze (Freeze.Entry j))) (entry : l.rebalance.entry ≡ pend.Pending c) (pending : word z r.world (name.Pend l.row j) ≡ pend_word (pend.Pending c)) where
     row : l.row < r.world.rows
     row = (k.inv.shape.sane.locals e.seat l h.knows).below.row
 
@@ -211,7 +232,7 @@ module _ (z : Sizes) (o : Opening) (es : List Event) (e : Event) (r r' : Run) (l
     own_lost : IsLostAt z o (es ++ e ∷ []) (attempt r.history (r.seats j).own) (length es)
     own_lost =
         let at_row : (attempt r.history (r.seats j).own).row ≡ l.row = own.row ∙ owner.row in
-        let acts : Acts z o (es ++ e ∷ []) (length es) e.seat (Freeze j) (freezing l.row j c) (pend_word (pend.Pending c)) = subst (λ w. Acts z o (es ++ e ∷ []) (length es) e.seat (Freeze j) (freezing l.row j c) w) pending (acts_now z o es e r r' l l' a h k.world (Freeze j) (freezing l.row j c) is (ap (λ y. operation kind.FreezePend (name.Pend l.row j) (Exchange (pend_word y) (pend_word pend.Frozen))) entry)) in
+        let acts : Acts z o (es ++ e ∷ []) (length es) e.seat (Activity.Rebalance (Rebalance.Freeze (Freeze.Entry j))) (freezing l.row j c) (pend_word (pend.Pending c)) = subst (λ w. Acts z o (es ++ e ∷ []) (length es) e.seat (Activity.Rebalance (Rebalance.Freeze (Freeze.Entry j))) (freezing l.row j c) w) pending (acts_now z o es e r r' l l' a h k.world (Activity.Rebalance (Rebalance.Freeze (Freeze.Entry j))) (freezing l.row j c) is (ap (λ y. operation kind.FreezePend (name.Pend l.row j) (Exchange (pend_word y) (pend_word pend.Frozen))) entry)) in
         let announced = own.announced owner.published in
         record {
           seat = e.seat;
@@ -225,7 +246,7 @@ module _ (z : Sizes) (o : Opening) (es : List Event) (e : Event) (r r' : Run) (l
     own_noted : attempt r'.history (r.seats j).own ≡ record (attempt r.history (r.seats j).own) { is_lost = true }
     own_noted =
         let it = logged e.seat (transition z a e.seat (offered r.world.rows e.choice) l).operation.kind (word z r.world name.Clock) in
-        let at_freeze : r'.history ≡ noted r.history it (change_of z (Freeze j) e.seat (offered r.world.rows e.choice) l (found_at z (word z r.world) (Freeze j) e.seat (offered r.world.rows e.choice) l) (r.seats e.seat) r.origin) = h.history ∙ ap (λ b. noted r.history it (change_of z b e.seat (offered r.world.rows e.choice) l (found_at z (word z r.world) b e.seat (offered r.world.rows e.choice) l) (r.seats e.seat) r.origin)) is in
+        let at_freeze : r'.history ≡ noted r.history it (change_of z (Activity.Rebalance (Rebalance.Freeze (Freeze.Entry j))) e.seat (offered r.world.rows e.choice) l (found_at z (word z r.world) (Activity.Rebalance (Rebalance.Freeze (Freeze.Entry j))) e.seat (offered r.world.rows e.choice) l) (r.seats e.seat) r.origin) = h.history ∙ ap (λ b. noted r.history it (change_of z b e.seat (offered r.world.rows e.choice) l (found_at z (word z r.world) b e.seat (offered r.world.rows e.choice) l) (r.seats e.seat) r.origin)) is in
         let met : word z r.world (name.Pend l.row j) ≡ pend_word l.rebalance.entry = pending ∙ ap pend_word (sym entry) in
         let loses : led.freezing l.rebalance.entry l.row r.origin ≡ Loses (r.seats j).own = ap (λ y. led.freezing y l.row r.origin) entry ∙ ap losing own_cell in
         let f : r'.history ≡ noted r.history it (Loses (r.seats j).own) = at_freeze ∙ ap (noted r.history it) (chosen (word z r.world (name.Pend l.row j)) (pend_word l.rebalance.entry) (led.freezing l.rebalance.entry l.row r.origin) Nothing met ∙ loses) in
@@ -255,7 +276,7 @@ module _ (z : Sizes) (o : Opening) (es : List Event) (e : Event) (r r' : Run) (l
       which (inr y) = true_false x (ap (λ (q : Attempt). q.is_lost) y.is)
 
   -- an exchange that freezes a pending entry
-  freezes_here : (j q t c : ℕ) → a ≡ Freeze j → operation kind.FreezePend (name.Pend l.row j) (Exchange (pend_word l.rebalance.entry) (pend_word pend.Frozen)) ≡ freezing q t c → word z r.world (name.Pend q t) ≡ pend_word (pend.Pending c) → IsLossOf z o (es ++ e ∷ []) r'.history (length es)
+  freezes_here : (j q t c : ℕ) → a ≡ Activity.Rebalance (Rebalance.Freeze (Freeze.Entry j)) → operation kind.FreezePend (name.Pend l.row j) (Exchange (pend_word l.rebalance.entry) (pend_word pend.Frozen)) ≡ freezing q t c → word z r.world (name.Pend q t) ≡ pend_word (pend.Pending c) → IsLossOf z o (es ++ e ∷ []) r'.history (length es)
   freezes_here j q t c is line found =
       let entry : l.rebalance.entry ≡ pend.Pending c = pending_is l.rebalance.entry c (same_exchange _ _ _ _ (ap (λ (y : Operation). y.action) line)) in
       let pending : word z r.world (name.Pend l.row j) ≡ pend_word (pend.Pending c) = ap (λ (y : Operation). word z r.world y.name) line ∙ found in

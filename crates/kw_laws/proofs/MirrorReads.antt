@@ -16,7 +16,20 @@ use Rattle.kw_world.specs.declared.answer.Answer.{Answer}
 use Rattle.kw_model.specs.declared.call.Reply.TheVariants as reply
 use Rattle.kw_world.specs.declared.answer.Answer.TheVariants.{Done, Value, Absent, Pairs, NoRows, Spent, Stopped}
 use Rattle.kw_world.specs.declared.activity.Activity.{Activity}
-use Rattle.kw_world.specs.declared.activity.Activity.TheVariants.{Idle, ScanSettle, Look, ListFrom, ListKey, ListVal, RestKey, RestVal, PutAdd, Leave}
+use Rattle.kw_world.specs.declared.activity.draw.Draw.TheVariants as Draw
+use Rattle.kw_world.specs.declared.activity.look.Look.TheVariants as Look
+use Rattle.kw_world.specs.declared.activity.put.Put.TheVariants as Put
+use Rattle.kw_world.specs.declared.activity.read.Read.TheVariants as Read
+use Rattle.kw_world.specs.declared.activity.rebalance.engage.Engage.TheVariants as Engage
+use Rattle.kw_world.specs.declared.activity.enter.Enter.TheVariants as Enter
+use Rattle.kw_world.specs.declared.activity.rebalance.freeze.Freeze.TheVariants as Freeze
+use Rattle.kw_world.specs.declared.activity.rebalance.gather.Gather.TheVariants as Gather
+use Rattle.kw_world.specs.declared.activity.insert.Insert.TheVariants as Insert
+use Rattle.kw_world.specs.declared.activity.rebalance.Rebalance.TheVariants as Rebalance
+use Rattle.kw_world.specs.declared.activity.rebalance.replace.Replace.TheVariants as Replace
+use Rattle.kw_world.specs.declared.activity.rebalance.seek.Seek.TheVariants as Seek
+use Rattle.kw_world.specs.declared.activity.walk.Walk.TheVariants as Walk
+use Rattle.kw_world.specs.declared.activity.rebalance.write.Write.TheVariants as Write
 use Rattle.kw_world.specs.declared.event.Choice.{Choice}
 use Rattle.kw_world.specs.declared.event.Choice.TheVariants.{Begin, Go, Guess, Stop}
 use Rattle.kw_world.specs.declared.event.Event.{Event}
@@ -143,31 +156,40 @@ module _ (z : Sizes) (choice : Choice) (l : Local) (found : ℕ) (next : Activit
   Ids a = ((after a).ids ≡ []) ⊎ (IsBusy a × ((after a).ids ≡ g.ids)) ⊎ IsLoadingValue a × ((after a).ids ≡ insert g.ids (place_gathered l found) (unwrap_or (o l.row l.place) 0))
 
   ids_after : (a : Activity) → is_skipped a choice ≡ false → Ids a
-  ids_after Idle m = begun choice m
+  ids_after Activity.Idle m = begun choice m
     where
-      begun : (c : Choice) → is_skipped Idle c ≡ false → ((seat_after z Idle c l found next g o h settled).ids ≡ []) ⊎ (⊥ × ((seat_after z Idle c l found next g o h settled).ids ≡ g.ids)) ⊎ ⊥ × ((seat_after z Idle c l found next g o h settled).ids ≡ insert g.ids (place_gathered l found) (unwrap_or (o l.row l.place) 0))
+      begun : (c : Choice) → is_skipped Activity.Idle c ≡ false → ((seat_after z Activity.Idle c l found next g o h settled).ids ≡ []) ⊎ (⊥ × ((seat_after z Activity.Idle c l found next g o h settled).ids ≡ g.ids)) ⊎ ⊥ × ((seat_after z Activity.Idle c l found next g o h settled).ids ≡ insert g.ids (place_gathered l found) (unwrap_or (o l.row l.place) 0))
       begun (Begin call) n = inl refl
       begun Go n = let x : true ≡ false = n in absurd (cc)
       begun (Guess q) n = let x : true ≡ false = n in absurd (cc)
       begun Stop n = let x : true ≡ false = n in absurd (cc)
-  ids_after (Look i) m = looked (i == 0)
+  ids_after (Activity.Look (Look.Entry i)) m = looked (i == 0)
     where
       looked : (b : Bool) → ((let k : SeatLog = if b then record g { looked = length h.log; ids = []; read = None } else g in k).ids ≡ []) ⊎ (Unit {0} × ((let k : SeatLog = if b then record g { looked = length h.log; ids = []; read = None } else g in k).ids ≡ g.ids)) ⊎ ⊥ × ((let k : SeatLog = if b then record g { looked = length h.log; ids = []; read = None } else g in k).ids ≡ insert g.ids (place_gathered l found) (unwrap_or (o l.row l.place) 0))
       looked true = inl refl
       looked false = inr (inl (tt, refl))
-  ids_after ListFrom m = inr (inl (tt, left g.ids (is_at_cell next) g (record g { read = Some l.row }) refl refl))
-  ids_after ListKey m = inr (inl (tt, left g.ids (is_at_cell next) g (record g { read = Some l.row }) refl refl))
-  ids_after ListVal m = inr (inr (tt, refl))
-  ids_after RestKey m = inr (inl (tt, left g.ids (is_at_cell next) g (record g { read = Some l.row }) refl refl))
-  ids_after RestVal m = let k = log_gathered (o l.row l.place) (place_gathered l found) g in inr (inr (tt, left k.ids (is_at_cell next) k (record k { read = Some l.row }) refl refl))
-  ids_after ScanSettle m = inr (inl (tt, settled_same (λ (q : SeatLog). q.ids) l.waiting found settled g refl))
-  ids_after PutAdd m = inr (inl (tt, left g.ids (has_room z (count_of found)) (record g { own = length h.attempts }) g refl refl))
+  ids_after (Activity.Read Read.Link) m = inr (inl (tt, left g.ids (is_at_cell next) g (record g { read = Some l.row }) refl refl))
+  ids_after (Activity.Read Read.Key) m = inr (inl (tt, left g.ids (is_at_cell next) g (record g { read = Some l.row }) refl refl))
+  ids_after (Activity.Read Read.Value) m = inr (inr (tt, refl))
+  ids_after (Activity.Read Read.LeftOverKey) m = inr (inl (tt, left g.ids (is_at_cell next) g (record g { read = Some l.row }) refl refl))
+  ids_after (Activity.Read Read.LeftOverValue) m = let k = log_gathered (o l.row l.place) (place_gathered l found) g in inr (inr (tt, left k.ids (is_at_cell next) k (record k { read = Some l.row }) refl refl))
+  ids_after (Activity.Draw Draw.Settle) m = inr (inl (tt, settled_same (λ (q : SeatLog). q.ids) l.waiting found settled g refl))
+  ids_after (Activity.Put Put.Add) m = inr (inl (tt, left g.ids (has_room z (count_of found)) (record g { own = length h.attempts }) g refl refl))
+  ids_after (Activity.Enter Enter.Announce) m = inr (inl (tt, refl))
+  ids_after (Activity.Walk Walk.First) m = inr (inl (tt, refl))
+  ids_after (Activity.Insert Insert.Link) m = inr (inl (tt, refl))
+  ids_after (Activity.Rebalance (Rebalance.Engage Engage.Clock)) m = inr (inl (tt, refl))
+  ids_after (Activity.Rebalance (Rebalance.Freeze Freeze.Count)) m = inr (inl (tt, refl))
+  ids_after (Activity.Rebalance (Rebalance.Gather Gather.Link)) m = inr (inl (tt, refl))
+  ids_after (Activity.Rebalance (Rebalance.Seek Seek.Next)) m = inr (inl (tt, refl))
+  ids_after (Activity.Rebalance (Rebalance.Write Write.Count)) m = inr (inl (tt, refl))
+  ids_after (Activity.Rebalance (Rebalance.Replace Replace.First)) m = inr (inl (tt, refl))
   ids_after _ m = inr (inl (tt, refl))
 
 -- a seat that builds rows is in its call
 building_underway : (a : Activity) → IsBuilding a → IsUnderway a
-building_underway Idle y = absurd y
-building_underway (Leave answer) y = absurd y
+building_underway Activity.Idle y = absurd y
+building_underway (Activity.Leave answer) y = absurd y
 building_underway _ y = tt
 
 -- a seat that makes a call before and after its event is in it
@@ -187,19 +209,19 @@ pairs_of_scan None h = absurd h
 
 -- a reader that loads a value is in its call
 loading_calls : (a : Activity) → IsLoadingValue a → IsBusy a × IsUnderway a
-loading_calls ListVal x = (tt, tt)
-loading_calls RestVal x = (tt, tt)
+loading_calls (Activity.Read Read.Value) x = (tt, tt)
+loading_calls (Activity.Read Read.LeftOverValue) x = (tt, tt)
 loading_calls _ x = absurd x
 
 -- and has a cell in hand
 loading_takes : (a : Activity) → IsLoadingValue a → IsTaking a
-loading_takes ListVal x = tt
-loading_takes RestVal x = tt
+loading_takes (Activity.Read Read.Value) x = tt
+loading_takes (Activity.Read Read.LeftOverValue) x = tt
 loading_takes _ x = absurd x
 
 loading_place : (a : Activity) → IsLoadingValue a → HasPlace a
-loading_place ListVal x = tt
-loading_place RestVal x = tt
+loading_place (Activity.Read Read.Value) x = tt
+loading_place (Activity.Read Read.LeftOverValue) x = tt
 loading_place _ x = absurd x
 
 -- One more event.
@@ -244,8 +266,8 @@ module _ (z : Sizes) (o : Opening) (es : List Event) (e : Event) (r r' : Run) (l
       hand = (cells_before h i (loading_takes a is)).hand (loading_place a is)
 
       acts_loading : (b : Activity) → IsLoadingValue b → Happens z r r' e.seat (offered r.world.rows e.choice) l l' b → Acts z o (es ++ e ∷ []) (length r.history.log) e.seat b (operation kind.LoadValue (name.Value l.row l.place) Load) (word z r.world (name.Value l.row l.place))
-      acts_loading ListVal x g = acts_here z o es e r r' l l' ListVal g k ListVal (operation kind.LoadValue (name.Value l.row l.place) Load) (word z r.world (name.Value l.row l.place)) refl refl refl
-      acts_loading RestVal x g = acts_here z o es e r r' l l' RestVal g k RestVal (operation kind.LoadValue (name.Value l.row l.place) Load) (word z r.world (name.Value l.row l.place)) refl refl refl
+      acts_loading (Activity.Read Read.Value) x g = acts_here z o es e r r' l l' (Activity.Read Read.Value) g k (Activity.Read Read.Value) (operation kind.LoadValue (name.Value l.row l.place) Load) (word z r.world (name.Value l.row l.place)) refl refl refl
+      acts_loading (Activity.Read Read.LeftOverValue) x g = acts_here z o es e r r' l l' (Activity.Read Read.LeftOverValue) g k (Activity.Read Read.LeftOverValue) (operation kind.LoadValue (name.Value l.row l.place) Load) (word z r.world (name.Value l.row l.place)) refl refl refl
       acts_loading _ x g = absurd x
 
       -- the list up to the event
@@ -288,11 +310,11 @@ module _ (z : Sizes) (o : Opening) (es : List Event) (e : Event) (r r' : Run) (l
   was x w = call_was r.history r'.history _ z (word z r.world) e.seat (offered r.world.rows e.choice) l (r.seats e.seat) r.origin a _ (made z (word z r.world) e.seat (offered r.world.rows e.choice) l (r.seats e.seat) r.origin a) h.history x w
 
   -- the seat of a call that ends
-  ending_seat : (x : ℕ) (answer : Answer) → a ≡ Leave answer → x ≡ (r.seats e.seat).call → (called r.history x).seat ≡ e.seat
+  ending_seat : (x : ℕ) (answer : Answer) → a ≡ Activity.Leave answer → x ≡ (r.seats e.seat).call → (called r.history x).seat ≡ e.seat
   ending_seat x answer is at = ap (λ y. (called r.history y).seat) at ∙ (i.positions.calling e.seat l h.knows (subst IsBusy (sym (h.activity ∙ is)) tt)).seat
 
   -- where a scan that ends drew and settled
-  drew_at_end : (answer : Answer) (d : drawn.Drawn) → a ≡ Leave answer → drawing answer l (r.seats e.seat) ≡ Some d → HasSettled z o (es ++ e ∷ []) e.seat d.at d.version
+  drew_at_end : (answer : Answer) (d : drawn.Drawn) → a ≡ Activity.Leave answer → drawing answer l (r.seats e.seat) ≡ Some d → HasSettled z o (es ++ e ∷ []) e.seat d.at d.version
   drew_at_end Pairs d is g =
       let kind : IsAnswerOf l.call Pairs = subst (λ q. IsKind q l) (h.activity ∙ is) (i.shape.kinds e.seat l h.knows).kind in
       subst (λ (q : drawn.Drawn). HasSettled z o (es ++ e ∷ []) e.seat q.at q.version) (same_Some _ d g)

@@ -10,7 +10,9 @@ use Rattle.kw_words.specs.declared.scan.ScanWord.TheVariants.{Waiting, Drawn}
 use Rattle.kw_words.specs.Scan.{scan_of, scan_word}
 use Rattle.kw_words.proofs.ScanWords.{scan_of-Waiting, scan_of-scan_word}
 use Rattle.kw_world.specs.declared.activity.Activity.{Activity}
-use Rattle.kw_world.specs.declared.activity.Activity.TheVariants.{ScanDraw, ScanSettle, ScanWait, HelpDraw, HelpSettle}
+use Rattle.kw_world.specs.declared.activity.draw.Draw.TheVariants as Draw
+use Rattle.kw_world.specs.declared.activity.rebalance.freeze.Freeze.TheVariants as Freeze
+use Rattle.kw_world.specs.declared.activity.rebalance.Rebalance.TheVariants as Rebalance
 use Rattle.kw_world.specs.declared.event.Choice.{Choice}
 use Rattle.kw_world.specs.declared.event.Event.{Event}
 use Rattle.kw_world.specs.declared.local.Local.{Local}
@@ -59,8 +61,8 @@ WaitsOrHelped z o es v t clock at = (v (name.Scan t) ≡ scan_word (Waiting cloc
 
 -- the draws and the settles of the scans
 pub record KeptScans (z : Sizes) (o : Opening) (es : List Event) (r : Run) : Type 0 where
-  pub drawing : (t : ℕ) (l : Local) → slice_get r.world.locals t ≡ Some l → IsSettling l.activity → Acts z o es (r.seats t).drawn t ScanDraw (operation kind.Draw name.Clock (Add 1)) l.drawn
-  pub helping : (t : ℕ) (l : Local) → slice_get r.world.locals t ≡ Some l → (j : ℕ) → l.activity ≡ HelpSettle j → Acts z o es (r.seats t).drawn t (HelpDraw j) (operation kind.HelpDraw name.Clock (Add 1)) l.rebalance.drawn
+  pub drawing : (t : ℕ) (l : Local) → slice_get r.world.locals t ≡ Some l → IsSettling l.activity → Acts z o es (r.seats t).drawn t (Activity.Draw Draw.Version) (operation kind.Draw name.Clock (Add 1)) l.drawn
+  pub helping : (t : ℕ) (l : Local) → slice_get r.world.locals t ≡ Some l → (j : ℕ) → l.activity ≡ Activity.Rebalance (Rebalance.Freeze (Freeze.Settle j)) → Acts z o es (r.seats t).drawn t (Activity.Rebalance (Rebalance.Freeze (Freeze.Draw j))) (operation kind.HelpDraw name.Clock (Add 1)) l.rebalance.drawn
   pub waits : (t : ℕ) (l : Local) → slice_get r.world.locals t ≡ Some l → IsWaiting l.activity → WaitsOrHelped z o es (word z r.world) t l.waiting (r.settled t)
   pub settled : (t : ℕ) (l : Local) → slice_get r.world.locals t ≡ Some l → is_scan l.call ≡ true → HasDrawn l.activity → HasSettled z o es t (r.seats t).drawn l.version
 
@@ -112,7 +114,7 @@ waits_lasts z o es e v v' t clock at at' f g (inr x) =
 
 -- a seat that is to settle another one's scan has just drawn for it
 abbrev DrewFor : Words → Activity → Local → Activity → Type 0
-DrewFor v a k (HelpSettle j) = (a ≡ HelpDraw j) × (k.rebalance.drawn ≡ v name.Clock)
+DrewFor v a k (Activity.Rebalance (Rebalance.Freeze (Freeze.Settle j))) = (a ≡ Activity.Rebalance (Rebalance.Freeze (Freeze.Draw j))) × (k.rebalance.drawn ≡ v name.Clock)
 DrewFor v a k _ = Unit {0}
 
 look_helps_none : (v : Words) (a : Activity) (k : Local) (z : Sizes) (j : ℕ) (next : Activity) → NextLook z j next → DrewFor v a k next
@@ -127,7 +129,7 @@ rest_helps_none v a l k (scans_on q w e f g) = tt
 
 -- what follows the building of rows settles no scan
 after_helps_none : (v : Words) (a : Activity) (k : Local) (b : Activity) → IsAfterBuilding b → DrewFor v a k b
-after_helps_none v a k (HelpSettle j) x = absurd x
+after_helps_none v a k (Activity.Rebalance (Rebalance.Freeze (Freeze.Settle j))) x = absurd x
 after_helps_none v a k _ x = tt
 
 helper_drew : (z : Sizes) (v : Words) (s : ℕ) (choice : Choice) (l : Local) (a : Activity) (k : Local) → Arrow z v s choice l a k → DrewFor v a k k.activity
@@ -146,13 +148,13 @@ helper_drew z v s choice l a k (gathers_rest next n) = rest_helps_none v a _ _ n
 helper_drew z v s choice l a k _ = tt
 
 -- the activity of a scan that settles
-settling_is : (a : Activity) → IsSettling a → a ≡ ScanSettle
-settling_is ScanSettle x = refl
+settling_is : (a : Activity) → IsSettling a → a ≡ Activity.Draw Draw.Settle
+settling_is (Activity.Draw Draw.Settle) x = refl
 settling_is _ x = absurd x
 
 -- it builds no rows
 settling_builds : {A : Type 0} (a : Activity) → IsBuilding a → IsSettling a → A
-settling_builds ScanSettle y x = absurd y
+settling_builds (Activity.Draw Draw.Settle) y x = absurd y
 settling_builds _ y x = absurd x
 
 -- it takes the version that its word has, or its own
@@ -170,16 +172,16 @@ module _ (z : Sizes) (o : Opening) (es : List Event) (e : Event) (r r' : Run) (l
 
   -- The draws.
 
-  drawing_own : IsSettling l'.activity → Acts z o (es ++ e ∷ []) (r'.seats e.seat).drawn e.seat ScanDraw (operation kind.Draw name.Clock (Add 1)) l'.drawn
+  drawing_own : IsSettling l'.activity → Acts z o (es ++ e ∷ []) (r'.seats e.seat).drawn e.seat (Activity.Draw Draw.Version) (operation kind.Draw name.Clock (Add 1)) l'.drawn
   drawing_own x =
       let d = has_drawn z r r' e.seat (offered r.world.rows e.choice) l a l' h.arrow h (lower i) step x in
-      rw (d.2, d.1) (acts_here z o es e r r' l l' a h k ScanDraw (operation kind.Draw name.Clock (Add 1)) (word z r.world name.Clock) d.0 refl refl)
+      rw (d.2, d.1) (acts_here z o es e r r' l l' a h k (Activity.Draw Draw.Version) (operation kind.Draw name.Clock (Add 1)) (word z r.world name.Clock) d.0 refl refl)
 
-  helping_own : (j : ℕ) → l'.activity ≡ HelpSettle j → Acts z o (es ++ e ∷ []) (r'.seats e.seat).drawn e.seat (HelpDraw j) (operation kind.HelpDraw name.Clock (Add 1)) l'.rebalance.drawn
+  helping_own : (j : ℕ) → l'.activity ≡ Activity.Rebalance (Rebalance.Freeze (Freeze.Settle j)) → Acts z o (es ++ e ∷ []) (r'.seats e.seat).drawn e.seat (Activity.Rebalance (Rebalance.Freeze (Freeze.Draw j))) (operation kind.HelpDraw name.Clock (Add 1)) l'.rebalance.drawn
   helping_own j x =
-      let d : (a ≡ HelpDraw j) × (l'.rebalance.drawn ≡ word z r.world name.Clock) = subst (DrewFor (word z r.world) a l') x (helper_drew z (word z r.world) e.seat (offered r.world.rows e.choice) l a l' h.arrow) in
+      let d : (a ≡ Activity.Rebalance (Rebalance.Freeze (Freeze.Draw j))) × (l'.rebalance.drawn ≡ word z r.world name.Clock) = subst (DrewFor (word z r.world) a l') x (helper_drew z (word z r.world) e.seat (offered r.world.rows e.choice) l a l' h.arrow) in
       let now : (r'.seats e.seat).drawn ≡ length r.history.log = ap (λ (q : SeatLog). q.drawn) (subst (Happens z r r' e.seat (offered r.world.rows e.choice) l l') d.0 h).log in
-      rw (now, d.1) (acts_here z o es e r r' l l' a h k (HelpDraw j) (operation kind.HelpDraw name.Clock (Add 1)) (word z r.world name.Clock) d.0 refl refl)
+      rw (now, d.1) (acts_here z o es e r r' l l' a h k (Activity.Rebalance (Rebalance.Freeze (Freeze.Draw j))) (operation kind.HelpDraw name.Clock (Add 1)) (word z r.world name.Clock) d.0 refl refl)
 
   -- The word of a scan that waits.
 
@@ -187,21 +189,21 @@ module _ (z : Sizes) (o : Opening) (es : List Event) (e : Event) (r r' : Run) (l
   waits_own : IsWaiting l'.activity → WaitsOrHelped z o (es ++ e ∷ []) (word z r'.world) e.seat l'.waiting (r'.settled e.seat)
   waits_own x = which (waits_from z (word z r.world) e.seat (offered r.world.rows e.choice) l a l' h.arrow x)
     where
-      which : ((a ≡ ScanWait) × (l' ≡ record l { activity = ScanDraw })) ⊎ ((a ≡ ScanDraw) × (l' ≡ record l { drawn = word z r.world name.Clock; activity = ScanSettle })) → WaitsOrHelped z o (es ++ e ∷ []) (word z r'.world) e.seat l'.waiting (r'.settled e.seat)
+      which : ((a ≡ Activity.Draw Draw.Wait) × (l' ≡ record l { activity = Activity.Draw Draw.Version })) ⊎ ((a ≡ Activity.Draw Draw.Version) × (l' ≡ record l { drawn = word z r.world name.Clock; activity = Activity.Draw Draw.Settle })) → WaitsOrHelped z o (es ++ e ∷ []) (word z r'.world) e.seat l'.waiting (r'.settled e.seat)
       which (inl y) = inl ((subst (Happens z r r' e.seat (offered r.world.rows e.choice) l l') y.0 h).changed.same ∙ ap (λ (m : Local). scan_word (Waiting m.waiting)) (sym y.1))
       which (inr y) =
           let g = subst (Happens z r r' e.seat (offered r.world.rows e.choice) l l') y.0 h in
-          let same : word z r'.world (name.Scan e.seat) ≡ word z r.world (name.Scan e.seat) = unwritten ScanDraw g (name.Scan e.seat) h.seat (λ f. cc) in
+          let same : word z r'.world (name.Scan e.seat) ≡ word z r.world (name.Scan e.seat) = unwritten (Activity.Draw Draw.Version) g (name.Scan e.seat) h.seat (λ f. cc) in
           let kept : r'.settled e.seat ≡ r.settled e.seat = ap (λ (q : ℕ → ℕ). q e.seat) g.settled in
           subst (λ c. WaitsOrHelped z o (es ++ e ∷ []) (word z r'.world) e.seat c (r'.settled e.seat)) (sym (ap (λ (m : Local). m.waiting) y.1))
           (waits_lasts z o es e (word z r.world) (word z r'.world) e.seat l.waiting (r.settled e.seat) (r'.settled e.seat) same kept (n.waits e.seat l h.knows (subst IsWaiting (sym (h.activity ∙ y.0)) tt)))
 
   -- that of a scan which the event may settle: it is helped where it waits with the clock that the
   -- helper met
-  waits_helped : (t clock : ℕ) → a ≡ HelpSettle t → Happens z r r' e.seat (offered r.world.rows e.choice) l l' (HelpSettle t) → WaitsOrHelped z o es (word z r.world) t clock (r.settled t) → WaitsOrHelped z o (es ++ e ∷ []) (word z r'.world) t clock (r'.settled t)
+  waits_helped : (t clock : ℕ) → a ≡ Activity.Rebalance (Rebalance.Freeze (Freeze.Settle t)) → Happens z r r' e.seat (offered r.world.rows e.choice) l l' (Activity.Rebalance (Rebalance.Freeze (Freeze.Settle t))) → WaitsOrHelped z o es (word z r.world) t clock (r.settled t) → WaitsOrHelped z o (es ++ e ∷ []) (word z r'.world) t clock (r'.settled t)
   waits_helped t clock is g w = which (cases_eq (word z r.world (name.Scan t)) (scan_word (Waiting l.rebalance.waiting)))
     where
-      drew : Acts z o es (r.seats e.seat).drawn e.seat (HelpDraw t) (operation kind.HelpDraw name.Clock (Add 1)) l.rebalance.drawn
+      drew : Acts z o es (r.seats e.seat).drawn e.seat (Activity.Rebalance (Rebalance.Freeze (Freeze.Draw t))) (operation kind.HelpDraw name.Clock (Add 1)) l.rebalance.drawn
       drew = n.helping e.seat l h.knows t (h.activity ∙ is)
 
       helped : word z r.world (name.Scan t) ≡ scan_word (Waiting l.rebalance.waiting) → WasHelped z o (es ++ e ∷ []) t l.rebalance.waiting (r.seats e.seat).drawn l.rebalance.drawn (length (es ++ e ∷ []))
@@ -211,7 +213,7 @@ module _ (z : Sizes) (o : Opening) (es : List Event) (e : Event) (r r' : Run) (l
         settle = length r.history.log;
         after = omega (arith, occurs_within z o es (r.seats e.seat).drawn drew.before _ drew.occurs, k.mirrors.events);
         before = omega (arith, k.mirrors.events, length-append es (e ∷ []));
-        settles = acts_here z o es e r r' l l' a h k (HelpSettle t) (helping t l.rebalance.waiting l.rebalance.drawn) (scan_word (Waiting l.rebalance.waiting)) is refl f;
+        settles = acts_here z o es e r r' l l' a h k (Activity.Rebalance (Rebalance.Freeze (Freeze.Settle t))) (helping t l.rebalance.waiting l.rebalance.drawn) (scan_word (Waiting l.rebalance.waiting)) is refl f;
       }
 
       clock_is : word z r.world (name.Scan t) ≡ scan_word (Waiting l.rebalance.waiting) → WaitsOrHelped z o es (word z r.world) t clock (r.settled t) → l.rebalance.waiting ≡ clock
@@ -233,11 +235,11 @@ module _ (z : Sizes) (o : Opening) (es : List Event) (e : Event) (r r' : Run) (l
 
   -- that of another seat
   waits_other : (b : Activity) → a ≡ b → Happens z r r' e.seat (offered r.world.rows e.choice) l l' b → (t clock : ℕ) → t < z.seats → t ≢ e.seat → WaitsOrHelped z o es (word z r.world) t clock (r.settled t) → WaitsOrHelped z o (es ++ e ∷ []) (word z r'.world) t clock (r'.settled t)
-  waits_other (HelpSettle j) is g t clock u d w = which (cases_eq t j)
+  waits_other (Activity.Rebalance (Rebalance.Freeze (Freeze.Settle j))) is g t clock u d w = which (cases_eq t j)
     where
       which : (t ≡ j) ⊎ (t ≡ j → ⊥) → WaitsOrHelped z o (es ++ e ∷ []) (word z r'.world) t clock (r'.settled t)
-      which (inl f) = waits_helped t clock (is ∙ ap HelpSettle (sym f)) (subst (λ q. Happens z r r' e.seat (offered r.world.rows e.choice) l l' (HelpSettle q)) (sym f) g) w
-      which (inr f) = waits_lasts z o es e (word z r.world) (word z r'.world) t clock (r.settled t) (r'.settled t) (scan_stays (HelpSettle j) g t u d f) (draw_stays z r r' e.seat (offered r.world.rows e.choice) l (HelpSettle j) l' g t d f) w
+      which (inl f) = waits_helped t clock (is ∙ ap (λ q. Activity.Rebalance (Rebalance.Freeze (Freeze.Settle q))) (sym f)) (subst (λ q. Happens z r r' e.seat (offered r.world.rows e.choice) l l' (Activity.Rebalance (Rebalance.Freeze (Freeze.Settle q)))) (sym f) g) w
+      which (inr f) = waits_lasts z o es e (word z r.world) (word z r'.world) t clock (r.settled t) (r'.settled t) (scan_stays (Activity.Rebalance (Rebalance.Freeze (Freeze.Settle j))) g t u d f) (draw_stays z r r' e.seat (offered r.world.rows e.choice) l (Activity.Rebalance (Rebalance.Freeze (Freeze.Settle j))) l' g t d f) w
   waits_other b is g t clock u d w = waits_lasts z o es e (word z r.world) (word z r'.world) t clock (r.settled t) (r'.settled t) (scan_stays b g t u d (λ x. x)) (draw_stays z r r' e.seat (offered r.world.rows e.choice) l b l' g t d (λ x. x)) w
 
   -- The settle.
@@ -268,7 +270,7 @@ module _ (z : Sizes) (o : Opening) (es : List Event) (e : Event) (r r' : Run) (l
             after = omega (arith, occurs_within z o es (r.seats e.seat).drawn drew.before _ drew.occurs, k.mirrors.events);
             clock = l.waiting;
             found = scan_word (Waiting l.waiting);
-            settles = acts_here z o es e r r' l l' a h k ScanSettle (settling e.seat l.waiting l.drawn) (scan_word (Waiting l.waiting)) (settling_is a y) refl w;
+            settles = acts_here z o es e r r' l l' a h k (Activity.Draw Draw.Settle) (settling e.seat l.waiting l.drawn) (scan_word (Waiting l.waiting)) (settling_is a y) refl w;
             entry = inl (refl, refl, refl);
           })
       settles_so y (inr w) =
@@ -286,7 +288,7 @@ module _ (z : Sizes) (o : Opening) (es : List Event) (e : Event) (r r' : Run) (l
             after = omega (arith, occurs_within z o es (r.seats e.seat).drawn drew.before _ drew.occurs, k.mirrors.events);
             clock = l.waiting;
             found = scan_word (Drawn w.version);
-            settles = acts_here z o es e r r' l l' a h k ScanSettle (settling e.seat l.waiting l.drawn) (scan_word (Drawn w.version)) (settling_is a y) refl w.word;
+            settles = acts_here z o es e r r' l l' a h k (Activity.Draw Draw.Settle) (settling e.seat l.waiting l.drawn) (scan_word (Drawn w.version)) (settling_is a y) refl w.word;
             entry = inr (refl, helped_lasts z o es e e.seat l.waiting (r.settled e.seat) w.version (length es) (length r.history.log) (sym k.mirrors.events) w.helped);
           })
 
@@ -303,9 +305,9 @@ module _ (z : Sizes) (o : Opening) (es : List Event) (e : Event) (r r' : Run) (l
 
   pub scans_keep : KeptScans z o (es ++ e ∷ []) r'
   scans_keep = record {
-    drawing = each_seat h (λ t m. IsSettling m.activity → Acts z o (es ++ e ∷ []) (r'.seats t).drawn t ScanDraw (operation kind.Draw name.Clock (Add 1)) m.drawn) drawing_own
+    drawing = each_seat h (λ t m. IsSettling m.activity → Acts z o (es ++ e ∷ []) (r'.seats t).drawn t (Activity.Draw Draw.Version) (operation kind.Draw name.Clock (Add 1)) m.drawn) drawing_own
         (λ t m d g x. rw (h.logs t d) (acts_lasts z o es e (r.seats t).drawn t _ _ _ (n.drawing t m g x)));
-    helping = each_seat h (λ t m. (j : ℕ) → m.activity ≡ HelpSettle j → Acts z o (es ++ e ∷ []) (r'.seats t).drawn t (HelpDraw j) (operation kind.HelpDraw name.Clock (Add 1)) m.rebalance.drawn) helping_own
+    helping = each_seat h (λ t m. (j : ℕ) → m.activity ≡ Activity.Rebalance (Rebalance.Freeze (Freeze.Settle j)) → Acts z o (es ++ e ∷ []) (r'.seats t).drawn t (Activity.Rebalance (Rebalance.Freeze (Freeze.Draw j))) (operation kind.HelpDraw name.Clock (Add 1)) m.rebalance.drawn) helping_own
         (λ t m d g j x. rw (h.logs t d) (acts_lasts z o es e (r.seats t).drawn t _ _ _ (n.helping t m g j x)));
     waits = each_seat h (λ t m. IsWaiting m.activity → WaitsOrHelped z o (es ++ e ∷ []) (word z r'.world) t m.waiting (r'.settled t)) waits_own
         (λ t m d g x. waits_other a refl h t m.waiting (inside t m g) d (n.waits t m g x));

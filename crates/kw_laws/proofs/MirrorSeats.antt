@@ -9,7 +9,20 @@ use Rattle.kw_words.specs.declared.layout.Name.TheVariants as name
 use Rattle.kw_model.specs.declared.call.Call.{Call}
 use Rattle.kw_world.specs.Answers.{reply_of}
 use Rattle.kw_world.specs.declared.activity.Activity.{Activity}
-use Rattle.kw_world.specs.declared.activity.Activity.TheVariants.{Idle, ScanClock, Start, Walk, Look, LookClock, ListFrom, ListKey, RestKey, RestVal, PutAdd, PutClock, Leave, BalClock, SeekFirst, Before, ScanSettle, Stamp, LookHelp}
+use Rattle.kw_world.specs.declared.activity.draw.Draw.TheVariants as Draw
+use Rattle.kw_world.specs.declared.activity.rebalance.engage.Engage.TheVariants as Engage
+use Rattle.kw_world.specs.declared.activity.look.Look.TheVariants as Look
+use Rattle.kw_world.specs.declared.activity.put.Put.TheVariants as Put
+use Rattle.kw_world.specs.declared.activity.read.Read.TheVariants as Read
+use Rattle.kw_world.specs.declared.activity.rebalance.Rebalance.TheVariants as Rebalance
+use Rattle.kw_world.specs.declared.activity.rebalance.replace.Replace.TheVariants as Replace
+use Rattle.kw_world.specs.declared.activity.rebalance.seek.Seek.TheVariants as Seek
+use Rattle.kw_world.specs.declared.activity.walk.Walk.TheVariants as Walk
+use Rattle.kw_world.specs.declared.activity.enter.Enter.TheVariants as Enter
+use Rattle.kw_world.specs.declared.activity.rebalance.freeze.Freeze.TheVariants as Freeze
+use Rattle.kw_world.specs.declared.activity.rebalance.gather.Gather.TheVariants as Gather
+use Rattle.kw_world.specs.declared.activity.insert.Insert.TheVariants as Insert
+use Rattle.kw_world.specs.declared.activity.rebalance.write.Write.TheVariants as Write
 use Rattle.kw_world.specs.declared.local.Local.{Local}
 use Rattle.kw_world.specs.declared.event.Choice.{Choice}
 use Rattle.kw_world.specs.declared.event.Choice.TheVariants.{Begin, Go, Guess, Stop}
@@ -65,19 +78,19 @@ begun-nil z o s = refl
 
 -- a guess that is not offered begins nothing either
 begun_offered : (a : Activity) (rows : ℕ) (choice : Choice) → is_begun a (offered rows choice) ≡ is_begun a choice
-begun_offered Idle rows (Begin call) = refl
-begun_offered Idle rows Go = refl
-begun_offered Idle rows (Guess q) = met (nat_lt q rows)
+begun_offered Activity.Idle rows (Begin call) = refl
+begun_offered Activity.Idle rows Go = refl
+begun_offered Activity.Idle rows (Guess q) = met (nat_lt q rows)
   where
-    met : (b : Bool) → is_begun Idle (if b then Guess q else Go) ≡ false
+    met : (b : Bool) → is_begun Activity.Idle (if b then Guess q else Go) ≡ false
     met true = refl
     met false = refl
-begun_offered Idle rows Stop = refl
+begun_offered Activity.Idle rows Stop = refl
 begun_offered _ rows choice = refl
 
 -- a seat that builds rows begins no call
 built_begins_none : (b : Activity) (choice : Choice) → IsBuilding b → is_begun b choice ≡ false
-built_begins_none Idle choice y = absurd y
+built_begins_none Activity.Idle choice y = absurd y
 built_begins_none _ choice y = refl
 
 -- a seat counts the calls that it begins
@@ -92,7 +105,7 @@ arrow_counts z v s choice l a k _ = omega arith
 
 -- What an arrow leads to.
 
-next_look : {A : Type 0} (P : Activity → Type 0) (z : Sizes) (j : ℕ) (next : Activity) → NextLook z j next → (P (Look j) → A) → (P ListFrom → A) → P next → A
+next_look : {A : Type 0} (P : Activity → Type 0) (z : Sizes) (j : ℕ) (next : Activity) → NextLook z j next → (P (Activity.Look (Look.Entry j)) → A) → (P (Activity.Read Read.Link) → A) → P next → A
 next_look P z j next (looks w) f g p = f p
 next_look P z j next (lists w) f g p = g p
 
@@ -108,12 +121,12 @@ next_look_busy z j next (lists w) = tt
 
 -- nor does what follows the building of rows end a call, or lead to a stamp or to help
 after_busy : (b : Activity) → IsAfterBuilding b → IsBusy b
-after_busy Idle x = absurd x
+after_busy Activity.Idle x = absurd x
 after_busy _ x = tt
 
 after_stamp : {A : Type 0} (b : Activity) → IsAfterBuilding b → IsStamp b ⊎ IsHelp b → A
-after_stamp Stamp x u = absurd x
-after_stamp LookHelp x u = absurd x
+after_stamp (Activity.Put Put.Stamp) x u = absurd x
+after_stamp (Activity.Look Look.Help) x u = absurd x
 after_stamp _ x (inl u) = absurd u
 after_stamp _ x (inr u) = absurd u
 
@@ -150,7 +163,7 @@ rest_stamp l k (scans_on q w e f g) (inl x) = absurd x
 rest_stamp l k (scans_on q w e f g) (inr x) = absurd x
 
 -- a seat that is to stamp has just loaded its version
-arrow_stamp : (z : Sizes) (v : Words) (s : ℕ) (choice : Choice) (l : Local) (a : Activity) (k : Local) → Arrow z v s choice l a k → IsStamp k.activity → (a ≡ PutClock) × (k.version ≡ v name.Clock)
+arrow_stamp : (z : Sizes) (v : Words) (s : ℕ) (choice : Choice) (l : Local) (a : Activity) (k : Local) → Arrow z v s choice l a k → IsStamp k.activity → (a ≡ Activity.Put Put.Clock) × (k.version ≡ v name.Clock)
 arrow_stamp z v s choice l a k (builds b next y t) u = after_stamp k.activity (built_next z v choice l b k t) (inl u)
 arrow_stamp z v s choice l a k loads_clock u = (refl, refl)
 arrow_stamp z v s choice l a k (meets_stamped i c version next e n) u = look_stamp z _ next n (inl u)
@@ -166,7 +179,7 @@ arrow_stamp z v s choice l a k (gathers_rest next n) u = rest_stamp _ _ n (inl u
 arrow_stamp z v s choice l a k _ u = absurd u
 
 -- so has a seat that is to help
-arrow_help : (z : Sizes) (v : Words) (s : ℕ) (choice : Choice) (l : Local) (a : Activity) (k : Local) → Arrow z v s choice l a k → IsHelp k.activity → (a ≡ LookClock) × (k.helping ≡ v name.Clock)
+arrow_help : (z : Sizes) (v : Words) (s : ℕ) (choice : Choice) (l : Local) (a : Activity) (k : Local) → Arrow z v s choice l a k → IsHelp k.activity → (a ≡ Activity.Look Look.Clock) × (k.helping ≡ v name.Clock)
 arrow_help z v s choice l a k (builds b next y t) u = after_stamp k.activity (built_next z v choice l b k t) (inr u)
 arrow_help z v s choice l a k loads_to_help u = (refl, refl)
 arrow_help z v s choice l a k (meets_stamped i c version next e n) u = look_stamp z _ next n (inr u)
@@ -188,50 +201,55 @@ abbrev LoadedOver : Sizes → ℕ → Choice → Local → ℕ → Activity → 
 LoadedOver z s choice l found next g o h settled a = ((seat_after z a choice l found next g o h settled).loaded ≡ g.loaded) × ((transition z a s choice l).operation.kind ≢ kind.LoadClock) ⊎ ((seat_after z a choice l found next g o h settled).loaded ≡ length h.log)
 
 loaded_over : (z : Sizes) (s : ℕ) (choice : Choice) (l : Local) (found : ℕ) (next : Activity) (g : SeatLog) (o : Origins) (h : History) (settled : ℕ) (a : Activity) → LoadedOver z s choice l found next g o h settled a
-loaded_over z s choice l found next g o h settled Idle = inl (begun choice, λ e. cc)
+loaded_over z s choice l found next g o h settled Activity.Idle = inl (begun choice, λ e. cc)
   where
     begun : (c : Choice) → (log_begun c (length h.calls) g).loaded ≡ g.loaded
     begun (Begin call) = refl
     begun Go = refl
     begun (Guess q) = refl
     begun Stop = refl
-loaded_over z s choice l found next g o h settled ScanClock = inr refl
-loaded_over z s choice l found next g o h settled LookClock = inr refl
-loaded_over z s choice l found next g o h settled PutClock = inr refl
-loaded_over z s choice l found next g o h settled Start = inl (refl, starts choice)
+loaded_over z s choice l found next g o h settled (Activity.Draw Draw.Clock) = inr refl
+loaded_over z s choice l found next g o h settled (Activity.Look Look.Clock) = inr refl
+loaded_over z s choice l found next g o h settled (Activity.Put Put.Clock) = inr refl
+loaded_over z s choice l found next g o h settled (Activity.Walk Walk.Start) = inl (refl, starts choice)
   where
     starts : (c : Choice) → (start_transition c l).operation.kind ≢ kind.LoadClock
     starts (Begin call) e = cc
     starts Go e = cc
     starts (Guess q) e = cc
     starts Stop e = cc
-loaded_over z s choice l found next g o h settled Walk = inl (refl, walks (is_stopped choice l))
+loaded_over z s choice l found next g o h settled (Activity.Walk Walk.Next) = inl (refl, walks (is_stopped choice l))
   where
     walks : (b : Bool) → (walk_transition b s l).operation.kind ≢ kind.LoadClock
     walks true e = cc
     walks false e = cc
-loaded_over z s choice l found next g o h settled (Look i) = inl (either (λ (q : SeatLog). q.loaded) (i == 0) (record g { looked = length h.log; ids = []; read = None }) g g.loaded refl refl, λ e. cc)
-loaded_over z s choice l found next g o h settled ListFrom = inl (either (λ (q : SeatLog). q.loaded) (is_at_cell next) g (record g { read = Some l.row }) g.loaded refl refl, λ e. cc)
-loaded_over z s choice l found next g o h settled ListKey = inl (either (λ (q : SeatLog). q.loaded) (is_at_cell next) g (record g { read = Some l.row }) g.loaded refl refl, λ e. cc)
-loaded_over z s choice l found next g o h settled RestKey = inl (either (λ (q : SeatLog). q.loaded) (is_at_cell next) g (record g { read = Some l.row }) g.loaded refl refl, λ e. cc)
-loaded_over z s choice l found next g o h settled RestVal = let k = log_gathered (o l.row l.place) (place_gathered l found) g in inl (either (λ (q : SeatLog). q.loaded) (is_at_cell next) k (record k { read = Some l.row }) g.loaded refl refl, λ e. cc)
-loaded_over z s choice l found next g o h settled PutAdd = inl (either (λ (q : SeatLog). q.loaded) (has_room z (count_of found)) (record g { own = length h.attempts }) g g.loaded refl refl, λ e. cc)
-loaded_over z s choice l found next g o h settled ScanSettle = inl (settled_same (λ (q : SeatLog). q.loaded) l.waiting found settled g refl, λ e. cc)
-loaded_over z s choice l found next g o h settled BalClock = inr refl
-loaded_over z s choice l found next g o h settled SeekFirst = inl (refl, seeks choice)
+loaded_over z s choice l found next g o h settled (Activity.Look (Look.Entry i)) = inl (either (λ (q : SeatLog). q.loaded) (i == 0) (record g { looked = length h.log; ids = []; read = None }) g g.loaded refl refl, λ e. cc)
+loaded_over z s choice l found next g o h settled (Activity.Read Read.Link) = inl (either (λ (q : SeatLog). q.loaded) (is_at_cell next) g (record g { read = Some l.row }) g.loaded refl refl, λ e. cc)
+loaded_over z s choice l found next g o h settled (Activity.Read Read.Key) = inl (either (λ (q : SeatLog). q.loaded) (is_at_cell next) g (record g { read = Some l.row }) g.loaded refl refl, λ e. cc)
+loaded_over z s choice l found next g o h settled (Activity.Read Read.LeftOverKey) = inl (either (λ (q : SeatLog). q.loaded) (is_at_cell next) g (record g { read = Some l.row }) g.loaded refl refl, λ e. cc)
+loaded_over z s choice l found next g o h settled (Activity.Read Read.LeftOverValue) = let k = log_gathered (o l.row l.place) (place_gathered l found) g in inl (either (λ (q : SeatLog). q.loaded) (is_at_cell next) k (record k { read = Some l.row }) g.loaded refl refl, λ e. cc)
+loaded_over z s choice l found next g o h settled (Activity.Put Put.Add) = inl (either (λ (q : SeatLog). q.loaded) (has_room z (count_of found)) (record g { own = length h.attempts }) g g.loaded refl refl, λ e. cc)
+loaded_over z s choice l found next g o h settled (Activity.Draw Draw.Settle) = inl (settled_same (λ (q : SeatLog). q.loaded) l.waiting found settled g refl, λ e. cc)
+loaded_over z s choice l found next g o h settled (Activity.Rebalance (Rebalance.Engage Engage.Clock)) = inr refl
+loaded_over z s choice l found next g o h settled (Activity.Rebalance (Rebalance.Seek Seek.First)) = inl (refl, seeks choice)
   where
     seeks : (c : Choice) → (seek_first_transition c l).operation.kind ≢ kind.LoadClock
     seeks (Begin call) e = cc
     seeks Go e = cc
     seeks (Guess q) e = cc
     seeks Stop e = cc
-loaded_over z s choice l found next g o h settled Before = inl (refl, befores choice)
+loaded_over z s choice l found next g o h settled (Activity.Rebalance (Rebalance.Replace Replace.Start)) = inl (refl, befores choice)
   where
     befores : (c : Choice) → (before_transition c l).operation.kind ≢ kind.LoadClock
     befores (Begin call) e = cc
     befores Go e = cc
     befores (Guess q) e = cc
     befores Stop e = cc
+loaded_over z s choice l found next g o h settled (Activity.Enter Enter.Announce) = inl (refl, λ e. cc)
+loaded_over z s choice l found next g o h settled (Activity.Insert Insert.Link) = inl (refl, λ e. cc)
+loaded_over z s choice l found next g o h settled (Activity.Rebalance (Rebalance.Freeze Freeze.Count)) = inl (refl, λ e. cc)
+loaded_over z s choice l found next g o h settled (Activity.Rebalance (Rebalance.Gather Gather.Link)) = inl (refl, λ e. cc)
+loaded_over z s choice l found next g o h settled (Activity.Rebalance (Rebalance.Write Write.Count)) = inl (refl, λ e. cc)
 loaded_over z s choice l found next g o h settled a = inl (refl, λ e. cc)
 
 -- One more event.
@@ -249,7 +267,7 @@ module _ (z : Sizes) (o : Opening) (es : List Event) (e : Event) (r r' : Run) (l
       y ∙ ap (λ n. n + (if is_begun l.activity e.choice then 1 else 0)) (k.numbers e.seat l h.knows) ∙ sym (begun-snoc z o e.seat es e ∙ ap (λ b. begun z o e.seat es + (if b then 1 else 0)) u)
 
   -- a seat that begins a call is one further
-  pub number_begun : (call : Call) → a ≡ Idle → offered r.world.rows e.choice ≡ Begin call → l.number + 1 ≡ begun z o e.seat (es ++ e ∷ [])
+  pub number_begun : (call : Call) → a ≡ Activity.Idle → offered r.world.rows e.choice ≡ Begin call → l.number + 1 ≡ begun z o e.seat (es ++ e ∷ [])
   number_begun call is chosen =
       let x : is_begun a (offered r.world.rows e.choice) ≡ true = rw (is, chosen) refl in
       sym (subst (λ b. l'.number ≡ l.number + (if b then 1 else 0)) x (arrow_counts z (word z r.world) e.seat (offered r.world.rows e.choice) l a l' h.arrow)) ∙ number_own
@@ -297,28 +315,28 @@ module _ (z : Sizes) (o : Opening) (es : List Event) (e : Event) (r r' : Run) (l
       which (inr d) = loads_other t d
 
   -- a seat that is to stamp
-  stamp_own : IsStamp l'.activity → Acts z o (es ++ e ∷ []) (r'.seats e.seat).loaded e.seat PutClock (operation kind.LoadClock name.Clock Load) l'.version
+  stamp_own : IsStamp l'.activity → Acts z o (es ++ e ∷ []) (r'.seats e.seat).loaded e.seat (Activity.Put Put.Clock) (operation kind.LoadClock name.Clock Load) l'.version
   stamp_own u =
       let x = arrow_stamp z (word z r.world) e.seat (offered r.world.rows e.choice) l a l' h.arrow u in
       let y : (r'.seats e.seat).loaded ≡ length r.history.log = ap (λ (q : SeatLog). q.loaded) (subst (λ b. r'.seats e.seat ≡ seat_after z b (offered r.world.rows e.choice) l (found_at z (word z r.world) a e.seat (offered r.world.rows e.choice) l) l'.activity (r.seats e.seat) r.origin r.history (r.settled e.seat)) x.0 h.log) in
-      subst (λ q. Acts z o (es ++ e ∷ []) q e.seat PutClock (operation kind.LoadClock name.Clock Load) l'.version) (sym y)
-      (acts_here z o es e r r' l l' a h k PutClock _ l'.version x.0 refl (sym x.1))
+      subst (λ q. Acts z o (es ++ e ∷ []) q e.seat (Activity.Put Put.Clock) (operation kind.LoadClock name.Clock Load) l'.version) (sym y)
+      (acts_here z o es e r r' l l' a h k (Activity.Put Put.Clock) _ l'.version x.0 refl (sym x.1))
 
-  pub stamp_keeps : (t : ℕ) (m : Local) → slice_get r'.world.locals t ≡ Some m → IsStamp m.activity → Acts z o (es ++ e ∷ []) (r'.seats t).loaded t PutClock (operation kind.LoadClock name.Clock Load) m.version
-  stamp_keeps = each_seat h (λ t m. IsStamp m.activity → Acts z o (es ++ e ∷ []) (r'.seats t).loaded t PutClock (operation kind.LoadClock name.Clock Load) m.version) stamp_own
-      (λ t m d g u. subst (λ (q : SeatLog). Acts z o (es ++ e ∷ []) q.loaded t PutClock (operation kind.LoadClock name.Clock Load) m.version) (sym (h.logs t d)) (acts_lasts z o es e _ t PutClock _ m.version (k.stamp t m g u)))
+  pub stamp_keeps : (t : ℕ) (m : Local) → slice_get r'.world.locals t ≡ Some m → IsStamp m.activity → Acts z o (es ++ e ∷ []) (r'.seats t).loaded t (Activity.Put Put.Clock) (operation kind.LoadClock name.Clock Load) m.version
+  stamp_keeps = each_seat h (λ t m. IsStamp m.activity → Acts z o (es ++ e ∷ []) (r'.seats t).loaded t (Activity.Put Put.Clock) (operation kind.LoadClock name.Clock Load) m.version) stamp_own
+      (λ t m d g u. subst (λ (q : SeatLog). Acts z o (es ++ e ∷ []) q.loaded t (Activity.Put Put.Clock) (operation kind.LoadClock name.Clock Load) m.version) (sym (h.logs t d)) (acts_lasts z o es e _ t (Activity.Put Put.Clock) _ m.version (k.stamp t m g u)))
 
   -- a seat that is to help
-  help_own : IsHelp l'.activity → Acts z o (es ++ e ∷ []) (r'.seats e.seat).loaded e.seat LookClock (operation kind.LoadClock name.Clock Load) l'.helping
+  help_own : IsHelp l'.activity → Acts z o (es ++ e ∷ []) (r'.seats e.seat).loaded e.seat (Activity.Look Look.Clock) (operation kind.LoadClock name.Clock Load) l'.helping
   help_own u =
       let x = arrow_help z (word z r.world) e.seat (offered r.world.rows e.choice) l a l' h.arrow u in
       let y : (r'.seats e.seat).loaded ≡ length r.history.log = ap (λ (q : SeatLog). q.loaded) (subst (λ b. r'.seats e.seat ≡ seat_after z b (offered r.world.rows e.choice) l (found_at z (word z r.world) a e.seat (offered r.world.rows e.choice) l) l'.activity (r.seats e.seat) r.origin r.history (r.settled e.seat)) x.0 h.log) in
-      subst (λ q. Acts z o (es ++ e ∷ []) q e.seat LookClock (operation kind.LoadClock name.Clock Load) l'.helping) (sym y)
-      (acts_here z o es e r r' l l' a h k LookClock _ l'.helping x.0 refl (sym x.1))
+      subst (λ q. Acts z o (es ++ e ∷ []) q e.seat (Activity.Look Look.Clock) (operation kind.LoadClock name.Clock Load) l'.helping) (sym y)
+      (acts_here z o es e r r' l l' a h k (Activity.Look Look.Clock) _ l'.helping x.0 refl (sym x.1))
 
-  pub help_keeps : (t : ℕ) (m : Local) → slice_get r'.world.locals t ≡ Some m → IsHelp m.activity → Acts z o (es ++ e ∷ []) (r'.seats t).loaded t LookClock (operation kind.LoadClock name.Clock Load) m.helping
-  help_keeps = each_seat h (λ t m. IsHelp m.activity → Acts z o (es ++ e ∷ []) (r'.seats t).loaded t LookClock (operation kind.LoadClock name.Clock Load) m.helping) help_own
-      (λ t m d g u. subst (λ (q : SeatLog). Acts z o (es ++ e ∷ []) q.loaded t LookClock (operation kind.LoadClock name.Clock Load) m.helping) (sym (h.logs t d)) (acts_lasts z o es e _ t LookClock _ m.helping (k.help t m g u)))
+  pub help_keeps : (t : ℕ) (m : Local) → slice_get r'.world.locals t ≡ Some m → IsHelp m.activity → Acts z o (es ++ e ∷ []) (r'.seats t).loaded t (Activity.Look Look.Clock) (operation kind.LoadClock name.Clock Load) m.helping
+  help_keeps = each_seat h (λ t m. IsHelp m.activity → Acts z o (es ++ e ∷ []) (r'.seats t).loaded t (Activity.Look Look.Clock) (operation kind.LoadClock name.Clock Load) m.helping) help_own
+      (λ t m d g u. subst (λ (q : SeatLog). Acts z o (es ++ e ∷ []) q.loaded t (Activity.Look Look.Clock) (operation kind.LoadClock name.Clock Load) m.helping) (sym (h.logs t d)) (acts_lasts z o es e _ t (Activity.Look Look.Clock) _ m.helping (k.help t m g u)))
 
   -- Calls that run.
 
@@ -327,8 +345,8 @@ module _ (z : Sizes) (o : Opening) (es : List Event) (e : Event) (r r' : Run) (l
   stays x w n b c = which a refl
     where
       which : (b : Activity) → a ≡ b → IsUnderway b × IsStaying b
-      which Idle i = absurd (subst IsBusy (h.activity ∙ i) b)
-      which (Leave answer) i =
+      which Activity.Idle i = absurd (subst IsBusy (h.activity ∙ i) b)
+      which (Activity.Leave answer) i =
           let f = ended_here z o es e r r' l l' a h k answer i (subst (λ q. q < length r.history.calls) (sym c) w) in
           absurd (none_some (called r'.history x).end _ n (subst (λ q. (called r'.history q).end ≡ Some (record { at = length r.history.log; reply = reply_of answer l.pairs })) c f))
       which b i = (tt, tt)

@@ -6,7 +6,20 @@ use Rattle.kw_words.specs.declared.pend.Pend.TheVariants as pend
 use Rattle.kw_words.specs.Pend.{pend_word}
 use Rattle.kw_world.specs.declared.activity.Activity.{Activity}
 use Rattle.kw_core.proofs.Frame.{no_link}
-use Rattle.kw_world.specs.declared.activity.Activity.TheVariants.{ScanSettle, Start, Walk, LookHelp, Announce, Stamp, Insert, BalNormal, Engage, Decide, Freeze, HelpSettle, Reclaim, TakeRow, SeekFirst, Before, Replace, Normalise}
+use Rattle.kw_world.specs.declared.activity.draw.Draw.TheVariants as Draw
+use Rattle.kw_world.specs.declared.activity.rebalance.engage.Engage.TheVariants as Engage
+use Rattle.kw_world.specs.declared.activity.rebalance.freeze.Freeze.TheVariants as Freeze
+use Rattle.kw_world.specs.declared.activity.insert.Insert.TheVariants as Insert
+use Rattle.kw_world.specs.declared.activity.look.Look.TheVariants as Look
+use Rattle.kw_world.specs.declared.activity.put.Put.TheVariants as Put
+use Rattle.kw_world.specs.declared.activity.rebalance.Rebalance.TheVariants as Rebalance
+use Rattle.kw_world.specs.declared.activity.rebalance.replace.Replace.TheVariants as Replace
+use Rattle.kw_world.specs.declared.activity.rebalance.seek.Seek.TheVariants as Seek
+use Rattle.kw_world.specs.declared.activity.walk.Walk.TheVariants as Walk
+use Rattle.kw_world.specs.declared.activity.enter.Enter.TheVariants as Enter
+use Rattle.kw_world.specs.declared.activity.rebalance.gather.Gather.TheVariants as Gather
+use Rattle.kw_world.specs.declared.activity.read.Read.TheVariants as Read
+use Rattle.kw_world.specs.declared.activity.rebalance.write.Write.TheVariants as Write
 use Rattle.kw_world.specs.declared.local.Local.{Local}
 use Rattle.kw_world.specs.declared.event.Choice.{Choice}
 use Rattle.kw_world.specs.declared.event.Choice.TheVariants.{Begin, Go, Guess, Stop}
@@ -70,92 +83,100 @@ no_replaced None q t e = cc
 -- only a put that stamps its cell, or a reader that helps, exchanges a pending entry for a stamped
 -- one
 stamp_line : (z : Sizes) (v : Words) (s : ℕ) (choice : Choice) (l : Local) (a : Activity) (q t c version : ℕ) → (transition z a s choice l).operation.name ≡ name.Pend q t → (transition z a s choice l).operation.action ≡ Exchange (pend_word (pend.Pending c)) (pend_word (pend.Stamped c version)) → v (name.Pend q t) ≡ pend_word (pend.Pending c) →
-    (a ≡ Stamp) × (v (name.Pend l.row s) ≡ pend_word (pend.Pending l.cell)) ⊎ (a ≡ LookHelp) × (v (name.Pend l.row l.looked) ≡ pend_word (pend.Pending l.met))
-stamp_line z v s choice l Stamp q t c u n x f = inl (refl, ap v n ∙ f ∙ sym (same_exchange _ _ _ _ x))
-stamp_line z v s choice l LookHelp q t c u n x f = inr (refl, ap v n ∙ f ∙ sym (same_exchange _ _ _ _ x))
-stamp_line z v s choice l Announce q t c u n x f = absurd (pending_apart c (same_exchange _ _ _ _ x))
-stamp_line z v s choice l ScanSettle q t c u n x f = let y : name.Scan s ≡ name.Pend q t = n in absurd (cc)
-stamp_line z v s choice l Start q t c u n x f = absurd (starts choice x)
+    (a ≡ Activity.Put Put.Stamp) × (v (name.Pend l.row s) ≡ pend_word (pend.Pending l.cell)) ⊎ (a ≡ Activity.Look Look.Help) × (v (name.Pend l.row l.looked) ≡ pend_word (pend.Pending l.met))
+stamp_line z v s choice l (Activity.Put Put.Stamp) q t c u n x f = inl (refl, ap v n ∙ f ∙ sym (same_exchange _ _ _ _ x))
+stamp_line z v s choice l (Activity.Look Look.Help) q t c u n x f = inr (refl, ap v n ∙ f ∙ sym (same_exchange _ _ _ _ x))
+stamp_line z v s choice l (Activity.Put Put.Announce) q t c u n x f = absurd (pending_apart c (same_exchange _ _ _ _ x))
+stamp_line z v s choice l (Activity.Draw Draw.Settle) q t c u n x f = let y : name.Scan s ≡ name.Pend q t = n in absurd (cc)
+stamp_line z v s choice l (Activity.Walk Walk.Start) q t c u n x f = absurd (starts choice x)
   where
     starts : (d : Choice) → (start_transition d l).operation.action ≡ Exchange (pend_word (pend.Pending c)) (pend_word (pend.Stamped c u)) → ⊥
     starts (Begin call) y = cc
     starts Go y = cc
     starts (Guess d) y = cc
     starts Stop y = cc
-stamp_line z v s choice l Walk q t c u n x f = absurd (walks (is_stopped choice l) x)
+stamp_line z v s choice l (Activity.Walk Walk.Next) q t c u n x f = absurd (walks (is_stopped choice l) x)
   where
     walks : (b : Bool) → (walk_transition b s l).operation.action ≡ Exchange (pend_word (pend.Pending c)) (pend_word (pend.Stamped c u)) → ⊥
     walks true y = cc
     walks false y = cc
-stamp_line z v s choice l Insert q t c u n x f = no_link l.row l.link (name.Pend q t) refl (ap Some n)
-stamp_line z v s choice l (BalNormal seat) q t c u n x f = let y : name.State l.row ≡ name.Pend q t = n in absurd (cc)
-stamp_line z v s choice l Engage q t c u n x f = let y : name.State l.row ≡ name.Pend q t = n in absurd (cc)
-stamp_line z v s choice l (Decide count) q t c u n x f = let y : name.State l.row ≡ name.Pend q t = n in absurd (cc)
-stamp_line z v s choice l (Freeze i) q t c u n x f = absurd (stamped_apart c u (same_stored _ _ _ _ x))
-stamp_line z v s choice l (HelpSettle i) q t c u n x f = let y : name.Scan i ≡ name.Pend q t = n in absurd (cc)
-stamp_line z v s choice l Reclaim q t c u n x f = let y : name.State l.rebalance.sought ≡ name.Pend q t = n in absurd (cc)
-stamp_line z v s choice l TakeRow q t c u n x f = let y : name.State l.rebalance.sought ≡ name.Pend q t = n in absurd (cc)
-stamp_line z v s choice l SeekFirst q t c u n x f = absurd (seeks choice x)
+stamp_line z v s choice l (Activity.Insert Insert.Exchange) q t c u n x f = no_link l.row l.link (name.Pend q t) refl (ap Some n)
+stamp_line z v s choice l (Activity.Rebalance (Rebalance.Engage (Engage.Normal seat))) q t c u n x f = let y : name.State l.row ≡ name.Pend q t = n in absurd (cc)
+stamp_line z v s choice l (Activity.Rebalance (Rebalance.Engage Engage.Lead)) q t c u n x f = let y : name.State l.row ≡ name.Pend q t = n in absurd (cc)
+stamp_line z v s choice l (Activity.Rebalance (Rebalance.Engage (Engage.Decide count))) q t c u n x f = let y : name.State l.row ≡ name.Pend q t = n in absurd (cc)
+stamp_line z v s choice l (Activity.Rebalance (Rebalance.Freeze (Freeze.Entry i))) q t c u n x f = absurd (stamped_apart c u (same_stored _ _ _ _ x))
+stamp_line z v s choice l (Activity.Rebalance (Rebalance.Freeze (Freeze.Settle i))) q t c u n x f = let y : name.Scan i ≡ name.Pend q t = n in absurd (cc)
+stamp_line z v s choice l (Activity.Rebalance (Rebalance.Seek Seek.Reclaim)) q t c u n x f = let y : name.State l.rebalance.sought ≡ name.Pend q t = n in absurd (cc)
+stamp_line z v s choice l (Activity.Rebalance (Rebalance.Seek Seek.Take)) q t c u n x f = let y : name.State l.rebalance.sought ≡ name.Pend q t = n in absurd (cc)
+stamp_line z v s choice l (Activity.Rebalance (Rebalance.Seek Seek.First)) q t c u n x f = absurd (seeks choice x)
   where
     seeks : (d : Choice) → (seek_first_transition d l).operation.action ≡ Exchange (pend_word (pend.Pending c)) (pend_word (pend.Stamped c u)) → ⊥
     seeks (Begin call) y = cc
     seeks Go y = cc
     seeks (Guess d) y = cc
     seeks Stop y = cc
-stamp_line z v s choice l Before q t c u n x f = absurd (befores choice x)
+stamp_line z v s choice l (Activity.Rebalance (Rebalance.Replace Replace.Start)) q t c u n x f = absurd (befores choice x)
   where
     befores : (d : Choice) → (before_transition d l).operation.action ≡ Exchange (pend_word (pend.Pending c)) (pend_word (pend.Stamped c u)) → ⊥
     befores (Begin call) y = cc
     befores Go y = cc
     befores (Guess d) y = cc
     befores Stop y = cc
-stamp_line z v s choice l Replace q t c u n x f = absurd (no_replaced l.rebalance.before q t n)
-stamp_line z v s choice l Normalise q t c u n x f = let y : name.State (infant l) ≡ name.Pend q t = n in absurd (cc)
+stamp_line z v s choice l (Activity.Rebalance (Rebalance.Replace Replace.Exchange)) q t c u n x f = absurd (no_replaced l.rebalance.before q t n)
+stamp_line z v s choice l (Activity.Rebalance (Rebalance.Replace Replace.Normalise)) q t c u n x f = let y : name.State (infant l) ≡ name.Pend q t = n in absurd (cc)
+stamp_line z v s choice l (Activity.Enter Enter.Announce) q t c u n x f = absurd (cc)
+stamp_line z v s choice l (Activity.Read Read.Link) q t c u n x f = absurd (cc)
+stamp_line z v s choice l (Activity.Rebalance (Rebalance.Gather Gather.Link)) q t c u n x f = absurd (cc)
+stamp_line z v s choice l (Activity.Rebalance (Rebalance.Write Write.Count)) q t c u n x f = absurd (cc)
 stamp_line z v s choice l a q t c u n x f = absurd (cc)
 
 -- only a put that announces its cell exchanges an idle entry for a pending one
 announce_line : (z : Sizes) (v : Words) (s : ℕ) (choice : Choice) (l : Local) (a : Activity) (q t c : ℕ) → (transition z a s choice l).operation.name ≡ name.Pend q t → (transition z a s choice l).operation.action ≡ Exchange (pend_word pend.Idle) (pend_word (pend.Pending c)) → v (name.Pend q t) ≡ pend_word pend.Idle →
-    (a ≡ Announce) × (v (name.Pend l.row s) ≡ pend_word pend.Idle)
-announce_line z v s choice l Announce q t c n x f = (refl, ap v n ∙ f)
-announce_line z v s choice l Stamp q t c n x f = absurd (pending_apart l.cell (sym (same_exchange _ _ _ _ x)))
-announce_line z v s choice l LookHelp q t c n x f = absurd (pending_apart l.met (sym (same_exchange _ _ _ _ x)))
-announce_line z v s choice l ScanSettle q t c n x f = let y : name.Scan s ≡ name.Pend q t = n in absurd (cc)
-announce_line z v s choice l Start q t c n x f = absurd (starts choice x)
+    (a ≡ Activity.Put Put.Announce) × (v (name.Pend l.row s) ≡ pend_word pend.Idle)
+announce_line z v s choice l (Activity.Put Put.Announce) q t c n x f = (refl, ap v n ∙ f)
+announce_line z v s choice l (Activity.Put Put.Stamp) q t c n x f = absurd (pending_apart l.cell (sym (same_exchange _ _ _ _ x)))
+announce_line z v s choice l (Activity.Look Look.Help) q t c n x f = absurd (pending_apart l.met (sym (same_exchange _ _ _ _ x)))
+announce_line z v s choice l (Activity.Draw Draw.Settle) q t c n x f = let y : name.Scan s ≡ name.Pend q t = n in absurd (cc)
+announce_line z v s choice l (Activity.Walk Walk.Start) q t c n x f = absurd (starts choice x)
   where
     starts : (d : Choice) → (start_transition d l).operation.action ≡ Exchange (pend_word pend.Idle) (pend_word (pend.Pending c)) → ⊥
     starts (Begin call) y = cc
     starts Go y = cc
     starts (Guess u) y = cc
     starts Stop y = cc
-announce_line z v s choice l Walk q t c n x f = absurd (walks (is_stopped choice l) x)
+announce_line z v s choice l (Activity.Walk Walk.Next) q t c n x f = absurd (walks (is_stopped choice l) x)
   where
     walks : (b : Bool) → (walk_transition b s l).operation.action ≡ Exchange (pend_word pend.Idle) (pend_word (pend.Pending c)) → ⊥
     walks true y = cc
     walks false y = cc
-announce_line z v s choice l Insert q t c n x f = no_link l.row l.link (name.Pend q t) refl (ap Some n)
-announce_line z v s choice l (BalNormal seat) q t c n x f = let y : name.State l.row ≡ name.Pend q t = n in absurd (cc)
-announce_line z v s choice l Engage q t c n x f = let y : name.State l.row ≡ name.Pend q t = n in absurd (cc)
-announce_line z v s choice l (Decide count) q t c n x f = let y : name.State l.row ≡ name.Pend q t = n in absurd (cc)
-announce_line z v s choice l (Freeze i) q t c n x f = absurd (frozen_apart c (same_stored _ _ _ _ x))
-announce_line z v s choice l (HelpSettle i) q t c n x f = let y : name.Scan i ≡ name.Pend q t = n in absurd (cc)
-announce_line z v s choice l Reclaim q t c n x f = let y : name.State l.rebalance.sought ≡ name.Pend q t = n in absurd (cc)
-announce_line z v s choice l TakeRow q t c n x f = let y : name.State l.rebalance.sought ≡ name.Pend q t = n in absurd (cc)
-announce_line z v s choice l SeekFirst q t c n x f = absurd (seeks choice x)
+announce_line z v s choice l (Activity.Insert Insert.Exchange) q t c n x f = no_link l.row l.link (name.Pend q t) refl (ap Some n)
+announce_line z v s choice l (Activity.Rebalance (Rebalance.Engage (Engage.Normal seat))) q t c n x f = let y : name.State l.row ≡ name.Pend q t = n in absurd (cc)
+announce_line z v s choice l (Activity.Rebalance (Rebalance.Engage Engage.Lead)) q t c n x f = let y : name.State l.row ≡ name.Pend q t = n in absurd (cc)
+announce_line z v s choice l (Activity.Rebalance (Rebalance.Engage (Engage.Decide count))) q t c n x f = let y : name.State l.row ≡ name.Pend q t = n in absurd (cc)
+announce_line z v s choice l (Activity.Rebalance (Rebalance.Freeze (Freeze.Entry i))) q t c n x f = absurd (frozen_apart c (same_stored _ _ _ _ x))
+announce_line z v s choice l (Activity.Rebalance (Rebalance.Freeze (Freeze.Settle i))) q t c n x f = let y : name.Scan i ≡ name.Pend q t = n in absurd (cc)
+announce_line z v s choice l (Activity.Rebalance (Rebalance.Seek Seek.Reclaim)) q t c n x f = let y : name.State l.rebalance.sought ≡ name.Pend q t = n in absurd (cc)
+announce_line z v s choice l (Activity.Rebalance (Rebalance.Seek Seek.Take)) q t c n x f = let y : name.State l.rebalance.sought ≡ name.Pend q t = n in absurd (cc)
+announce_line z v s choice l (Activity.Rebalance (Rebalance.Seek Seek.First)) q t c n x f = absurd (seeks choice x)
   where
     seeks : (d : Choice) → (seek_first_transition d l).operation.action ≡ Exchange (pend_word pend.Idle) (pend_word (pend.Pending c)) → ⊥
     seeks (Begin call) y = cc
     seeks Go y = cc
     seeks (Guess d) y = cc
     seeks Stop y = cc
-announce_line z v s choice l Before q t c n x f = absurd (befores choice x)
+announce_line z v s choice l (Activity.Rebalance (Rebalance.Replace Replace.Start)) q t c n x f = absurd (befores choice x)
   where
     befores : (d : Choice) → (before_transition d l).operation.action ≡ Exchange (pend_word pend.Idle) (pend_word (pend.Pending c)) → ⊥
     befores (Begin call) y = cc
     befores Go y = cc
     befores (Guess d) y = cc
     befores Stop y = cc
-announce_line z v s choice l Replace q t c n x f = absurd (no_replaced l.rebalance.before q t n)
-announce_line z v s choice l Normalise q t c n x f = let y : name.State (infant l) ≡ name.Pend q t = n in absurd (cc)
+announce_line z v s choice l (Activity.Rebalance (Rebalance.Replace Replace.Exchange)) q t c n x f = absurd (no_replaced l.rebalance.before q t n)
+announce_line z v s choice l (Activity.Rebalance (Rebalance.Replace Replace.Normalise)) q t c n x f = let y : name.State (infant l) ≡ name.Pend q t = n in absurd (cc)
+announce_line z v s choice l (Activity.Enter Enter.Announce) q t c n x f = absurd (cc)
+announce_line z v s choice l (Activity.Read Read.Link) q t c n x f = absurd (cc)
+announce_line z v s choice l (Activity.Rebalance (Rebalance.Gather Gather.Link)) q t c n x f = absurd (cc)
+announce_line z v s choice l (Activity.Rebalance (Rebalance.Write Write.Count)) q t c n x f = absurd (cc)
 announce_line z v s choice l a q t c n x f = absurd (cc)
 
 -- One more event.
@@ -173,10 +194,10 @@ module _ (z : Sizes) (o : Opening) (es : List Event) (e : Event) (r r' : Run) (l
   noted_here b is = h.history ∙ ap (λ c. noted r.history it (change_of z c e.seat (offered r.world.rows e.choice) l (found_at z (word z r.world) c e.seat (offered r.world.rows e.choice) l) (r.seats e.seat) r.origin)) is
 
   -- an attempt that is announced now
-  announced_now : (x : ℕ) → x ≡ length r.history.log → a ≡ Announce → word z r.world (name.Pend l.row e.seat) ≡ pend_word pend.Idle → IsAnnouncementOf r'.history x
+  announced_now : (x : ℕ) → x ≡ length r.history.log → a ≡ Activity.Put Put.Announce → word z r.world (name.Pend l.row e.seat) ≡ pend_word pend.Idle → IsAnnouncementOf r'.history x
   announced_now x at is idle =
       let own = i.puts.owns e.seat l h.knows (subst IsPutting (sym (h.activity ∙ is)) tt) in
-      let f : r'.history ≡ noted r.history it (Announces (r.seats e.seat).own) = noted_here Announce is ∙ ap (noted r.history it) (chosen (word z r.world (name.Pend l.row e.seat)) (pend_word pend.Idle) (Announces (r.seats e.seat).own) Nothing idle) in
+      let f : r'.history ≡ noted r.history it (Announces (r.seats e.seat).own) = noted_here (Activity.Put Put.Announce) is ∙ ap (noted r.history it) (chosen (word z r.world (name.Pend l.row e.seat)) (pend_word pend.Idle) (Announces (r.seats e.seat).own) Nothing idle) in
       let g = attempt_set_same r.history r'.history (r.seats e.seat).own _ (ap (λ (q : History). q.attempts) f) own.within in
       record {
         place = (r.seats e.seat).own;
@@ -197,15 +218,15 @@ module _ (z : Sizes) (o : Opening) (es : List Event) (e : Event) (r r' : Run) (l
       }
 
   -- by its own seat, or by a reader that helps
-  stamps_now : (x : ℕ) → x ≡ length r.history.log → (a ≡ Stamp) × (word z r.world (name.Pend l.row e.seat) ≡ pend_word (pend.Pending l.cell)) ⊎ (a ≡ LookHelp) × (word z r.world (name.Pend l.row l.looked) ≡ pend_word (pend.Pending l.met)) → IsStampOf r'.history x
+  stamps_now : (x : ℕ) → x ≡ length r.history.log → (a ≡ Activity.Put Put.Stamp) × (word z r.world (name.Pend l.row e.seat) ≡ pend_word (pend.Pending l.cell)) ⊎ (a ≡ Activity.Look Look.Help) × (word z r.world (name.Pend l.row l.looked) ≡ pend_word (pend.Pending l.met)) → IsStampOf r'.history x
   stamps_now x at (inl f) =
       let own = i.puts.owns e.seat l h.knows (subst IsPutting (sym (h.activity ∙ f.0)) tt) in
       stamped_now x (r.seats e.seat).own l.version (r.seats e.seat).loaded at own.within
-      (noted_here Stamp f.0 ∙ ap (noted r.history it) (chosen (word z r.world (name.Pend l.row e.seat)) (pend_word (pend.Pending l.cell)) (Stamps (r.seats e.seat).own l.version (r.seats e.seat).loaded) Nothing f.1))
+      (noted_here (Activity.Put Put.Stamp) f.0 ∙ ap (noted r.history it) (chosen (word z r.world (name.Pend l.row e.seat)) (pend_word (pend.Pending l.cell)) (Stamps (r.seats e.seat).own l.version (r.seats e.seat).loaded) Nothing f.1))
   stamps_now x at (inr f) =
       let helped = i.puts.helps e.seat l h.knows (subst HasMet (sym (h.activity ∙ f.0)) tt) in
       stamped_now x helped.put l.helping (r.seats e.seat).loaded at (announced_within r.history helped.put helped.announced)
-      (noted_here LookHelp f.0 ∙ ap (noted r.history it) (chosen (word z r.world (name.Pend l.row l.looked)) (pend_word (pend.Pending l.met)) (helping (r.origin l.row l.met) l.helping (r.seats e.seat).loaded) Nothing f.1 ∙ ap (λ (p : Option ℕ). helping p l.helping (r.seats e.seat).loaded) helped.origin))
+      (noted_here (Activity.Look Look.Help) f.0 ∙ ap (noted r.history it) (chosen (word z r.world (name.Pend l.row l.looked)) (pend_word (pend.Pending l.met)) (helping (r.origin l.row l.met) l.helping (r.seats e.seat).loaded) Nothing f.1 ∙ ap (λ (p : Option ℕ). helping p l.helping (r.seats e.seat).loaded) helped.origin))
 
   -- an operation that stands at the end is that of the event's line, and the word is the one that
   -- it found

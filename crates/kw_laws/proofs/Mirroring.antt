@@ -9,7 +9,8 @@ use Rattle.kw_model.specs.declared.call.Reply.{Reply}
 use Rattle.kw_world.specs.declared.answer.Answer.{Answer}
 use Rattle.kw_world.specs.Answers.{reply_of}
 use Rattle.kw_world.specs.declared.activity.Activity.{Activity}
-use Rattle.kw_world.specs.declared.activity.Activity.TheVariants.{Idle, PutClock, LookClock, Leave}
+use Rattle.kw_world.specs.declared.activity.look.Look.TheVariants as Look
+use Rattle.kw_world.specs.declared.activity.put.Put.TheVariants as Put
 use Rattle.kw_world.specs.declared.local.Local.{Local}
 use Rattle.kw_world.specs.declared.event.Choice.{Choice}
 use Rattle.kw_world.specs.declared.event.Choice.TheVariants.{Begin, Go, Guess, Stop}
@@ -48,8 +49,8 @@ pub record Kept (z : Sizes) (o : Opening) (es : List Event) (r : Run) : Type 0 w
   pub numbers : (t : ℕ) (l : Local) → slice_get r.world.locals t ≡ Some l → l.number ≡ begun z o t es
   pub running : (x t : ℕ) (l : Local) → x < length r.history.calls → (called r.history x).end ≡ None → (called r.history x).seat ≡ t → slice_get r.world.locals t ≡ Some l → IsBusy l.activity × ((r.seats t).call ≡ x)
   pub loads : (t : ℕ) → NoLoad z o es t (r.seats t).loaded (length es)
-  pub stamp : (t : ℕ) (l : Local) → slice_get r.world.locals t ≡ Some l → IsStamp l.activity → Acts z o es (r.seats t).loaded t PutClock (operation kind.LoadClock name.Clock Load) l.version
-  pub help : (t : ℕ) (l : Local) → slice_get r.world.locals t ≡ Some l → IsHelp l.activity → Acts z o es (r.seats t).loaded t LookClock (operation kind.LoadClock name.Clock Load) l.helping
+  pub stamp : (t : ℕ) (l : Local) → slice_get r.world.locals t ≡ Some l → IsStamp l.activity → Acts z o es (r.seats t).loaded t (Activity.Put Put.Clock) (operation kind.LoadClock name.Clock Load) l.version
+  pub help : (t : ℕ) (l : Local) → slice_get r.world.locals t ≡ Some l → IsHelp l.activity → Acts z o es (r.seats t).loaded t (Activity.Look Look.Clock) (operation kind.LoadClock name.Clock Load) l.helping
 
 -- The choice that was offered.
 
@@ -110,7 +111,7 @@ module _ (z : Sizes) (o : Opening) (es : List Event) (e : Event) (r r' : Run) (l
           met b false x = other b x
             where
               other : (b : Activity) → is_skipped b Go ≡ false → is_skipped b (Guess q) ≡ false
-              other Idle x = x
+              other Activity.Idle x = x
               other _ x = refl
       moved b Stop g = g
 
@@ -123,15 +124,15 @@ module _ (z : Sizes) (o : Opening) (es : List Event) (e : Event) (r r' : Run) (l
   kind_here = kind_of-moved z r.world e l h.knows moves_here ∙ ap (λ (x : Transition). Some x.operation.kind) transition_here
 
   -- an event that ends a call is of a seat that was about to leave
-  pub leaves_here : (reply : Reply) → (step z r.world e).done ≡ Ended reply → (answer : Answer) × (a ≡ Leave answer) × (reply ≡ reply_of answer l.pairs)
+  pub leaves_here : (reply : Reply) → (step z r.world e).done ≡ Ended reply → (answer : Answer) × (a ≡ Activity.Leave answer) × (reply ≡ reply_of answer l.pairs)
   leaves_here reply d = ends_leaving z a e.seat (offered r.world.rows e.choice) l r.world.rows (told_by (transition z a e.seat (offered r.world.rows e.choice) l).operation.action (found_at z (word z r.world) a e.seat (offered r.world.rows e.choice) l)) reply h.moves (sym step_here ∙ d)
 
   -- the event of a seat that was about to leave ends its call
-  pub ends_here : (answer : Answer) → a ≡ Leave answer → (step z r.world e).done ≡ Ended (reply_of answer l.pairs)
+  pub ends_here : (answer : Answer) → a ≡ Activity.Leave answer → (step z r.world e).done ≡ Ended (reply_of answer l.pairs)
   ends_here answer is = step_here ∙ ap (λ b. (followed r.world.rows (transition z b e.seat (offered r.world.rows e.choice) l) (found_at z (word z r.world) b e.seat (offered r.world.rows e.choice) l)).done) is
 
   -- and the seat's call has ended then
-  pub ended_here : (answer : Answer) → a ≡ Leave answer → (r.seats e.seat).call < length r.history.calls → (called r'.history (r.seats e.seat).call).end ≡ Some (record { at = length r.history.log; reply = reply_of answer l.pairs })
+  pub ended_here : (answer : Answer) → a ≡ Activity.Leave answer → (r.seats e.seat).call < length r.history.calls → (called r'.history (r.seats e.seat).call).end ≡ Some (record { at = length r.history.log; reply = reply_of answer l.pairs })
   ended_here answer is w =
       let f = subst (λ b. r'.history ≡ noted r.history (logged e.seat (transition z a e.seat (offered r.world.rows e.choice) l).operation.kind (word z r.world name.Clock)) (change_of z b e.seat (offered r.world.rows e.choice) l (found_at z (word z r.world) a e.seat (offered r.world.rows e.choice) l) (r.seats e.seat) r.origin)) is h.history in
       ap (λ (c : CallLog). c.end) (called_set_same r.history r'.history (r.seats e.seat).call _ (ap (λ x. x.calls) f) w)

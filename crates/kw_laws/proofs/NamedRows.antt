@@ -11,7 +11,20 @@ use Rattle.kw_rows.specs.Rows.{Chain}
 use Rattle.kw_rows.specs.States.{HasState, IsDeadState, IsLiveState, States}
 use Rattle.kw_rows.proofs.Framed.{dead_state}
 use Rattle.kw_world.specs.declared.activity.Activity.{Activity}
-use Rattle.kw_world.specs.declared.activity.Activity.TheVariants.{Idle, Enter, Start, GuessMin, Walk, WalkMin, Look, LookKey, LookHelp, ListFrom, ListKey, ListVer, ListVal, RestKey, RestVal, PutCount, PutAdd, PutKey, PutValue, Announce, Stamp, PutVersion, InsFrom, InsKey, InsVer, InsSet, Insert, PutClear, AgainEpoch, MarkLink, FreezeCount, FreezeLook, Freeze, TakeFrom, TakeKey, TakeVersion, TakeValue, TakeRestKey, TakeRestValue, SeekFirst, WriteCount, WriteMin, WriteNext, WriteFirst, WritePend, WriteKey, WriteValue, WriteVersion, WriteAfter, Before, BeforeGuess, BeforeLink, BeforeMin, Replace}
+use Rattle.kw_world.specs.declared.activity.rebalance.engage.Engage.TheVariants as Engage
+use Rattle.kw_world.specs.declared.activity.enter.Enter.TheVariants as Enter
+use Rattle.kw_world.specs.declared.activity.rebalance.freeze.Freeze.TheVariants as Freeze
+use Rattle.kw_world.specs.declared.activity.rebalance.gather.Gather.TheVariants as Gather
+use Rattle.kw_world.specs.declared.activity.insert.Insert.TheVariants as Insert
+use Rattle.kw_world.specs.declared.activity.look.Look.TheVariants as Look
+use Rattle.kw_world.specs.declared.activity.put.Put.TheVariants as Put
+use Rattle.kw_world.specs.declared.activity.read.Read.TheVariants as Read
+use Rattle.kw_world.specs.declared.activity.rebalance.Rebalance.TheVariants as Rebalance
+use Rattle.kw_world.specs.declared.activity.rebalance.replace.Replace.TheVariants as Replace
+use Rattle.kw_world.specs.declared.activity.rebalance.seek.Seek.TheVariants as Seek
+use Rattle.kw_world.specs.declared.activity.walk.Walk.TheVariants as Walk
+use Rattle.kw_world.specs.declared.activity.rebalance.write.Write.TheVariants as Write
+use Rattle.kw_world.specs.declared.activity.draw.Draw.TheVariants as Draw
 use Rattle.kw_world.specs.declared.event.Choice.{Choice}
 use Rattle.kw_world.specs.declared.event.Choice.TheVariants.{Begin, Go, Guess, Stop}
 use Rattle.kw_world.specs.declared.local.Local.{Local}
@@ -39,10 +52,10 @@ use Rattle.kw_laws.specs.Reach.{IsNamed, IsRowWord, names_row, names_candidate, 
 -- Which rows a seat names.
 
 -- an activity of a family that has none out of a pass is in one
-passing_by : (P : Activity → Type 0) → (P Idle → ⊥) → (P Enter → ⊥) → (P AgainEpoch → ⊥) → (a : Activity) → P a → IsPassing a
-passing_by P idle enter again Idle x = absurd (idle x)
-passing_by P idle enter again Enter x = absurd (enter x)
-passing_by P idle enter again AgainEpoch x = absurd (again x)
+passing_by : (P : Activity → Type 0) → (P Activity.Idle → ⊥) → (P (Activity.Enter Enter.Announce) → ⊥) → (P (Activity.Enter Enter.LoadEpoch) → ⊥) → (a : Activity) → P a → IsPassing a
+passing_by P idle enter again Activity.Idle x = absurd (idle x)
+passing_by P idle enter again (Activity.Enter Enter.Announce) x = absurd (enter x)
+passing_by P idle enter again (Activity.Enter Enter.LoadEpoch) x = absurd (again x)
 passing_by P idle enter again _ x = tt
 
 -- a seat that names a row is in a pass
@@ -57,14 +70,15 @@ named_passes a l q (names_new x i e) = passing_by IsNormalising (λ y. y) (λ y.
 
 -- it may name the row of its walk, or at which it is
 row_fresh : (v : Words) (g : Ledger) (t : ℕ) (a : Activity) (l : Local) → Walks v g t a l → HasRow a → IsFresh g t l.row
-row_fresh v g t GuessMin l w x = w.on
-row_fresh v g t Walk l w x = w.on.0
-row_fresh v g t WalkMin l w x = w.on.0
+row_fresh v g t (Activity.Walk Walk.GuessedLeast) l w x = w.on
+row_fresh v g t (Activity.Walk Walk.Next) l w x = w.on.0
+row_fresh v g t (Activity.Walk Walk.NextLeast) l w x = w.on.0
+row_fresh v g t (Activity.Put Put.Count) l w x = (w.at x).fresh
 row_fresh v g t _ l w x = (w.at x).fresh
 
 -- and the one that it has met next
 candidate_fresh : (v : Words) (g : Ledger) (t : ℕ) (a : Activity) (l : Local) → Walks v g t a l → HasCandidate a → IsFresh g t l.candidate
-candidate_fresh v g t WalkMin l w x = w.on.2
+candidate_fresh v g t (Activity.Walk Walk.NextLeast) l w x = w.on.2
 candidate_fresh v g t _ l w x = absurd x
 
 -- whatever it names it may name
@@ -121,77 +135,69 @@ nursed_row a l q n w = subst (IsNursedRow a l) (sym w) n
 -- alone
 pub touched : (z : Sizes) (s : ℕ) (choice : Choice) (l : Local) (a : Activity) (q : ℕ) → (HasBefore a l → (p : ℕ) × (l.rebalance.before ≡ Some p)) → (HasAtHand (nursing_of a) → l.rebalance.at < length l.rebalance.taken) →
     IsRowWord (transition z a s choice l).operation.name q → IsNamed a l q ⊎ IsNursedRow a l q
-touched z s choice l Start q some hand w = starts choice w
+touched z s choice l (Activity.Walk Walk.Start) q some hand w = starts choice w
   where
-    starts : (c : Choice) → IsRowWord (start_transition c l).operation.name q → IsNamed Start l q ⊎ IsNursedRow Start l q
+    starts : (c : Choice) → IsRowWord (start_transition c l).operation.name q → IsNamed (Activity.Walk Walk.Start) l q ⊎ IsNursedRow (Activity.Walk Walk.Start) l q
     starts (Begin call) x = absurd x
     starts Go x = absurd x
     starts (Guess r) x = absurd x
     starts Stop x = absurd x
-touched z s choice l GuessMin q some hand w = inl (names_row tt w)
-touched z s choice l Walk q some hand w = walks (is_stopped choice l) w
+touched z s choice l (Activity.Walk Walk.GuessedLeast) q some hand w = inl (names_row tt w)
+touched z s choice l (Activity.Walk Walk.Next) q some hand w = walks (is_stopped choice l) w
   where
-    walks : (b : Bool) → IsRowWord (walk_transition b s l).operation.name q → IsNamed Walk l q ⊎ IsNursedRow Walk l q
+    walks : (b : Bool) → IsRowWord (walk_transition b s l).operation.name q → IsNamed (Activity.Walk Walk.Next) l q ⊎ IsNursedRow (Activity.Walk Walk.Next) l q
     walks true x = absurd x
     walks false x = inl (names_row tt x)
-touched z s choice l WalkMin q some hand w = inl (names_candidate tt w)
-touched z s choice l (Look i) q some hand w = inl (names_row tt w)
-touched z s choice l LookKey q some hand w = inl (names_row tt w)
-touched z s choice l LookHelp q some hand w = inl (names_row tt w)
-touched z s choice l ListFrom q some hand w = inl (names_row tt (link_row l.row q l.link w))
-touched z s choice l ListKey q some hand w = inl (names_row tt w)
-touched z s choice l ListVer q some hand w = inl (names_row tt w)
-touched z s choice l ListVal q some hand w = inl (names_row tt w)
-touched z s choice l RestKey q some hand w = inl (names_row tt w)
-touched z s choice l RestVal q some hand w = inl (names_row tt w)
-touched z s choice l PutCount q some hand w = inl (names_row tt w)
-touched z s choice l PutAdd q some hand w = inl (names_row tt w)
-touched z s choice l PutKey q some hand w = inl (names_row tt w)
-touched z s choice l PutValue q some hand w = inl (names_row tt w)
-touched z s choice l Announce q some hand w = inl (names_row tt w)
-touched z s choice l Stamp q some hand w = inl (names_row tt w)
-touched z s choice l PutVersion q some hand w = inl (names_row tt w)
-touched z s choice l InsFrom q some hand w = inl (names_row tt (link_row l.row q l.link w))
-touched z s choice l InsKey q some hand w = inl (names_row tt w)
-touched z s choice l InsVer q some hand w = inl (names_row tt w)
-touched z s choice l InsSet q some hand w = inl (names_row tt w)
-touched z s choice l Insert q some hand w = inl (names_row tt (link_row l.row q l.link w))
-touched z s choice l PutClear q some hand w = inl (names_row tt w)
-touched z s choice l (MarkLink count) q some hand w = inl (names_full tt w)
-touched z s choice l FreezeCount q some hand w = inl (names_full tt w)
-touched z s choice l (FreezeLook i) q some hand w = inl (names_full tt w)
-touched z s choice l (Freeze i) q some hand w = inl (names_full tt w)
-touched z s choice l TakeFrom q some hand w = inl (names_full tt (link_row l.row q l.link w))
-touched z s choice l TakeKey q some hand w = inl (names_full tt w)
-touched z s choice l TakeVersion q some hand w = inl (names_full tt w)
-touched z s choice l TakeValue q some hand w = inl (names_full tt w)
-touched z s choice l TakeRestKey q some hand w = inl (names_full tt w)
-touched z s choice l TakeRestValue q some hand w = inl (names_full tt w)
-touched z s choice l SeekFirst q some hand w = seeks choice w
+touched z s choice l (Activity.Walk Walk.NextLeast) q some hand w = inl (names_candidate tt w)
+touched z s choice l (Activity.Look (Look.Entry i)) q some hand w = inl (names_row tt w)
+touched z s choice l (Activity.Look Look.Key) q some hand w = inl (names_row tt w)
+touched z s choice l (Activity.Look Look.Help) q some hand w = inl (names_row tt w)
+touched z s choice l (Activity.Read Read.Link) q some hand w = inl (names_row tt (link_row l.row q l.link w))
+touched z s choice l (Activity.Read _) q some hand w = inl (names_row tt w)
+touched z s choice l (Activity.Put Put.Count) q some hand w = inl (names_row tt w)
+touched z s choice l (Activity.Put Put.Add) q some hand w = inl (names_row tt w)
+touched z s choice l (Activity.Put Put.Key) q some hand w = inl (names_row tt w)
+touched z s choice l (Activity.Put Put.Value) q some hand w = inl (names_row tt w)
+touched z s choice l (Activity.Put Put.Announce) q some hand w = inl (names_row tt w)
+touched z s choice l (Activity.Put Put.Stamp) q some hand w = inl (names_row tt w)
+touched z s choice l (Activity.Put Put.Version) q some hand w = inl (names_row tt w)
+touched z s choice l (Activity.Insert Insert.Link) q some hand w = inl (names_row tt (link_row l.row q l.link w))
+touched z s choice l (Activity.Insert Insert.Exchange) q some hand w = inl (names_row tt (link_row l.row q l.link w))
+touched z s choice l (Activity.Insert _) q some hand w = inl (names_row tt w)
+touched z s choice l (Activity.Put Put.Clear) q some hand w = inl (names_row tt w)
+touched z s choice l (Activity.Rebalance (Rebalance.Engage (Engage.MarkLink count))) q some hand w = inl (names_full tt w)
+touched z s choice l (Activity.Rebalance (Rebalance.Freeze Freeze.Count)) q some hand w = inl (names_full tt w)
+touched z s choice l (Activity.Rebalance (Rebalance.Freeze (Freeze.Look i))) q some hand w = inl (names_full tt w)
+touched z s choice l (Activity.Rebalance (Rebalance.Freeze (Freeze.Entry i))) q some hand w = inl (names_full tt w)
+touched z s choice l (Activity.Rebalance (Rebalance.Gather Gather.Link)) q some hand w = inl (names_full tt (link_row l.row q l.link w))
+touched z s choice l (Activity.Rebalance (Rebalance.Gather _)) q some hand w = inl (names_full tt w)
+touched z s choice l (Activity.Rebalance (Rebalance.Seek Seek.First)) q some hand w = seeks choice w
   where
-    seeks : (c : Choice) → IsRowWord (seek_first_transition c l).operation.name q → IsNamed SeekFirst l q ⊎ IsNursedRow SeekFirst l q
+    seeks : (c : Choice) → IsRowWord (seek_first_transition c l).operation.name q → IsNamed (Activity.Rebalance (Rebalance.Seek Seek.First)) l q ⊎ IsNursedRow (Activity.Rebalance (Rebalance.Seek Seek.First)) l q
     seeks (Begin call) x = absurd x
     seeks Go x = absurd x
     seeks (Guess r) x = absurd x
     seeks Stop x = absurd x
-touched z s choice l WriteCount q some hand w = inr (nursed_row WriteCount l q (l.rebalance.at, tt, infant_at l (hand tt)) w)
-touched z s choice l WriteMin q some hand w = inr (nursed_row WriteMin l q (l.rebalance.at, tt, infant_at l (hand tt)) w)
-touched z s choice l WriteNext q some hand w = inr (nursed_row WriteNext l q (l.rebalance.at, tt, infant_at l (hand tt)) w)
-touched z s choice l WriteFirst q some hand w = inr (nursed_row WriteFirst l q (l.rebalance.at, tt, infant_at l (hand tt)) w)
-touched z s choice l (WritePend i) q some hand w = inr (nursed_row (WritePend i) l q (l.rebalance.at, tt, infant_at l (hand tt)) w)
-touched z s choice l (WriteKey j) q some hand w = inr (nursed_row (WriteKey j) l q (l.rebalance.at, tt, infant_at l (hand tt)) w)
-touched z s choice l (WriteValue j) q some hand w = inr (nursed_row (WriteValue j) l q (l.rebalance.at, tt, infant_at l (hand tt)) w)
-touched z s choice l (WriteVersion j) q some hand w = inr (nursed_row (WriteVersion j) l q (l.rebalance.at, tt, infant_at l (hand tt)) w)
-touched z s choice l (WriteAfter j) q some hand w = inr (nursed_row (WriteAfter j) l q (l.rebalance.at, tt, infant_at l (hand tt)) w)
-touched z s choice l Before q some hand w = begins choice w
+touched z s choice l (Activity.Rebalance (Rebalance.Write Write.Count)) q some hand w = inr (nursed_row (Activity.Rebalance (Rebalance.Write Write.Count)) l q (l.rebalance.at, tt, infant_at l (hand tt)) w)
+touched z s choice l (Activity.Rebalance (Rebalance.Write Write.Least)) q some hand w = inr (nursed_row (Activity.Rebalance (Rebalance.Write Write.Least)) l q (l.rebalance.at, tt, infant_at l (hand tt)) w)
+touched z s choice l (Activity.Rebalance (Rebalance.Write Write.Next)) q some hand w = inr (nursed_row (Activity.Rebalance (Rebalance.Write Write.Next)) l q (l.rebalance.at, tt, infant_at l (hand tt)) w)
+touched z s choice l (Activity.Rebalance (Rebalance.Write Write.First)) q some hand w = inr (nursed_row (Activity.Rebalance (Rebalance.Write Write.First)) l q (l.rebalance.at, tt, infant_at l (hand tt)) w)
+touched z s choice l (Activity.Rebalance (Rebalance.Write (Write.Entry i))) q some hand w = inr (nursed_row (Activity.Rebalance (Rebalance.Write (Write.Entry i))) l q (l.rebalance.at, tt, infant_at l (hand tt)) w)
+touched z s choice l (Activity.Rebalance (Rebalance.Write (Write.Key j))) q some hand w = inr (nursed_row (Activity.Rebalance (Rebalance.Write (Write.Key j))) l q (l.rebalance.at, tt, infant_at l (hand tt)) w)
+touched z s choice l (Activity.Rebalance (Rebalance.Write (Write.Value j))) q some hand w = inr (nursed_row (Activity.Rebalance (Rebalance.Write (Write.Value j))) l q (l.rebalance.at, tt, infant_at l (hand tt)) w)
+touched z s choice l (Activity.Rebalance (Rebalance.Write (Write.Version j))) q some hand w = inr (nursed_row (Activity.Rebalance (Rebalance.Write (Write.Version j))) l q (l.rebalance.at, tt, infant_at l (hand tt)) w)
+touched z s choice l (Activity.Rebalance (Rebalance.Write (Write.After j))) q some hand w = inr (nursed_row (Activity.Rebalance (Rebalance.Write (Write.After j))) l q (l.rebalance.at, tt, infant_at l (hand tt)) w)
+touched z s choice l (Activity.Rebalance (Rebalance.Replace Replace.Start)) q some hand w = begins choice w
   where
-    begins : (c : Choice) → IsRowWord (before_transition c l).operation.name q → IsNamed Before l q ⊎ IsNursedRow Before l q
+    begins : (c : Choice) → IsRowWord (before_transition c l).operation.name q → IsNamed (Activity.Rebalance (Rebalance.Replace Replace.Start)) l q ⊎ IsNursedRow (Activity.Rebalance (Rebalance.Replace Replace.Start)) l q
     begins (Begin call) x = absurd x
     begins Go x = absurd x
     begins (Guess r) x = absurd x
     begins Stop x = absurd x
-touched z s choice l BeforeGuess q some hand w = inl (names_before tt (before_row l.rebalance.before q (some tt) w))
-touched z s choice l BeforeLink q some hand w = inl (names_before tt (before_row l.rebalance.before q (some tt) w))
-touched z s choice l BeforeMin q some hand w = inl (names_met tt w)
-touched z s choice l Replace q some hand w = inl (names_before tt (replaced_row l.rebalance.before q w))
+touched z s choice l (Activity.Rebalance (Rebalance.Replace Replace.GuessedLeast)) q some hand w = inl (names_before tt (before_row l.rebalance.before q (some tt) w))
+touched z s choice l (Activity.Rebalance (Rebalance.Replace Replace.Next)) q some hand w = inl (names_before tt (before_row l.rebalance.before q (some tt) w))
+touched z s choice l (Activity.Rebalance (Rebalance.Replace Replace.NextLeast)) q some hand w = inl (names_met tt w)
+touched z s choice l (Activity.Rebalance (Rebalance.Replace Replace.Exchange)) q some hand w = inl (names_before tt (replaced_row l.rebalance.before q w))
+touched z s choice l (Activity.Enter Enter.Announce) q some hand w = absurd w
+touched z s choice l (Activity.Draw Draw.Clock) q some hand w = absurd w
 touched z s choice l _ q some hand w = absurd w

@@ -10,7 +10,10 @@ use Rattle.kw_model.specs.declared.call.Call.{Call}
 use Rattle.kw_world.specs.declared.answer.Answer.{Answer}
 use Rattle.kw_world.specs.Answers.{reply_of}
 use Rattle.kw_world.specs.declared.activity.Activity.{Activity}
-use Rattle.kw_world.specs.declared.activity.Activity.TheVariants.{Idle, LookHelp, Announce, Stamp, Leave, Freeze}
+use Rattle.kw_world.specs.declared.activity.rebalance.freeze.Freeze.TheVariants as Freeze
+use Rattle.kw_world.specs.declared.activity.look.Look.TheVariants as Look
+use Rattle.kw_world.specs.declared.activity.put.Put.TheVariants as Put
+use Rattle.kw_world.specs.declared.activity.rebalance.Rebalance.TheVariants as Rebalance
 use Rattle.kw_world.specs.declared.local.Local.{Local}
 use Rattle.kw_world.specs.declared.event.Choice.{Choice}
 use Rattle.kw_world.specs.declared.event.Choice.TheVariants.{Begin}
@@ -35,13 +38,13 @@ use Rattle.kw_core.proofs.Changes.{Makes, makes_nothing, makes_begin, makes_add,
 -- stamped; or it is helped; or the seat freezes its entry, and it is lost
 pub data AttemptOver (v : Words) (h h' : History) (s : ℕ) (l : Local) (g : SeatLog) (o : Origins) (a : Activity) (p : ℕ) : Type 0 where
   stays : attempt h' p ≡ attempt h p → AttemptOver v h h' s l g o a p
-  is_announced : a ≡ Announce → p ≡ g.own → v (name.Pend l.row s) ≡ pend_word pend.Idle →
+  is_announced : a ≡ Activity.Put Put.Announce → p ≡ g.own → v (name.Pend l.row s) ≡ pend_word pend.Idle →
       attempt h' p ≡ record (attempt h p) { is_announced = true; announced = length h.log } → AttemptOver v h h' s l g o a p
-  is_stamped : a ≡ Stamp → p ≡ g.own → v (name.Pend l.row s) ≡ pend_word (pend.Pending l.cell) →
+  is_stamped : a ≡ Activity.Put Put.Stamp → p ≡ g.own → v (name.Pend l.row s) ≡ pend_word (pend.Pending l.cell) →
       attempt h' p ≡ record (attempt h p) { is_stamped = true; version = l.version; load = g.loaded; at = length h.log } → AttemptOver v h h' s l g o a p
-  is_helped : a ≡ LookHelp → o l.row l.met ≡ Some p → v (name.Pend l.row l.looked) ≡ pend_word (pend.Pending l.met) →
+  is_helped : a ≡ Activity.Look Look.Help → o l.row l.met ≡ Some p → v (name.Pend l.row l.looked) ≡ pend_word (pend.Pending l.met) →
       attempt h' p ≡ record (attempt h p) { is_stamped = true; version = l.helping; load = g.loaded; at = length h.log } → AttemptOver v h h' s l g o a p
-  is_lost : (i c : ℕ) → a ≡ Freeze i → l.rebalance.entry ≡ pend.Pending c → o l.row c ≡ Some p → v (name.Pend l.row i) ≡ pend_word (pend.Pending c) →
+  is_lost : (i c : ℕ) → a ≡ Activity.Rebalance (Rebalance.Freeze (Freeze.Entry i)) → l.rebalance.entry ≡ pend.Pending c → o l.row c ≡ Some p → v (name.Pend l.row i) ≡ pend_word (pend.Pending c) →
       attempt h' p ≡ record (attempt h p) { is_lost = true } → AttemptOver v h h' s l g o a p
 
 -- the new attempt of a set list
@@ -54,22 +57,22 @@ attempt_over h h' e z v s choice l g o a c (makes_begin call m) n p w = stays (a
 attempt_over h h' e z v s choice l g o a c (makes_add m) n p w = stays (attempt_left h h' e p (Adds g.call s (first_key l.call) (put_value l.call) l.row (given_of (count_of (v (name.Count l.row))))) tt n w)
 attempt_over h h' e z v s choice l g o a c (makes_announce m) n p w = which (cases_eq p g.own)
   where
-    which : (p ≡ g.own) ⊎ (p ≡ g.own → ⊥) → AttemptOver v h h' s l g o Announce p
+    which : (p ≡ g.own) ⊎ (p ≡ g.own → ⊥) → AttemptOver v h h' s l g o (Activity.Put Put.Announce) p
     which (inl i) = is_announced refl i m (set_now h h' p g.own _ (ap (λ (x : History). x.attempts) n) i w ∙ ap (λ x. record (attempt h x) { is_announced = true; announced = length h.log }) (sym i))
     which (inr d) = stays (attempt_left h h' e p (Announces g.own) d n w)
 attempt_over h h' e z v s choice l g o a c (makes_stamp m) n p w = which (cases_eq p g.own)
   where
-    which : (p ≡ g.own) ⊎ (p ≡ g.own → ⊥) → AttemptOver v h h' s l g o Stamp p
+    which : (p ≡ g.own) ⊎ (p ≡ g.own → ⊥) → AttemptOver v h h' s l g o (Activity.Put Put.Stamp) p
     which (inl i) = is_stamped refl i m (set_now h h' p g.own _ (ap (λ (x : History). x.attempts) n) i w ∙ ap (λ x. record (attempt h x) { is_stamped = true; version = l.version; load = g.loaded; at = length h.log }) (sym i))
     which (inr d) = stays (attempt_left h h' e p (Stamps g.own l.version g.loaded) d n w)
 attempt_over h h' e z v s choice l g o a c (makes_help q m k) n p w = which (cases_eq p q)
   where
-    which : (p ≡ q) ⊎ (p ≡ q → ⊥) → AttemptOver v h h' s l g o LookHelp p
+    which : (p ≡ q) ⊎ (p ≡ q → ⊥) → AttemptOver v h h' s l g o (Activity.Look Look.Help) p
     which (inl i) = is_helped refl (k ∙ ap Some (sym i)) m (set_now h h' p q _ (ap (λ (x : History). x.attempts) n) i w ∙ ap (λ x. record (attempt h x) { is_stamped = true; version = l.helping; load = g.loaded; at = length h.log }) (sym i))
     which (inr d) = stays (attempt_left h h' e p (Stamps q l.helping g.loaded) d n w)
 attempt_over h h' e z v s choice l g o a c (makes_lose j cell q y m k) n p w = which (cases_eq p q)
   where
-    which : (p ≡ q) ⊎ (p ≡ q → ⊥) → AttemptOver v h h' s l g o (Freeze j) p
+    which : (p ≡ q) ⊎ (p ≡ q → ⊥) → AttemptOver v h h' s l g o (Activity.Rebalance (Rebalance.Freeze (Freeze.Entry j))) p
     which (inl i) = is_lost j cell refl y (k ∙ ap Some (sym i)) m (set_now h h' p q _ (ap (λ (x : History). x.attempts) n) i w ∙ ap (λ x. record (attempt h x) { is_lost = true }) (sym i))
     which (inr d) = stays (attempt_left h h' e p (Loses q) d n w)
 attempt_over h h' e z v s choice l g o a c (makes_end answer) n p w = stays (attempt_left h h' e p (Ends g.call (reply_of answer l.pairs) (answering l.call l g) (drawing answer l g)) tt n w)
@@ -91,7 +94,7 @@ same_log c d e = record { seat = ap (λ (q : CallLog). q.seat) e; number = ap (�
 -- a call over an event of seat s: it goes on, maybe with a put; or it is the seat's, and ends
 pub data CallOver (h h' : History) (l : Local) (g : SeatLog) (a : Activity) (x : ℕ) : Type 0 where
   goes_on : SameLog (called h x) (called h' x) → CallOver h h' l g a x
-  is_ended : (answer : Answer) → a ≡ Leave answer → x ≡ g.call →
+  is_ended : (answer : Answer) → a ≡ Activity.Leave answer → x ≡ g.call →
       called h' x ≡ record (called h x) { end = Some (record { at = length h.log; reply = reply_of answer l.pairs }); answer = answering l.call l g; draw = drawing answer l g } → CallOver h h' l g a x
 
 -- a call that may get a put
@@ -114,7 +117,7 @@ call_over h h' e z v s choice l g o a c (makes_help q m k) n x w = goes_on (with
 call_over h h' e z v s choice l g o a c (makes_lose j cell q y m k) n x w = goes_on (same_log _ _ (called_same h h' x (ap (λ (y : History). y.calls) n)))
 call_over h h' e z v s choice l g o a c (makes_end answer) n x w = which (cases_eq x g.call)
   where
-    which : (x ≡ g.call) ⊎ (x ≡ g.call → ⊥) → CallOver h h' l g (Leave answer) x
+    which : (x ≡ g.call) ⊎ (x ≡ g.call → ⊥) → CallOver h h' l g (Activity.Leave answer) x
     which (inl i) =
         let f : called h' g.call ≡ record (called h g.call) { end = Some (record { at = length h.log; reply = reply_of answer l.pairs }); answer = answering l.call l g; draw = drawing answer l g } = called_set_same h h' g.call _ (ap (λ (y : History). y.calls) n) (subst (λ q. q < length h.calls) i w) in
         is_ended answer refl i (subst (λ q. called h' q ≡ record (called h q) { end = Some (record { at = length h.log; reply = reply_of answer l.pairs }); answer = answering l.call l g; draw = drawing answer l g }) (sym i) f)
@@ -122,7 +125,7 @@ call_over h h' e z v s choice l g o a c (makes_end answer) n x w = which (cases_
 
 -- a call that was not there begins now, with the event
 pub record IsCallNow (h h' : History) (s : ℕ) (choice : Choice) (l : Local) (a : Activity) (x : ℕ) : Type 0 where
-  pub idle : a ≡ Idle
+  pub idle : a ≡ Activity.Idle
   pub call : Call
   pub begins : choice ≡ Begin call
   pub place : x ≡ length h.calls
@@ -134,7 +137,7 @@ call_was h h' e z v s choice l g o a c (makes_begin call m) n x w = which (cases
     cs : h'.calls ≡ h.calls ++ record { seat = s; number = l.number + 1; call = call; first = length h.log; end = None; put = None; answer = None; draw = None } ∷ []
     cs = ap (λ (y : History). y.calls) n
 
-    which : (x < length h.calls) ⊎ (length h.calls ≤ x) → (x < length h.calls) ⊎ IsCallNow h h' s choice l Idle x
+    which : (x < length h.calls) ⊎ (length h.calls ≤ x) → (x < length h.calls) ⊎ IsCallNow h h' s choice l Activity.Idle x
     which (inl i) = inl i
     which (inr i) =
         let f : x ≡ length h.calls = omega (arith, i, w, ap length cs, length-append h.calls (record { seat = s; number = l.number + 1; call = call; first = length h.log; end = None; put = None; answer = None; draw = None } ∷ [])) in

@@ -17,7 +17,11 @@ use Rattle.kw_rows.specs.RowState as row
 use Rattle.kw_rows.proofs.Framed.{retired_no}
 use Rattle.kw_rows.proofs.Named.{fresh_next, held_by}
 use Rattle.kw_world.specs.declared.activity.Activity.{Activity}
-use Rattle.kw_world.specs.declared.activity.Activity.TheVariants.{Again, Enter, Leave, Number, Reclaim}
+use Rattle.kw_world.specs.declared.activity.enter.Enter.TheVariants as Enter
+use Rattle.kw_world.specs.declared.activity.rebalance.Rebalance.TheVariants as Rebalance
+use Rattle.kw_world.specs.declared.activity.rebalance.replace.Replace.TheVariants as Replace
+use Rattle.kw_world.specs.declared.activity.rebalance.seek.Seek.TheVariants as Seek
+use Rattle.kw_world.specs.declared.activity.read.Read.TheVariants as Read
 use Rattle.kw_world.specs.declared.event.Event.{Event}
 use Rattle.kw_world.specs.declared.local.Local.{Local}
 use Rattle.kw_world.specs.declared.opening.Opening.{Opening}
@@ -121,18 +125,18 @@ module _ (z : Sizes) (o : Opening) (es : List Event) (e : Event) (r r' : Run) (l
 
   -- a pass that is on, and is not taken back, is neither begun nor ended
   unended : (b : Activity) → a ≡ b → (t u : ℕ) → r.ledger.rows.passes t ≡ Some u → (EndsPass z o (es ++ e ∷ []) (length es) t → ⊥) → WritesPass b → t ≡ e.seat → ⊥
-  unended Enter is t u on n x d =
+  unended (Activity.Enter Enter.Announce) is t u on n x d =
       let p = subst (λ c. Passes (word z r.world) r.ledger.rows e.seat c l) (h.activity ∙ is) (k.inv.shape.passes e.seat l h.knows) in
       let y : None ≡ Some u = sym (p.in_none (λ c. c)).passes ∙ subst (λ c. r.ledger.rows.passes c ≡ Some u) d on in
       cc
-  unended (Leave answer) is t u on n x d = n (subst (EndsPass z o (es ++ e ∷ []) (length es)) (sym d) (ends_here (Leave answer) is tt refl))
-  unended Again is t u on n x d = n (subst (EndsPass z o (es ++ e ∷ []) (length es)) (sym d) (ends_here Again is tt refl))
+  unended (Activity.Leave answer) is t u on n x d = n (subst (EndsPass z o (es ++ e ∷ []) (length es)) (sym d) (ends_here (Activity.Leave answer) is tt refl))
+  unended Activity.Retry is t u on n x d = n (subst (EndsPass z o (es ++ e ∷ []) (length es)) (sym d) (ends_here Activity.Retry is tt refl))
   unended _ is t u on n x d = x
 
   -- a pass that begins now is on
-  begins_here : a ≡ Enter → IsInPass z o (es ++ e ∷ []) e.seat (length es) (length (es ++ e ∷ []))
+  begins_here : a ≡ Activity.Enter Enter.Announce → IsInPass z o (es ++ e ∷ []) e.seat (length es) (length (es ++ e ∷ []))
   begins_here is = record {
-    begins = record { epoch = l.epoch; found = word z r.world (name.Pass e.seat); acts = acts_now z o es e r r' l l' a h k.world Enter _ is refl };
+    begins = record { epoch = l.epoch; found = word z r.world (name.Pass e.seat); acts = acts_now z o es e r r' l l' a h k.world (Activity.Enter Enter.Announce) _ is refl };
     after = omega (arith, longer);
     within = omega arith;
     runs = λ y f g d. omega (arith, f, g, longer);
@@ -144,11 +148,12 @@ module _ (z : Sizes) (o : Opening) (es : List Event) (e : Event) (r r' : Run) (l
   begun_on t u f = which (cases_eq t e.seat)
     where
       own : (b : Activity) → a ≡ b → r'.ledger.rows.passes e.seat ≡ Some u → IsInPass z o (es ++ e ∷ []) e.seat u (length (es ++ e ∷ []))
-      own Enter is g =
-          let same : length es ≡ u = sym k.now ∙ same_Some (length r.history.log) u (sym (pass_begins (happens_at Enter is)) ∙ g) in
+      own (Activity.Enter Enter.Announce) is g =
+          let same : length es ≡ u = sym k.now ∙ same_Some (length r.history.log) u (sym (pass_begins (happens_at (Activity.Enter Enter.Announce) is)) ∙ g) in
           subst (λ y. IsInPass z o (es ++ e ∷ []) e.seat y (length (es ++ e ∷ []))) same (begins_here is)
-      own (Leave answer) is g = let y : None ≡ Some u = sym (pass_ends answer (happens_at (Leave answer) is)) ∙ g in absurd (cc)
-      own Again is g = let y : None ≡ Some u = sym (pass_taken_back (happens_at Again is)) ∙ g in absurd (cc)
+      own (Activity.Leave answer) is g = let y : None ≡ Some u = sym (pass_ends answer (happens_at (Activity.Leave answer) is)) ∙ g in absurd (cc)
+      own Activity.Retry is g = let y : None ≡ Some u = sym (pass_taken_back (happens_at Activity.Retry is)) ∙ g in absurd (cc)
+      own (Activity.Read Read.Link) is g = in_pass_next z o es e e.seat u (λ d. subst IsEnding is (ends_by e.seat d).1) (k.begun e.seat u (sym (others_stay (Activity.Read Read.Link) (happens_at (Activity.Read Read.Link) is) e.seat (λ x c. x)) ∙ g))
       own b is g = in_pass_next z o es e e.seat u (λ d. subst IsEnding is (ends_by e.seat d).1) (k.begun e.seat u (sym (others_stay b (happens_at b is) e.seat (λ x c. x)) ∙ g))
 
       which : (t ≡ e.seat) ⊎ (t ≡ e.seat → ⊥) → IsInPass z o (es ++ e ∷ []) t u (length (es ++ e ∷ []))
@@ -170,7 +175,7 @@ module _ (z : Sizes) (o : Opening) (es : List Event) (e : Event) (r r' : Run) (l
       which (inr f) =
           let at : u ≡ length es = omega (arith, f, p.after, longer) in
           let n = acting_now z o es e r r' l l' a h k.world u t _ _ p.begins.found at p.begins.acts in (
-            subst (λ y. r'.ledger.rows.passes y ≡ Some u) n.seat (pass_begins (happens_at Enter n.activity) ∙ ap Some (k.now ∙ sym at)),
+            subst (λ y. r'.ledger.rows.passes y ≡ Some u) n.seat (pass_begins (happens_at (Activity.Enter Enter.Announce) n.activity) ∙ ap Some (k.now ∙ sym at)),
             subst (λ (x : Operation). word z r'.world x.name ≡ word_after x.action (word z r.world x.name)) n.operates h.changed.same,
           )
 
@@ -181,13 +186,13 @@ module _ (z : Sizes) (o : Opening) (es : List Event) (e : Event) (r r' : Run) (l
   number_stays number at f = old_number a h number (k.inv.shape.numbers.below number at f) ∙ f
 
   drawn_on : (y d number : ℕ) → DrawsNumber z o (es ++ e ∷ []) y d number → r'.ledger.rows.numbered number ≡ Some y
-  drawn_on y d number t = which (acts_was z o es e y d Number _ number t)
+  drawn_on y d number t = which (acts_was z o es e y d (Activity.Rebalance (Rebalance.Replace Replace.Number)) _ number t)
     where
       which : DrawsNumber z o es y d number ⊎ (y ≡ length es) → r'.ledger.rows.numbered number ≡ Some y
       which (inl c) = number_stays number y (k.drawn y d number c)
       which (inr c) =
-          let n = acting_now z o es e r r' l l' a h k.world y d Number _ number c t in
-          subst (λ x. r'.ledger.rows.numbered x ≡ Some y) n.finds (number_of_drawn (happens_at Number n.activity) ∙ ap Some (k.now ∙ sym c))
+          let n = acting_now z o es e r r' l l' a h k.world y d (Activity.Rebalance (Rebalance.Replace Replace.Number)) _ number c t in
+          subst (λ x. r'.ledger.rows.numbered x ≡ Some y) n.finds (number_of_drawn (happens_at (Activity.Rebalance (Rebalance.Replace Replace.Number)) n.activity) ∙ ap Some (k.now ∙ sym c))
 
   -- Rows that are given free.
 
@@ -201,7 +206,7 @@ module _ (z : Sizes) (o : Opening) (es : List Event) (e : Event) (r r' : Run) (l
   }
 
   -- one that is given free now: the seat has looked at each pass
-  freed_here : a ≡ Reclaim → word z r.world (name.State l.rebalance.sought) ≡ state_word (state.Retired l.rebalance.number) → IsFreed z o (es ++ e ∷ []) r'.ledger.rows (length es) l.rebalance.sought l.rebalance.number
+  freed_here : a ≡ Activity.Rebalance (Rebalance.Seek Seek.Reclaim) → word z r.world (name.State l.rebalance.sought) ≡ state_word (state.Retired l.rebalance.number) → IsFreed z o (es ++ e ∷ []) r'.ledger.rows (length es) l.rebalance.sought l.rebalance.number
   freed_here is retired = record {
     at = drawn.0;
     numbered = number_stays l.rebalance.number drawn.0 drawn.1;
@@ -219,7 +224,7 @@ module _ (z : Sizes) (o : Opening) (es : List Event) (e : Event) (r r' : Run) (l
       drawn = (subst (λ b. Sought z (word z r.world) r.ledger.rows e.seat b l) (h.activity ∙ is) (k.inv.shape.sought e.seat l h.knows)).drawn tt
 
       young : (t since at : ℕ) → r.ledger.rows.passes t ≡ Some since → r.ledger.rows.numbered l.rebalance.number ≡ Some at → at < since
-      young = all_young (happens_at Reclaim is) k.inv.shape
+      young = all_young (happens_at (Activity.Rebalance (Rebalance.Seek Seek.Reclaim)) is) k.inv.shape
 
       unheld : IsHeld r.ledger.rows l.rebalance.sought → ⊥
       unheld =
@@ -227,12 +232,12 @@ module _ (z : Sizes) (o : Opening) (es : List Event) (e : Event) (r r' : Run) (l
           retired_no (rows_in (word z r.world)) r.ledger.rows l.rebalance.sought l.rebalance.number k.inv.shape.rows.states (dead_by_state (rows_in (word z r.world)) r.ledger.rows l.rebalance.sought l.rebalance.number k.inv.shape.rows.states f) f young
 
   freed_on : (x s q number : ℕ) → Reclaims z o (es ++ e ∷ []) x s q number → IsFreed z o (es ++ e ∷ []) r'.ledger.rows x q number
-  freed_on x s q number t = which (acts_was z o es e x s Reclaim _ _ t)
+  freed_on x s q number t = which (acts_was z o es e x s (Activity.Rebalance (Rebalance.Seek Seek.Reclaim)) _ _ t)
     where
       which : Reclaims z o es x s q number ⊎ (x ≡ length es) → IsFreed z o (es ++ e ∷ []) r'.ledger.rows x q number
       which (inl c) = freed_before x q number (slice_get_within es x _ c.occurs.stands) (k.freed x s q number c)
       which (inr c) =
-          let n = acting_now z o es e r r' l l' a h k.world x s Reclaim (reclaiming q number) _ c t in
+          let n = acting_now z o es e r r' l l' a h k.world x s (Activity.Rebalance (Rebalance.Seek Seek.Reclaim)) (reclaiming q number) _ c t in
           let line : reclaiming l.rebalance.sought l.rebalance.number ≡ reclaiming q number = ap (λ b. (transition z b e.seat (offered r.world.rows e.choice) l).operation) (sym n.activity) ∙ n.operates in
           let row : l.rebalance.sought ≡ q = same_state _ _ (ap (λ (y : Operation). y.name) line) in
           let same : l.rebalance.number ≡ number = same_number _ _ (ap (λ (y : Operation). y.action) line) in

@@ -14,7 +14,20 @@ use Rattle.kw_words.specs.Scan.{scan_word}
 use Rattle.kw_words.specs.Count.{count_of}
 use Rattle.kw_cells.specs.declared.cell.Cell as kw_cell
 use Rattle.kw_world.specs.declared.activity.Activity.{Activity}
-use Rattle.kw_world.specs.declared.activity.Activity.TheVariants.{Idle, Look, LookHelp, ListVal, RestVal, PutAdd, Announce, Stamp, Freeze, WriteVersion, ScanSettle, HelpSettle}
+use Rattle.kw_world.specs.declared.activity.draw.Draw.TheVariants as Draw
+use Rattle.kw_world.specs.declared.activity.rebalance.freeze.Freeze.TheVariants as Freeze
+use Rattle.kw_world.specs.declared.activity.look.Look.TheVariants as Look
+use Rattle.kw_world.specs.declared.activity.put.Put.TheVariants as Put
+use Rattle.kw_world.specs.declared.activity.read.Read.TheVariants as Read
+use Rattle.kw_world.specs.declared.activity.rebalance.Rebalance.TheVariants as Rebalance
+use Rattle.kw_world.specs.declared.activity.rebalance.write.Write.TheVariants as Write
+use Rattle.kw_world.specs.declared.activity.rebalance.engage.Engage.TheVariants as Engage
+use Rattle.kw_world.specs.declared.activity.enter.Enter.TheVariants as Enter
+use Rattle.kw_world.specs.declared.activity.rebalance.gather.Gather.TheVariants as Gather
+use Rattle.kw_world.specs.declared.activity.insert.Insert.TheVariants as Insert
+use Rattle.kw_world.specs.declared.activity.rebalance.replace.Replace.TheVariants as Replace
+use Rattle.kw_world.specs.declared.activity.rebalance.seek.Seek.TheVariants as Seek
+use Rattle.kw_world.specs.declared.activity.walk.Walk.TheVariants as Walk
 use Rattle.kw_world.specs.declared.local.Local.{Local}
 use Rattle.kw_world.specs.declared.event.Event.{Event}
 use Rattle.kw_world.specs.declared.event.Choice.{Choice}
@@ -51,31 +64,53 @@ use Rattle.kw_core.proofs.InRange.{infant_in_range, infant_cell_in_range}
 
 -- a remark made before the event is what the event adds to the log
 remarked_after : (z : Sizes) (a : Activity) (choice : Choice) (l : Local) (found : ℕ) (next : Activity) (g : SeatLog) (o : Origins) (h : History) (settled : ℕ) → remarked (remark_of z a choice l found o h settled) next g ≡ seat_after z a choice l found next g o h settled
-remarked_after z Idle (Begin call) l found next g o h settled = refl
-remarked_after z Idle Go l found next g o h settled = refl
-remarked_after z Idle (Guess r) l found next g o h settled = refl
-remarked_after z Idle Stop l found next g o h settled = refl
-remarked_after z ScanSettle choice l found next g o h settled = met (found == scan_word (Waiting l.waiting)) refl
+remarked_after z Activity.Idle (Begin call) l found next g o h settled = refl
+remarked_after z Activity.Idle Go l found next g o h settled = refl
+remarked_after z Activity.Idle (Guess r) l found next g o h settled = refl
+remarked_after z Activity.Idle Stop l found next g o h settled = refl
+remarked_after z (Activity.Draw Draw.Settle) choice l found next g o h settled = met (found == scan_word (Waiting l.waiting)) refl
   where
-    met : (b : Bool) → (found == scan_word (Waiting l.waiting)) ≡ b → remarked (remark_of z ScanSettle choice l found o h settled) next g ≡ seat_after z ScanSettle choice l found next g o h settled
+    met : (b : Bool) → (found == scan_word (Waiting l.waiting)) ≡ b → remarked (remark_of z (Activity.Draw Draw.Settle) choice l found o h settled) next g ≡ seat_after z (Activity.Draw Draw.Settle) choice l found next g o h settled
     met true e = rw e refl
     met false e = rw e refl
-remarked_after z (Look i) choice l found next g o h settled = met (i == 0) refl
+remarked_after z (Activity.Look (Look.Entry i)) choice l found next g o h settled = met (i == 0) refl
   where
-    met : (b : Bool) → (i == 0) ≡ b → remarked (remark_of z (Look i) choice l found o h settled) next g ≡ seat_after z (Look i) choice l found next g o h settled
+    met : (b : Bool) → (i == 0) ≡ b → remarked (remark_of z (Activity.Look (Look.Entry i)) choice l found o h settled) next g ≡ seat_after z (Activity.Look (Look.Entry i)) choice l found next g o h settled
     met true e = rw e refl
     met false e = rw e refl
-remarked_after z PutAdd choice l found next g o h settled = met (has_room z (count_of found)) refl
+remarked_after z (Activity.Put Put.Add) choice l found next g o h settled = met (has_room z (count_of found)) refl
   where
-    met : (b : Bool) → has_room z (count_of found) ≡ b → remarked (remark_of z PutAdd choice l found o h settled) next g ≡ seat_after z PutAdd choice l found next g o h settled
+    met : (b : Bool) → has_room z (count_of found) ≡ b → remarked (remark_of z (Activity.Put Put.Add) choice l found o h settled) next g ≡ seat_after z (Activity.Put Put.Add) choice l found next g o h settled
     met true e = rw e refl
     met false e = rw e refl
+remarked_after z (Activity.Enter Enter.Announce) choice l found next g o h settled = refl
+remarked_after z (Activity.Walk Walk.First) choice l found next g o h settled = refl
+remarked_after z (Activity.Read Read.Link) choice l found next g o h settled = refl
+remarked_after z (Activity.Insert Insert.Link) choice l found next g o h settled = refl
+remarked_after z (Activity.Rebalance (Rebalance.Engage Engage.Clock)) choice l found next g o h settled = refl
+remarked_after z (Activity.Rebalance (Rebalance.Freeze Freeze.Count)) choice l found next g o h settled = refl
+remarked_after z (Activity.Rebalance (Rebalance.Gather Gather.Link)) choice l found next g o h settled = refl
+remarked_after z (Activity.Rebalance (Rebalance.Seek Seek.Next)) choice l found next g o h settled = refl
+remarked_after z (Activity.Rebalance (Rebalance.Write Write.Count)) choice l found next g o h settled = refl
+remarked_after z (Activity.Rebalance (Rebalance.Replace Replace.First)) choice l found next g o h settled = refl
 remarked_after z _ choice l found next g o h settled = refl
 
 -- the log depends on the origin of the cell that is gathered alone
 seat_after_same : (z : Sizes) (a : Activity) (choice : Choice) (l : Local) (found : ℕ) (next : Activity) (g : SeatLog) (o p : Origins) (h : History) (settled : ℕ) → o l.row l.place ≡ p l.row l.place → seat_after z a choice l found next g o h settled ≡ seat_after z a choice l found next g p h settled
-seat_after_same z ListVal choice l found next g o p h settled e = rw e refl
-seat_after_same z RestVal choice l found next g o p h settled e = rw e refl
+seat_after_same z (Activity.Read Read.Value) choice l found next g o p h settled e = rw e refl
+seat_after_same z (Activity.Read Read.LeftOverValue) choice l found next g o p h settled e = rw e refl
+seat_after_same z (Activity.Enter Enter.Announce) choice l found next g o p h settled e = refl
+seat_after_same z (Activity.Draw Draw.Clock) choice l found next g o p h settled e = refl
+seat_after_same z (Activity.Walk Walk.First) choice l found next g o p h settled e = refl
+seat_after_same z (Activity.Look Look.Key) choice l found next g o p h settled e = refl
+seat_after_same z (Activity.Put Put.Count) choice l found next g o p h settled e = refl
+seat_after_same z (Activity.Insert Insert.Link) choice l found next g o p h settled e = refl
+seat_after_same z (Activity.Rebalance (Rebalance.Engage Engage.Clock)) choice l found next g o p h settled e = refl
+seat_after_same z (Activity.Rebalance (Rebalance.Freeze Freeze.Count)) choice l found next g o p h settled e = refl
+seat_after_same z (Activity.Rebalance (Rebalance.Gather Gather.Link)) choice l found next g o p h settled e = refl
+seat_after_same z (Activity.Rebalance (Rebalance.Seek Seek.Next)) choice l found next g o p h settled e = refl
+seat_after_same z (Activity.Rebalance (Rebalance.Write Write.Count)) choice l found next g o p h settled e = refl
+seat_after_same z (Activity.Rebalance (Rebalance.Replace Replace.First)) choice l found next g o p h settled e = refl
 seat_after_same z _ choice l found next g o p h settled e = refl
 
 -- The change.
@@ -89,8 +124,9 @@ freezing_same pend.Frozen row o p e = refl
 
 -- the change depends on the origins of the cell that was met and of that of the entry at hand alone
 change_same : (z : Sizes) (a : Activity) (s : ℕ) (choice : Choice) (l : Local) (found : ℕ) (g : SeatLog) (o p : Origins) → o l.row l.met ≡ p l.row l.met → ((c : ℕ) → l.rebalance.entry ≡ pend.Pending c → o l.row c ≡ p l.row c) → change_of z a s choice l found g o ≡ change_of z a s choice l found g p
-change_same z LookHelp s choice l found g o p e f = rw e refl
-change_same z (Freeze i) s choice l found g o p e f = rw (freezing_same l.rebalance.entry l.row o p f) refl
+change_same z (Activity.Look Look.Help) s choice l found g o p e f = rw e refl
+change_same z (Activity.Rebalance (Rebalance.Freeze (Freeze.Entry i))) s choice l found g o p e f = rw (freezing_same l.rebalance.entry l.row o p f) refl
+change_same z (Activity.Put Put.Count) s choice l found g o p e f = refl
 change_same z _ s choice l found g o p e f = refl
 
 -- The origins.
@@ -176,33 +212,33 @@ copied_same o p row None e = refl
 origins_noted : (z : Sizes) (a : Activity) (s : ℕ) (choice : Choice) (l : Local) (found : ℕ) (g : SeatLog) (o p : Origins) (h : History) (n : ℕ) (xs : List (Option ℕ)) (rows : ℕ) → n ≡ length h.attempts → length xs ≡ rows * z.cells → l.row < rows → infant l < rows → IsActivity z a →
     ((j : ℕ) (c : kw_cell.Cell) → slice_get (infant_cells l) j ≡ Some c → o l.row c.place ≡ p l.row c.place) → ((q c : ℕ) → q < rows → c < z.cells → origin_in z xs q c ≡ p q c) →
     (q c : ℕ) → q < rows → c < z.cells → origin_in z (copies_with z (copied_cell a l o) (origins_with z (change_of z a s choice l found g o) n xs)) q c ≡ origins_after z a l found p h q c
-origins_noted z PutAdd s choice l found g o p h n xs rows is len below new y kept same q c v w = met (has_room z (count_of found)) refl
+origins_noted z (Activity.Put Put.Add) s choice l found g o p h n xs rows is len below new y kept same q c v w = met (has_room z (count_of found)) refl
   where
-    met : (b : Bool) → has_room z (count_of found) ≡ b → origin_in z (origins_with z (change_of z PutAdd s choice l found g o) n xs) q c ≡ origins_after z PutAdd l found p h q c
+    met : (b : Bool) → has_room z (count_of found) ≡ b → origin_in z (origins_with z (change_of z (Activity.Put Put.Add) s choice l found g o) n xs) q c ≡ origins_after z (Activity.Put Put.Add) l found p h q c
     met true e = rw (e, sym is) (origin_set z xs rows l.row (given_of (count_of found)) (Some n) p len below (room_given z (count_of found) e) same q c v w)
     met false e = rw e (same q c v w)
-origins_noted z Idle s choice l found g o p h n xs rows is len below new y kept same q c v w = begins choice
+origins_noted z Activity.Idle s choice l found g o p h n xs rows is len below new y kept same q c v w = begins choice
   where
     begins : (x : Choice) → origin_in z (origins_with z (beginning x s l) n xs) q c ≡ p q c
     begins (Begin call) = same q c v w
     begins Go = same q c v w
     begins (Guess r) = same q c v w
     begins Stop = same q c v w
-origins_noted z LookHelp s choice l found g o p h n xs rows is len below new y kept same q c v w =
+origins_noted z (Activity.Look Look.Help) s choice l found g o p h n xs rows is len below new y kept same q c v w =
     rw (none_given z (if found == pend_word (pend.Pending l.met) then helping (o l.row l.met) l.helping g.loaded else Nothing) n xs (none_of (found == pend_word (pend.Pending l.met)) _ Nothing (none_helping (o l.row l.met) l.helping g.loaded) tt)) (same q c v w)
-origins_noted z Announce s choice l found g o p h n xs rows is len below new y kept same q c v w =
+origins_noted z (Activity.Put Put.Announce) s choice l found g o p h n xs rows is len below new y kept same q c v w =
     rw (none_given z (if found == pend_word pend.Idle then Announces g.own else Nothing) n xs (none_of (found == pend_word pend.Idle) (Announces g.own) Nothing tt tt)) (same q c v w)
-origins_noted z Stamp s choice l found g o p h n xs rows is len below new y kept same q c v w =
+origins_noted z (Activity.Put Put.Stamp) s choice l found g o p h n xs rows is len below new y kept same q c v w =
     rw (none_given z (if found == pend_word (pend.Pending l.cell) then Stamps g.own l.version g.loaded else Nothing) n xs (none_of (found == pend_word (pend.Pending l.cell)) (Stamps g.own l.version g.loaded) Nothing tt tt)) (same q c v w)
-origins_noted z (Freeze i) s choice l found g o p h n xs rows is len below new y kept same q c v w =
+origins_noted z (Activity.Rebalance (Rebalance.Freeze (Freeze.Entry i))) s choice l found g o p h n xs rows is len below new y kept same q c v w =
     rw (none_given z (if found == pend_word l.rebalance.entry then freezing l.rebalance.entry l.row o else Nothing) n xs (none_of (found == pend_word l.rebalance.entry) _ Nothing (none_freezing l.rebalance.entry l.row o) tt)) (same q c v w)
-origins_noted z (WriteVersion j) s choice l found g o p h n xs rows is len below new y kept same q c v w =
+origins_noted z (Activity.Rebalance (Rebalance.Write (Write.Version j))) s choice l found g o p h n xs rows is len below new y kept same q c v w =
     origin_set z xs rows (infant l) j _ p len new y same q c v w ∙ ap (λ x. with_copy p (infant l) j x q c) (copied_same o p l.row (slice_get (infant_cells l) j) (kept j))
 origins_noted z _ s choice l found g o p h n xs rows is len below new y kept same q c v w = same q c v w
 
 -- the cell that an event writes is one of the table's
 pub copy_below : (z : Sizes) (a : Activity) (l : Local) (o : Origins) (rows : ℕ) → infant l < rows → IsActivity z a → IsCopyIn z (rows * z.cells) (copied_cell a l o)
-copy_below z (WriteVersion j) l o rows new y = place_within z.cells (infant l) j rows new y
+copy_below z (Activity.Rebalance (Rebalance.Write (Write.Version j))) l o rows new y = place_within z.cells (infant l) j rows new y
 copy_below z _ l o rows new y = tt
 
 -- and with it there are as many origins
@@ -214,12 +250,12 @@ copies_long z None xs = refl
 
 -- the event settles a scan of one of the seats
 pub scan_below : (z : Sizes) (a : Activity) (s : ℕ) (l : Local) (found : ℕ) (g : SeatLog) → s < z.seats → IsActivity z a → IsScanBelow z.seats (settled_scan a s l found g)
-scan_below z ScanSettle s l found g w i = settles (found == scan_word (Waiting l.waiting))
+scan_below z (Activity.Draw Draw.Settle) s l found g w i = settles (found == scan_word (Waiting l.waiting))
   where
     settles : (b : Bool) → IsScanBelow z.seats (if b then Some (record { seat = s; at = g.drawn }) else None)
     settles true = w
     settles false = tt
-scan_below z (HelpSettle t) s l found g w i = settles (found == scan_word (Waiting l.rebalance.waiting))
+scan_below z (Activity.Rebalance (Rebalance.Freeze (Freeze.Settle t))) s l found g w i = settles (found == scan_word (Waiting l.rebalance.waiting))
   where
     settles : (b : Bool) → IsScanBelow z.seats (if b then Some (record { seat = t; at = g.drawn }) else None)
     settles true = i

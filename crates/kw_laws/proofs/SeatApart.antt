@@ -2,7 +2,6 @@
 use Rattle.std.proofs.Common.{ℕ, zero, suc, ◌≡◌, ◌⊎◌, inl, inr, ◌+◌, ◌<◌, ◌≤◌, Some, None, List, [], ◌∷◌, ◌++◌, arith, refl, sym, ◌∙◌, ap, subst, slice_get, length}
 use Rattle.std.proofs.lemmas.Option.{same_Some, slice_get_within}
 use Rattle.kw_world.specs.declared.activity.Activity.{Activity}
-use Rattle.kw_world.specs.declared.activity.Activity.TheVariants.{Idle}
 use Rattle.kw_world.specs.declared.local.Local.{Local}
 use Rattle.kw_core.specs.declared.history.End.{End}
 use Rattle.kw_core.specs.Stages.{IsBusy}
@@ -87,5 +86,5 @@ pub apart : (n : ℕ) (l : Local) (cs : List CallSeen) → KeepsTurns n l cs →
 apart n l cs k = which l.activity refl
   where
     which : (a : Activity) → l.activity ≡ a → AreApart n cs
-    which Idle e = apart_ended n cs (k.rests e)
+    which Activity.Idle e = apart_ended n cs (k.rests e)
     which a e = apart_last n l cs (k.makes (subst IsBusy (sym e) tt))

@@ -3,7 +3,6 @@ use Rattle.std.proofs.Common.{ℕ, ◌≡◌, ◌≢◌, ◌⊎◌, inl, inr, �
 use Rattle.std.proofs.lemmas.Bool.{and_parts, cases_eq}
 use Rattle.std.proofs.lemmas.Option.{get_or_from_slice_get, slice_get-get_or}
 use Rattle.kw_world.specs.declared.activity.Activity.{Activity}
-use Rattle.kw_world.specs.declared.activity.Activity.TheVariants.{Idle}
 use Rattle.kw_world.specs.declared.local.Local.{Local}
 use Rattle.kw_world.specs.declared.event.Choice.{Choice}
 use Rattle.kw_world.specs.declared.event.Choice.TheVariants.{Begin, Go, Guess, Stop}
@@ -116,14 +115,14 @@ valid_last z o w e ok = (and_parts (may_step o w e) true ok).0
 
 -- a guess that is not offered begins no call either
 seen_offered : (a : Activity) (rows : ℕ) (choice : Choice) (l : Local) (n : ℕ) (cs : List CallSeen) → seen_after a (offered rows choice) l n cs ≡ seen_after a choice l n cs
-seen_offered Idle rows (Begin call) l n cs = refl
-seen_offered Idle rows Go l n cs = refl
-seen_offered Idle rows (Guess q) l n cs = met (nat_lt q rows)
+seen_offered Activity.Idle rows (Begin call) l n cs = refl
+seen_offered Activity.Idle rows Go l n cs = refl
+seen_offered Activity.Idle rows (Guess q) l n cs = met (nat_lt q rows)
   where
-    met : (b : Bool) → seen_after Idle (if b then Guess q else Go) l n cs ≡ cs
+    met : (b : Bool) → seen_after Activity.Idle (if b then Guess q else Go) l n cs ≡ cs
     met true = refl
     met false = refl
-seen_offered Idle rows Stop l n cs = refl
+seen_offered Activity.Idle rows Stop l n cs = refl
 seen_offered _ rows choice l n cs = refl
 
 -- events of other seats

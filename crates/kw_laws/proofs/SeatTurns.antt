@@ -8,7 +8,7 @@ use Rattle.kw_model.specs.declared.call.Reply.{Reply}
 use Rattle.kw_world.specs.declared.answer.Answer.{Answer}
 use Rattle.kw_world.specs.Answers.{reply_of}
 use Rattle.kw_world.specs.declared.activity.Activity.{Activity}
-use Rattle.kw_world.specs.declared.activity.Activity.TheVariants.{Idle, Enter, Leave}
+use Rattle.kw_world.specs.declared.activity.enter.Enter.TheVariants as Enter
 use Rattle.kw_world.specs.declared.local.Local.{Local}
 use Rattle.kw_world.specs.declared.event.Choice.{Choice}
 use Rattle.kw_world.specs.declared.event.Choice.TheVariants.{Begin, Go, Guess, Stop}
@@ -45,7 +45,7 @@ abbrev pub AllInTurn : Run → Type 0
 AllInTurn r = (t : ℕ) (m : Local) → slice_get r.world.locals t ≡ Some m → KeepsTurns (length r.history.log) m (seen_by t r.history.calls)
 
 -- an idle seat that acts begins a call
-begins_call : (c : Choice) → is_skipped Idle c ≡ false → (call : Call) × (c ≡ Begin call)
+begins_call : (c : Choice) → is_skipped Activity.Idle c ≡ false → (call : Call) × (c ≡ Begin call)
 begins_call (Begin call) h = (call, refl)
 begins_call Go h = let x : true ≡ false = h in absurd (cc)
 begins_call (Guess q) h = let x : true ≡ false = h in absurd (cc)
@@ -84,12 +84,12 @@ module _ (z : Sizes) (r r' : Run) (s : ℕ) (choice : Choice) (l l' : Local) (a 
   new : Call → CallLog
   new call = record { seat = s; number = l.number + 1; call = call; first = length r.history.log; end = None; put = None; answer = None; draw = None }
 
-  calls_begun : (call : Call) → a ≡ Idle → choice ≡ Begin call → r'.history.calls ≡ r.history.calls ++ new call ∷ []
+  calls_begun : (call : Call) → a ≡ Activity.Idle → choice ≡ Begin call → r'.history.calls ≡ r.history.calls ++ new call ∷ []
   unfolding new
-  calls_begun call e c = calls_by_change Idle e ∙ ap (λ q. calls_after r.history (beginning q s l)) c
+  calls_begun call e c = calls_by_change Activity.Idle e ∙ ap (λ q. calls_after r.history (beginning q s l)) c
 
   -- calls that the event does not end
-  seen_alike : IsBusy a → (t : ℕ) → ((answer : Answer) → a ≡ Leave answer → (called r.history (r.seats s).call).seat ≢ t) → seen_by t r'.history.calls ≡ seen_by t r.history.calls
+  seen_alike : IsBusy a → (t : ℕ) → ((answer : Answer) → a ≡ Activity.Leave answer → (called r.history (r.seats s).call).seat ≢ t) → seen_by t r'.history.calls ≡ seen_by t r.history.calls
   unfolding called
   seen_alike u t f = seen_by-alike t r.history.calls r'.history.calls
       (same_number r.history r'.history _ z (word z r.world) s choice l (r.seats s) r.origin a _ (made z (word z r.world) s choice l (r.seats s) r.origin a) u h.history)
@@ -108,7 +108,7 @@ module _ (z : Sizes) (r r' : Run) (s : ℕ) (choice : Choice) (l l' : Local) (a 
   seen_else t d = which a refl
     where
       which : (b : Activity) → a ≡ b → seen_by t r'.history.calls ≡ seen_by t r.history.calls
-      which Idle e =
+      which Activity.Idle e =
           let c = begins_call choice (subst (λ b. is_skipped b choice ≡ false) e h.moves) in
           ap (seen_by t) (calls_begun c.0 e c.1) ∙ seen_by-push t r.history.calls (new c.0) ∙
           ap (λ q. seen_by t r.history.calls ++ q) (seen_by-other t (new c.0) [] (λ q. d (sym q))) ∙ append-nil _
@@ -123,31 +123,31 @@ module _ (z : Sizes) (r r' : Run) (s : ℕ) (choice : Choice) (l l' : Local) (a 
       stays : (b : Activity) → a ≡ b → IsUnderway b → IsBusy b → seen_by s r'.history.calls ≡ seen_by s r.history.calls
       stays b e u v = seen_alike (subst IsBusy (sym e) v) s (λ answer j q. subst IsUnderway (sym e ∙ j) u)
 
-      ends : (answer : Answer) → a ≡ Leave answer → seen_by s r'.history.calls ≡ end_last (length r.history.log) (reply_of answer l.pairs) (seen_by s r.history.calls)
+      ends : (answer : Answer) → a ≡ Activity.Leave answer → seen_by s r'.history.calls ≡ end_last (length r.history.log) (reply_of answer l.pairs) (seen_by s r.history.calls)
       ends answer e =
           let u : IsBusy a = subst IsBusy (sym e) tt in
           let x = calling u in
           let c = called r.history (r.seats s).call in
           let y = seen_by-last s r.history.calls (r.seats s).call (record c { end = Some (record { at = length r.history.log; reply = reply_of answer l.pairs }); answer = answering l.call l (r.seats s); draw = drawing answer l (r.seats s) })
           x.within x.seat x.seat (latest s l h.knows (subst IsBusy (sym h.activity) u)) in
-          ap (seen_by s) (calls_by_change (Leave answer) e) ∙ y.is ∙ sym (ap (end_last (length r.history.log) (reply_of answer l.pairs)) y.was ∙ end_last-snoc (length r.history.log) (reply_of answer l.pairs) y.before (seen c))
+          ap (seen_by s) (calls_by_change (Activity.Leave answer) e) ∙ y.is ∙ sym (ap (end_last (length r.history.log) (reply_of answer l.pairs)) y.was ∙ end_last-snoc (length r.history.log) (reply_of answer l.pairs) y.before (seen c))
 
       which : (b : Activity) → a ≡ b → seen_by s r'.history.calls ≡ seen_after b choice l (length r.history.log) (seen_by s r.history.calls)
-      which Idle e =
+      which Activity.Idle e =
           let c = begins_call choice (subst (λ b. is_skipped b choice ≡ false) e h.moves) in
-          subst (λ q. seen_by s r'.history.calls ≡ seen_after Idle q l (length r.history.log) (seen_by s r.history.calls)) (sym c.1)
+          subst (λ q. seen_by s r'.history.calls ≡ seen_after Activity.Idle q l (length r.history.log) (seen_by s r.history.calls)) (sym c.1)
           (ap (seen_by s) (calls_begun c.0 e c.1) ∙ seen_by-push s r.history.calls (new c.0) ∙ ap (λ q. seen_by s r.history.calls ++ q) (seen_by-own s (new c.0) [] refl))
-      which (Leave answer) e = ends answer e
+      which (Activity.Leave answer) e = ends answer e
       which b e = stays b e tt tt
 
   -- What is kept.
 
   -- a seat that has left is idle
-  left_idle : (answer : Answer) → a ≡ Leave answer → l'.activity ≡ Idle
+  left_idle : (answer : Answer) → a ≡ Activity.Leave answer → l'.activity ≡ Activity.Idle
   left_idle answer e = ap (λ (m : Local). m.activity) (subst (λ b. l' ≡ (followed r.world.rows (transition z b s choice l) (found_at z (word z r.world) a s choice l)).local) e h.next)
 
   -- what a seat knows that has begun a call
-  begun_local : (call : Call) → a ≡ Idle → choice ≡ Begin call → (epoch : ℕ) × (l' ≡ (begun (Begin call) epoch l).local)
+  begun_local : (call : Call) → a ≡ Activity.Idle → choice ≡ Begin call → (epoch : ℕ) × (l' ≡ (begun (Begin call) epoch l).local)
   begun_local call e c =
       let x = subst (λ b. l' ≡ (followed r.world.rows (transition z b s choice l) (found_at z (word z r.world) a s choice l)).local) e h.next in
       (found_at z (word z r.world) a s choice l, x ∙ ap (λ q. (begun q (found_at z (word z r.world) a s choice l) l).local) c)
@@ -179,14 +179,14 @@ module _ (z : Sizes) (r r' : Run) (s : ℕ) (choice : Choice) (l l' : Local) (a 
               old c (inr n) = absurd (subst IsUnderway (sym j ∙ n.idle) k)
 
           which : (b : Activity) → a ≡ b → y ≤ (r'.seats s).call
-          which Idle j =
+          which Activity.Idle j =
               let c = begins_call choice (subst (λ b. is_skipped b choice ≡ false) j h.moves) in
               let f = subst (λ b. r'.seats s ≡ seat_after z b choice l (found_at z (word z r.world) a s choice l) l'.activity (r.seats s) r.origin r.history (r.settled s)) j h.log in
               let k = subst (λ b. r'.seats s ≡ log_begun b (length r.history.calls) (r.seats s)) c.1 f in
               let n = ap (λ (q : SeatLog). q.call) k in
               let m = ap length (calls_begun c.0 j c.1) ∙ length-append r.history.calls (new c.0 ∷ []) in
               omega (arith, n, m, w)
-          which (Leave answer) j = absurd (subst IsBusy (left_idle answer j) u)
+          which (Activity.Leave answer) j = absurd (subst IsBusy (left_idle answer j) u)
           which b j = stays b j tt tt
 
   -- the calls of each seat stay in turn
@@ -217,15 +217,15 @@ module _ (z : Sizes) (r r' : Run) (s : ℕ) (choice : Choice) (l l' : Local) (a 
       own : (b : Activity) → a ≡ b → seen_by s r'.history.calls ≡ seen_after b choice l (length r.history.log) (seen_by s r.history.calls)
       own b e = subst (λ b. seen_by s r'.history.calls ≡ seen_after b choice l (length r.history.log) (seen_by s r.history.calls)) e (seen_own latest)
 
-      begins : a ≡ Idle → (c : (call : Call) × (choice ≡ Begin call)) → (x : (epoch : ℕ) × (l' ≡ (begun (Begin c.0) epoch l).local)) → KeepsTurns (length r'.history.log) l' (seen_by s r'.history.calls)
+      begins : a ≡ Activity.Idle → (c : (call : Call) × (choice ≡ Begin call)) → (x : (epoch : ℕ) × (l' ≡ (begun (Begin c.0) epoch l).local)) → KeepsTurns (length r'.history.log) l' (seen_by s r'.history.calls)
       begins e c x =
-          let now : l'.activity ≡ Enter = ap (λ (m : Local). m.activity) x.1 in
+          let now : l'.activity ≡ (Activity.Enter Enter.Announce) = ap (λ (m : Local). m.activity) x.1 in
           record {
-            rests = λ f. let y : Enter ≡ Idle = sym now ∙ f in absurd (cc);
+            rests = λ f. let y : (Activity.Enter Enter.Announce) ≡ Activity.Idle = sym now ∙ f in absurd (cc);
             makes = λ u. record {
               before = seen_by s r.history.calls;
               last = begun_at (length r.history.log) (l.number + 1) c.0;
-              is = subst (λ q. seen_by s r'.history.calls ≡ seen_after Idle q l (length r.history.log) (seen_by s r.history.calls)) c.1 (own Idle e);
+              is = subst (λ q. seen_by s r'.history.calls ≡ seen_after Activity.Idle q l (length r.history.log) (seen_by s r.history.calls)) c.1 (own Activity.Idle e);
               in_turn = mine.rests (h.activity ∙ e);
               first = omega (arith, longer);
               runs = refl;
@@ -234,9 +234,9 @@ module _ (z : Sizes) (r r' : Run) (s : ℕ) (choice : Choice) (l l' : Local) (a 
             };
           }
 
-      ends : (answer : Answer) → a ≡ Leave answer → HasLast (length r.history.log) l (seen_by s r.history.calls) → KeepsTurns (length r'.history.log) l' (seen_by s r'.history.calls)
+      ends : (answer : Answer) → a ≡ Activity.Leave answer → HasLast (length r.history.log) l (seen_by s r.history.calls) → KeepsTurns (length r'.history.log) l' (seen_by s r'.history.calls)
       ends answer e x = record {
-        rests = λ f. subst (λ cs. AreInTurn 0 cs (length r'.history.log)) (sym (own (Leave answer) e ∙ ap (end_last (length r.history.log) (reply_of answer l.pairs)) x.is ∙ end_last-snoc (length r.history.log) (reply_of answer l.pairs) x.before x.last))
+        rests = λ f. subst (λ cs. AreInTurn 0 cs (length r'.history.log)) (sym (own (Activity.Leave answer) e ∙ ap (end_last (length r.history.log) (reply_of answer l.pairs)) x.is ∙ end_last-snoc (length r.history.log) (reply_of answer l.pairs) x.before x.last))
             (in_turn-snoc 0 x.before x.last.first (ended_at (length r.history.log) (reply_of answer l.pairs) x.last) (record { at = length r.history.log; reply = reply_of answer l.pairs }) (length r'.history.log) x.in_turn (omega arith) refl x.first (omega (arith, longer)));
         makes = λ u. absurd (subst IsBusy (left_idle answer e) u);
       }
@@ -251,10 +251,10 @@ module _ (z : Sizes) (r r' : Run) (s : ℕ) (choice : Choice) (l l' : Local) (a 
           })
 
       which : (b : Activity) → a ≡ b → KeepsTurns (length r'.history.log) l' (seen_by s r'.history.calls)
-      which Idle e =
+      which Activity.Idle e =
           let c = begins_call choice (subst (λ b. is_skipped b choice ≡ false) e h.moves) in
           begins e c (begun_local c.0 e c.1)
-      which (Leave answer) e = ends answer e (mine.makes (subst IsBusy (sym (h.activity ∙ e)) tt))
+      which (Activity.Leave answer) e = ends answer e (mine.makes (subst IsBusy (sym (h.activity ∙ e)) tt))
       which b e = stays b e tt tt tt (own b e)
 
   -- Longer lists.
@@ -263,7 +263,7 @@ module _ (z : Sizes) (r r' : Run) (s : ℕ) (choice : Choice) (l l' : Local) (a 
   pub still_own : AreLatest r → AllInTurn r → AreStill (seen_by s r.history.calls) (seen_by s r'.history.calls)
   still_own latest turns = subst (AreStill (seen_by s r.history.calls)) (sym (seen_own latest)) (which a refl)
     where
-      begins : (c : Choice) → AreStill (seen_by s r.history.calls) (seen_after Idle c l (length r.history.log) (seen_by s r.history.calls))
+      begins : (c : Choice) → AreStill (seen_by s r.history.calls) (seen_after Activity.Idle c l (length r.history.log) (seen_by s r.history.calls))
       begins (Begin call) = still-push _ _
       begins Go = still-same _
       begins (Guess q) = still-same _
@@ -274,8 +274,8 @@ module _ (z : Sizes) (r r' : Run) (s : ℕ) (choice : Choice) (l l' : Local) (a 
           (still-last x.before x.last (ended_at (length r.history.log) reply x.last) (record { number = refl; call = refl; first = refl; end = λ e f. let y : None ≡ Some e = sym x.runs ∙ f in absurd (cc) }))
 
       which : (b : Activity) → a ≡ b → AreStill (seen_by s r.history.calls) (seen_after b choice l (length r.history.log) (seen_by s r.history.calls))
-      which Idle e = begins choice
-      which (Leave answer) e = ends (reply_of answer l.pairs) ((turns s l h.knows).makes (subst IsBusy (sym (h.activity ∙ e)) tt))
+      which Activity.Idle e = begins choice
+      which (Activity.Leave answer) e = ends (reply_of answer l.pairs) ((turns s l h.knows).makes (subst IsBusy (sym (h.activity ∙ e)) tt))
       which b e = still-same _
 
   -- the calls of every seat go on

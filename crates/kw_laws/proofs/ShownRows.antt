@@ -1,11 +1,10 @@
 -- The rows as their words show them: what stands in the cells of a row is what was put by the
 -- stamped puts for which the cells stand, and the rows that are met from Head, with their ranges,
 -- are the live ones.
-use Rattle.std.proofs.Common.{ℕ, ◌≡◌, ◌≢◌, ◌⊎◌, inl, inr, ◌<◌, ◌≤◌, Bool, true, false, if◌then◌else◌, Option, Some, None, arith, refl, sym, ◌∙◌, ap, subst, length, slice_get}
+use Rattle.std.proofs.Common.{ℕ, ◌≡◌, ◌≢◌, ◌⊎◌, inl, inr, ◌<◌, ◌≤◌, Bool, true, false, Option, Some, None, arith, refl, sym, ◌∙◌, ap, subst, slice_get}
 use Rattle.std.proofs.lemmas.Bool.{cases_eq, cases_lt}
 use Rattle.std.proofs.lemmas.Option.{same_Some}
 use Rattle.kw_words.specs.declared.layout.Name.TheVariants as name
-use Rattle.kw_words.specs.declared.pend.Pend.{Pend}
 use Rattle.kw_words.specs.declared.pend.Pend.TheVariants as pend
 use Rattle.kw_words.specs.Pend.{pend_of, pend_word}
 use Rattle.kw_words.proofs.PendWords.{pend_of-Idle, pend_of-Frozen, pend_of-Pending, pend_of-Stamped}
@@ -16,9 +15,7 @@ use Rattle.kw_core.specs.HistoryLaws.{IsPut}
 use Rattle.kw_core.specs.Run.{Run}
 use Rattle.kw_core.specs.Stages.{IsFresh, IsPublished, IsPutting}
 use Rattle.kw_core.specs.Words.{given_in, least_in, next_in}
-use Rattle.kw_core.proofs.Attempts.{in_range}
-use Rattle.kw_rows.specs.Ledger.{Dead, Free, IsHeld, IsLive, Live, Status}
-use Rattle.kw_rows.specs.Rows as rows
+use Rattle.kw_rows.specs.Ledger.{Dead, Free, IsLive, Live, Status}
 use Rattle.kw_rows.specs.Rows.{WasLinked, bound}
 use Rattle.kw_shape.specs.RowsIn.{rows_in}
 use Rattle.kw_shape.proofs.LinkedRows.{met_live}

@@ -12,7 +12,10 @@ use Rattle.kw_rows.specs.Ledger as rows
 use Rattle.kw_rows.specs.RowState.{IsLed}
 use Rattle.kw_rows.specs.States.{HasState, IsDeadState, IsLiveState}
 use Rattle.kw_world.specs.declared.activity.Activity.{Activity}
-use Rattle.kw_world.specs.declared.activity.Activity.TheVariants.{BalState, BalNormal, Engage, Decide, Reclaim, TakeRow, GiveBack, Normalise, Retire}
+use Rattle.kw_world.specs.declared.activity.rebalance.engage.Engage.TheVariants as Engage
+use Rattle.kw_world.specs.declared.activity.rebalance.Rebalance.TheVariants as Rebalance
+use Rattle.kw_world.specs.declared.activity.rebalance.replace.Replace.TheVariants as Replace
+use Rattle.kw_world.specs.declared.activity.rebalance.seek.Seek.TheVariants as Seek
 use Rattle.kw_world.specs.declared.event.Choice.{Choice}
 use Rattle.kw_world.specs.declared.event.Event.{Event}
 use Rattle.kw_world.specs.declared.local.Local.{Local}
@@ -91,17 +94,17 @@ module _ (z : Sizes) (r r' : Run) (s : ℕ) (choice : Choice) (l l' : Local) (i 
 
   -- no event makes a row go along with another
   states_keep : (a : Activity) → Happens z r r' s choice l l' a → IsSolo (state_of (word z r'.world (name.State q)))
-  states_keep (BalNormal seat) h = exchanges l.row _ Normal tt tt h.changed.same (state_stays (BalNormal seat) h q o)
-  states_keep Engage h = let few : 0 ≤ 1 = omega arith in exchanges l.row _ (Leader 0) (omega arith) few h.changed.same (state_stays Engage h q o)
-  states_keep (Decide count) h =
-      let one : count ≡ 1 = (kinds_at (Decide count) h i).kind.1 in
+  states_keep (Activity.Rebalance (Rebalance.Engage (Engage.Normal seat))) h = exchanges l.row _ Normal tt tt h.changed.same (state_stays (Activity.Rebalance (Rebalance.Engage (Engage.Normal seat))) h q o)
+  states_keep (Activity.Rebalance (Rebalance.Engage Engage.Lead)) h = let few : 0 ≤ 1 = omega arith in exchanges l.row _ (Leader 0) (omega arith) few h.changed.same (state_stays (Activity.Rebalance (Rebalance.Engage Engage.Lead)) h q o)
+  states_keep (Activity.Rebalance (Rebalance.Engage (Engage.Decide count))) h =
+      let one : count ≡ 1 = (kinds_at (Activity.Rebalance (Rebalance.Engage (Engage.Decide count))) h i).kind.1 in
       let few : count ≤ 1 = omega (arith, one) in
-      exchanges l.row _ (Leader count) (omega (arith, one)) few h.changed.same (state_stays (Decide count) h q o)
-  states_keep Reclaim h = exchanges l.rebalance.sought _ Free tt tt h.changed.same (state_stays Reclaim h q o)
-  states_keep TakeRow h = exchanges l.rebalance.sought _ (Infant s) (omega (arith, h.seat, i.sane.sized.few_seats)) tt h.changed.same (state_stays TakeRow h q o)
-  states_keep GiveBack h = stores (infant l) Free tt tt h.changed.same (state_stays GiveBack h q o)
-  states_keep Normalise h = exchanges (infant l) _ Normal tt tt h.changed.same (state_stays Normalise h q o)
-  states_keep Retire h = stores l.row (Retired l.rebalance.number) (i.sane.locals s l h.knows).ranges.rebalance.number tt h.changed.same (state_stays Retire h q o)
+      exchanges l.row _ (Leader count) (omega (arith, one)) few h.changed.same (state_stays (Activity.Rebalance (Rebalance.Engage (Engage.Decide count))) h q o)
+  states_keep (Activity.Rebalance (Rebalance.Seek Seek.Reclaim)) h = exchanges l.rebalance.sought _ Free tt tt h.changed.same (state_stays (Activity.Rebalance (Rebalance.Seek Seek.Reclaim)) h q o)
+  states_keep (Activity.Rebalance (Rebalance.Seek Seek.Take)) h = exchanges l.rebalance.sought _ (Infant s) (omega (arith, h.seat, i.sane.sized.few_seats)) tt h.changed.same (state_stays (Activity.Rebalance (Rebalance.Seek Seek.Take)) h q o)
+  states_keep (Activity.Rebalance (Rebalance.Seek Seek.GiveBack)) h = stores (infant l) Free tt tt h.changed.same (state_stays (Activity.Rebalance (Rebalance.Seek Seek.GiveBack)) h q o)
+  states_keep (Activity.Rebalance (Rebalance.Replace Replace.Normalise)) h = exchanges (infant l) _ Normal tt tt h.changed.same (state_stays (Activity.Rebalance (Rebalance.Replace Replace.Normalise)) h q o)
+  states_keep (Activity.Rebalance (Rebalance.Replace Replace.Retire)) h = stores l.row (Retired l.rebalance.number) (i.sane.locals s l h.knows).ranges.rebalance.number tt h.changed.same (state_stays (Activity.Rebalance (Rebalance.Replace Replace.Retire)) h q o)
   states_keep a h = same_state (state_stays a h q o (λ x. x))
 
 -- the invariant, and that each row is alone
@@ -133,7 +136,7 @@ solo_holds z o i es v = holds_of_history z o (Solo z) (solo_goes_on z o) starts 
 
 module _ (z : Sizes) (r : Run) (q : ℕ) where
   -- the state of a row of the list that goes alone
-  live_state : (c : Option State) → IsLiveState (rows_in (word z r.world)) r.ledger.rows q (state_met c) → IsSolo c → IsMetState BalState c
+  live_state : (c : Option State) → IsLiveState (rows_in (word z r.world)) r.ledger.rows q (state_met c) → IsSolo c → IsMetState (Activity.Rebalance (Rebalance.Engage Engage.State)) c
   live_state (Some Free) h x = absurd h
   live_state (Some (Infant seat)) h x = tt
   live_state (Some Normal) h x = tt
@@ -143,7 +146,7 @@ module _ (z : Sizes) (r : Run) (q : ℕ) where
   live_state None h x = absurd h
 
   -- that of a row that was in it
-  dead_state : (c : Option State) → IsDeadState r.ledger.rows q (state_met c) → IsSolo c → IsMetState BalState c
+  dead_state : (c : Option State) → IsDeadState r.ledger.rows q (state_met c) → IsSolo c → IsMetState (Activity.Rebalance (Rebalance.Engage Engage.State)) c
   dead_state (Some Free) h x = absurd h
   dead_state (Some (Infant seat)) h x = tt
   dead_state (Some Normal) h x = tt
@@ -153,12 +156,12 @@ module _ (z : Sizes) (r : Run) (q : ℕ) where
   dead_state None h x = absurd h
 
   -- so that of a row that a seat may name
-  fresh_state : Shape z r → (t : ℕ) → rows.IsFresh r.ledger.rows t q → IsSolo (state_of (word z r.world (name.State q))) → IsMetState BalState (state_of (word z r.world (name.State q)))
+  fresh_state : Shape z r → (t : ℕ) → rows.IsFresh r.ledger.rows t q → IsSolo (state_of (word z r.world (name.State q))) → IsMetState (Activity.Rebalance (Rebalance.Engage Engage.State)) (state_of (word z r.world (name.State q)))
   fresh_state i t (inl a) x = live_state _ (subst (HasState (rows_in (word z r.world)) r.ledger.rows q) a (i.rows.states q)) x
   fresh_state i t (inr a) x = dead_state _ (subst (HasState (rows_in (word z r.world)) r.ledger.rows q) a.dead (i.rows.states q)) x
 
 -- the state of a row that is led
-led_state : (count : ℕ) (c : Option State) → IsLed 0 (state_met c) → IsSolo c → IsMetState (Decide count) c
+led_state : (count : ℕ) (c : Option State) → IsLed 0 (state_met c) → IsSolo c → IsMetState (Activity.Rebalance (Rebalance.Engage (Engage.Decide count))) c
 led_state count (Some Free) h x = absurd h
 led_state count (Some (Infant seat)) h x = absurd h
 led_state count (Some Normal) h x = absurd h
@@ -178,8 +181,8 @@ stated_by z r k t l g x = by l.activity x (k.inv.shape.balances t l g)
     solo = k.solo l.row (k.inv.shape.sane.locals t l g).below.row
 
     by : (a : Activity) → IsStated a → Balances (word z r.world) r.ledger.rows t a l → IsMetState a (state_of (word z r.world (name.State l.row)))
-    by BalState y b = fresh_state z r l.row k.inv.shape t (b.fresh tt) solo
-    by (Decide count) y b = led_state count _ b.group.1 solo
+    by (Activity.Rebalance (Rebalance.Engage Engage.State)) y b = fresh_state z r l.row k.inv.shape t (b.fresh tt) solo
+    by (Activity.Rebalance (Rebalance.Engage (Engage.Decide count))) y b = led_state count _ b.group.1 solo
     by _ y b = absurd y
 
 -- after every valid list

@@ -1,13 +1,13 @@
 -- Of a full row that was gathered, each attempt that was announced is lost, or stamped and
 -- gathered.
-use Rattle.std.proofs.Common.{ℕ, zero, suc, ◌≡◌, ◌⊎◌, inl, inr, ◌<◌, Bool, true, false, if◌then◌else◌, Some, List, [], ◌∷◌, arith, refl, sym, ◌∙◌, ap, subst, length, slice_get}
-use Rattle.std.specs.Prelude.{All, Contains}
+use Rattle.std.proofs.Common.{ℕ, suc, ◌≡◌, ◌⊎◌, inl, inr, ◌<◌, Bool, true, false, Some, List, [], ◌∷◌, arith, refl, sym, ◌∙◌, subst, slice_get}
+use Rattle.std.specs.Prelude.{Contains}
 use Rattle.std.proofs.lemmas.Bool.{cases_eq}
 use Rattle.std.proofs.lemmas.List.Elements.{All-contains}
-use Rattle.std.proofs.lemmas.Option.{same_Some}
 use Rattle.kw_cells.specs.declared.cell.Cell.{Cell}
 use Rattle.kw_world.specs.declared.activity.Activity.{Activity}
-use Rattle.kw_world.specs.declared.activity.Activity.TheVariants.{SeekFirst, Seek, SeekPass, Reclaim, TakeRow, GiveBack, WriteCount, WriteMin, WriteNext, WriteFirst, WritePend, WriteKey, WriteValue, WriteVersion, WriteAfter, Before, BeforeGuess, BeforeHead, BeforeLink, BeforeMin, Replace}
+use Rattle.kw_world.specs.declared.activity.rebalance.Rebalance.TheVariants as Rebalance
+use Rattle.kw_world.specs.declared.activity.rebalance.replace.Replace.TheVariants as Replace
 use Rattle.kw_world.specs.declared.local.Local.{Local}
 use Rattle.kw_world.specs.Sane.{frozen_by}
 use Rattle.kw_world.specs.Sizes.{Sizes}
@@ -35,27 +35,14 @@ pub record HasPassedAll (z : Sizes) (a : Activity) : Type 0 where
   pub all : frozen_by z a ≡ z.seats
 
 planned : (z : Sizes) (a : Activity) → HasPlanned (nursing_of a) → HasPassedAll z a
-planned z SeekFirst p = record { balancing = tt; frozen = tt; all = refl }
-planned z Seek p = record { balancing = tt; frozen = tt; all = refl }
-planned z (SeekPass i) p = record { balancing = tt; frozen = tt; all = refl }
-planned z Reclaim p = record { balancing = tt; frozen = tt; all = refl }
-planned z TakeRow p = record { balancing = tt; frozen = tt; all = refl }
-planned z GiveBack p = record { balancing = tt; frozen = tt; all = refl }
-planned z WriteCount p = record { balancing = tt; frozen = tt; all = refl }
-planned z WriteMin p = record { balancing = tt; frozen = tt; all = refl }
-planned z WriteNext p = record { balancing = tt; frozen = tt; all = refl }
-planned z WriteFirst p = record { balancing = tt; frozen = tt; all = refl }
-planned z (WritePend i) p = record { balancing = tt; frozen = tt; all = refl }
-planned z (WriteKey j) p = record { balancing = tt; frozen = tt; all = refl }
-planned z (WriteValue j) p = record { balancing = tt; frozen = tt; all = refl }
-planned z (WriteVersion j) p = record { balancing = tt; frozen = tt; all = refl }
-planned z (WriteAfter j) p = record { balancing = tt; frozen = tt; all = refl }
-planned z Before p = record { balancing = tt; frozen = tt; all = refl }
-planned z BeforeGuess p = record { balancing = tt; frozen = tt; all = refl }
-planned z BeforeHead p = record { balancing = tt; frozen = tt; all = refl }
-planned z BeforeLink p = record { balancing = tt; frozen = tt; all = refl }
-planned z BeforeMin p = record { balancing = tt; frozen = tt; all = refl }
-planned z Replace p = record { balancing = tt; frozen = tt; all = refl }
+planned z (Activity.Rebalance (Rebalance.Seek _)) p = record { balancing = tt; frozen = tt; all = refl }
+planned z (Activity.Rebalance (Rebalance.Write _)) p = record { balancing = tt; frozen = tt; all = refl }
+planned z (Activity.Rebalance (Rebalance.Replace Replace.Start)) p = record { balancing = tt; frozen = tt; all = refl }
+planned z (Activity.Rebalance (Rebalance.Replace Replace.GuessedLeast)) p = record { balancing = tt; frozen = tt; all = refl }
+planned z (Activity.Rebalance (Rebalance.Replace Replace.First)) p = record { balancing = tt; frozen = tt; all = refl }
+planned z (Activity.Rebalance (Rebalance.Replace Replace.Next)) p = record { balancing = tt; frozen = tt; all = refl }
+planned z (Activity.Rebalance (Rebalance.Replace Replace.NextLeast)) p = record { balancing = tt; frozen = tt; all = refl }
+planned z (Activity.Rebalance (Rebalance.Replace Replace.Exchange)) p = record { balancing = tt; frozen = tt; all = refl }
 planned z _ p = absurd p
 
 -- a place at which a cell was gathered is that of one of the cells

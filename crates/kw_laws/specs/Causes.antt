@@ -15,7 +15,10 @@ use Rattle.kw_model.specs.declared.call.Call.{Call}
 use Rattle.kw_model.specs.declared.call.Call.TheVariants.{Put, Del, Scan}
 use Rattle.kw_model.specs.declared.call.Reply.TheVariants.{NoRows, Spent}
 use Rattle.kw_world.specs.declared.activity.Activity.{Activity}
-use Rattle.kw_world.specs.declared.activity.Activity.TheVariants.{ScanClock, Leave, BalClock, BalEpoch, SeekFirst, Seek, SeekPass, Reclaim, TakeRow}
+use Rattle.kw_world.specs.declared.activity.draw.Draw.TheVariants as Draw
+use Rattle.kw_world.specs.declared.activity.rebalance.engage.Engage.TheVariants as Engage
+use Rattle.kw_world.specs.declared.activity.rebalance.Rebalance.TheVariants as Rebalance
+use Rattle.kw_world.specs.declared.activity.rebalance.seek.Seek.TheVariants as Seek
 use Rattle.kw_world.specs.declared.answer.Answer.TheVariants as answer
 use Rattle.kw_world.specs.declared.event.Event.{Event}
 use Rattle.kw_world.specs.declared.local.Local.{Local}
@@ -33,11 +36,11 @@ use Rattle.kw_laws.specs.Mirror.{Acts, operation}
 
 -- by this operation a seat that makes the call asks at this activity for a version, or for a number
 abbrev pub IsAsking : Call → Activity → Operation → Type 0
-IsAsking (Scan from upto) ScanClock op = op ≡ operation kind.LoadClock name.Clock Load
-IsAsking (Put key value) BalClock op = op ≡ operation kind.LoadClock name.Clock Load
-IsAsking (Put key value) BalEpoch op = op ≡ operation kind.LoadEpoch name.Epoch Load
-IsAsking (Del key) BalClock op = op ≡ operation kind.LoadClock name.Clock Load
-IsAsking (Del key) BalEpoch op = op ≡ operation kind.LoadEpoch name.Epoch Load
+IsAsking (Scan from upto) (Activity.Draw Draw.Clock) op = op ≡ operation kind.LoadClock name.Clock Load
+IsAsking (Put key value) (Activity.Rebalance (Rebalance.Engage Engage.Clock)) op = op ≡ operation kind.LoadClock name.Clock Load
+IsAsking (Put key value) (Activity.Rebalance (Rebalance.Engage Engage.Epoch)) op = op ≡ operation kind.LoadEpoch name.Epoch Load
+IsAsking (Del key) (Activity.Rebalance (Rebalance.Engage Engage.Clock)) op = op ≡ operation kind.LoadClock name.Clock Load
+IsAsking (Del key) (Activity.Rebalance (Rebalance.Engage Engage.Epoch)) op = op ≡ operation kind.LoadEpoch name.Epoch Load
 IsAsking _ _ op = ⊥
 
 -- after the first position and before the last the seat, which makes this call, asked, and found
@@ -73,10 +76,10 @@ taking s row = operation kind.TakeRow (name.State row) (Exchange (state_word sta
 
 -- by this operation the search of the seat asks at this activity for the row
 abbrev pub IsTrying : ℕ → ℕ → Activity → Operation → Type 0
-IsTrying s row SeekFirst op = op ≡ asking row
-IsTrying s row Seek op = op ≡ asking row
-IsTrying s row Reclaim op = (number : ℕ) × (op ≡ reclaiming row number)
-IsTrying s row TakeRow op = op ≡ taking s row
+IsTrying s row (Activity.Rebalance (Rebalance.Seek Seek.First)) op = op ≡ asking row
+IsTrying s row (Activity.Rebalance (Rebalance.Seek Seek.Next)) op = op ≡ asking row
+IsTrying s row (Activity.Rebalance (Rebalance.Seek Seek.Reclaim)) op = (number : ℕ) × (op ≡ reclaiming row number)
+IsTrying s row (Activity.Rebalance (Rebalance.Seek Seek.Take)) op = op ≡ taking s row
 IsTrying s row _ op = ⊥
 
 -- after the first position and before the last the seat does not ask for the row
@@ -91,7 +94,7 @@ pub record MetPass (z : Sizes) (o : Opening) (es : List Event) (s first last num
   pub before : at < last
   pub seat : ℕ
   pub epoch : ℕ
-  pub acts : Acts z o es at s (SeekPass seat) (asking_pass seat) epoch
+  pub acts : Acts z o es at s (Activity.Rebalance (Rebalance.Seek (Seek.Pass seat))) (asking_pass seat) epoch
   pub some : 1 ≤ epoch
   pub old : epoch ≤ number
 
@@ -121,11 +124,11 @@ pub record TookRow (z : Sizes) (o : Opening) (es : List Event) (s first last row
   pub at : ℕ
   pub after : first ≤ at
   pub before : at < last
-  pub acts : Acts z o es at s TakeRow (taking s row) (state_word state.Free)
+  pub acts : Acts z o es at s (Activity.Rebalance (Rebalance.Seek Seek.Take)) (taking s row) (state_word state.Free)
 
 -- after the first position and before the last the seat begins no search
 abbrev pub NoSearch : Sizes → Opening → List Event → ℕ → ℕ → ℕ → Type 0
-NoSearch z o es s first last = (u found : ℕ) (op : Operation) → first < u → u < last → Acts z o es u s SeekFirst op found → ⊥
+NoSearch z o es s first last = (u found : ℕ) (op : Operation) → first < u → u < last → Acts z o es u s (Activity.Rebalance (Rebalance.Seek Seek.First)) op found → ⊥
 
 -- after the first position and before the last the seat began a search, its last one there, which
 -- asked for each row of the table: it found it taken, or took it, and it took fewer rows than the
@@ -136,7 +139,7 @@ pub record AskedAll (z : Sizes) (o : Opening) (es : List Event) (s rows first la
   pub before : begun < last
   pub row : ℕ
   pub found : ℕ
-  pub begins : Acts z o es begun s SeekFirst (asking row) found
+  pub begins : Acts z o es begun s (Activity.Rebalance (Rebalance.Seek Seek.First)) (asking row) found
   pub alone : NoSearch z o es s begun last
   pub taken : List ℕ
   pub took : (q : ℕ) → IsIn taken q → TookRow z o es s begun last q
@@ -152,4 +155,4 @@ pub record HaveCauses (z : Sizes) (o : Opening) (es : List Event) (h : History) 
 -- so it is with each seat that is about to leave for want of rows: after some event of its own it
 -- has found why
 abbrev pub AsksWhereItStands : Sizes → Opening → List Event → Type 0
-AsksWhereItStands z o es = (t : ℕ) (l : Local) → slice_get (world z o es).locals t ≡ Some l → l.activity ≡ Leave answer.NoRows → (first : ℕ) × AskedAll z o es t o.rows first (length es)
+AsksWhereItStands z o es = (t : ℕ) (l : Local) → slice_get (world z o es).locals t ≡ Some l → l.activity ≡ Activity.Leave answer.NoRows → (first : ℕ) × AskedAll z o es t o.rows first (length es)

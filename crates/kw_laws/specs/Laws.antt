@@ -14,7 +14,15 @@ use Rattle.kw_words.specs.State.{state_of}
 use Rattle.kw_cells.specs.declared.cell.Cell as kw_cell
 use Rattle.kw_model.specs.Map.{IsRising}
 use Rattle.kw_world.specs.declared.activity.Activity.{Activity}
-use Rattle.kw_world.specs.declared.activity.Activity.TheVariants.{WalkMin, ListFrom, Announce, Stamp, InsFrom, ScanSettle, ClearScan, BalState, Decide, TakeRow, BeforeLink, BeforeMin}
+use Rattle.kw_world.specs.declared.activity.draw.Draw.TheVariants as Draw
+use Rattle.kw_world.specs.declared.activity.rebalance.engage.Engage.TheVariants as Engage
+use Rattle.kw_world.specs.declared.activity.insert.Insert.TheVariants as Insert
+use Rattle.kw_world.specs.declared.activity.put.Put.TheVariants as Put
+use Rattle.kw_world.specs.declared.activity.read.Read.TheVariants as Read
+use Rattle.kw_world.specs.declared.activity.rebalance.Rebalance.TheVariants as Rebalance
+use Rattle.kw_world.specs.declared.activity.rebalance.replace.Replace.TheVariants as Replace
+use Rattle.kw_world.specs.declared.activity.rebalance.seek.Seek.TheVariants as Seek
+use Rattle.kw_world.specs.declared.activity.walk.Walk.TheVariants as Walk
 use Rattle.kw_world.specs.declared.local.Local.{Local}
 use Rattle.kw_world.specs.ListTransitions.{link_name}
 use Rattle.kw_world.specs.Sizes.{Sizes}
@@ -108,19 +116,19 @@ pub record IsDrawnCover (r : Run) (t : ℕ) (l : Local) (bound : ℕ) (pairs : L
 -- here a seat looks at the state of the row that it is about to rebalance, or at whose link it has
 -- put the mark
 abbrev pub IsStated : Activity → Type 0
-IsStated BalState = Unit {0}
-IsStated (Decide count) = Unit {0}
+IsStated (Activity.Rebalance (Rebalance.Engage Engage.State)) = Unit {0}
+IsStated (Activity.Rebalance (Rebalance.Engage (Engage.Decide count))) = Unit {0}
 IsStated _ = ⊥
 
 -- the states that it may find: at first the row is one that a seat has built, or normal, or led
 -- alone, or retired; once its link is marked, it is led alone, or retired
 abbrev pub IsMetState : Activity → Option State → Type 0
-IsMetState BalState (Some (state.Infant seat)) = Unit {0}
-IsMetState BalState (Some state.Normal) = Unit {0}
-IsMetState BalState (Some (state.Leader count)) = count ≤ 1
-IsMetState BalState (Some (state.Retired number)) = Unit {0}
-IsMetState (Decide c) (Some (state.Leader count)) = count ≤ 1
-IsMetState (Decide c) (Some (state.Retired number)) = Unit {0}
+IsMetState (Activity.Rebalance (Rebalance.Engage Engage.State)) (Some (state.Infant seat)) = Unit {0}
+IsMetState (Activity.Rebalance (Rebalance.Engage Engage.State)) (Some state.Normal) = Unit {0}
+IsMetState (Activity.Rebalance (Rebalance.Engage Engage.State)) (Some (state.Leader count)) = count ≤ 1
+IsMetState (Activity.Rebalance (Rebalance.Engage Engage.State)) (Some (state.Retired number)) = Unit {0}
+IsMetState (Activity.Rebalance (Rebalance.Engage (Engage.Decide c))) (Some (state.Leader count)) = count ≤ 1
+IsMetState (Activity.Rebalance (Rebalance.Engage (Engage.Decide c))) (Some (state.Retired number)) = Unit {0}
 IsMetState _ _ = ⊥
 
 -- what every valid list keeps
@@ -138,14 +146,14 @@ pub record KeepsLaws (z : Sizes) (r : Run) : Type 0 where
   pub numbers : Numbers (word z r.world) r.ledger.rows
   -- a row that a seat tries to take, and that is retired, was retired in its pass: its number is
   -- not below the epoch of the pass
-  pub retakes : (t : ℕ) (l : Local) → slice_get r.world.locals t ≡ Some l → l.activity ≡ TakeRow → (n : ℕ) → state_of (word z r.world (name.State l.rebalance.sought)) ≡ Some (state.Retired n) → l.epoch ≤ n
+  pub retakes : (t : ℕ) (l : Local) → slice_get r.world.locals t ≡ Some l → l.activity ≡ Activity.Rebalance (Rebalance.Seek Seek.Take) → (n : ℕ) → state_of (word z r.world (name.State l.rebalance.sought)) ≡ Some (state.Retired n) → l.epoch ≤ n
   -- a seat that is to rebalance a row finds it in one of few states: no row goes along with another
   pub stated : (t : ℕ) (l : Local) → slice_get r.world.locals t ≡ Some l → IsStated l.activity → IsMetState l.activity (state_of (word z r.world (name.State l.row)))
   -- where the walk to the row before a full one meets the end of the list, the full row is in the
   -- list no more
-  pub ends_before : (t : ℕ) (l : Local) → slice_get r.world.locals t ≡ Some l → l.activity ≡ BeforeLink → next_in (word z r.world) (row_or_first l.rebalance.before) ≡ None → IsMet (word z r.world) l.row → ⊥
+  pub ends_before : (t : ℕ) (l : Local) → slice_get r.world.locals t ≡ Some l → l.activity ≡ Activity.Rebalance (Rebalance.Replace Replace.Next) → next_in (word z r.world) (row_or_first l.rebalance.before) ≡ None → IsMet (word z r.world) l.row → ⊥
   -- nor is it where that walk meets a row whose least key is not below that of the full one
-  pub passes_full : (t : ℕ) (l : Local) → slice_get r.world.locals t ≡ Some l → l.activity ≡ BeforeMin → l.lower ≤ least_in (word z r.world) l.candidate → IsMet (word z r.world) l.row → ⊥
+  pub passes_full : (t : ℕ) (l : Local) → slice_get r.world.locals t ≡ Some l → l.activity ≡ Activity.Rebalance (Rebalance.Replace Replace.NextLeast) → l.lower ≤ least_in (word z r.world) l.candidate → IsMet (word z r.world) l.row → ⊥
   -- a row that is met along the link of one that a seat may name has a greater minimum than that
   -- one
   pub links : (q n : ℕ) → IsHeld r.ledger.rows q → next_in (word z r.world) q ≡ Some n → least_in (word z r.world) q < least_in (word z r.world) n
@@ -155,7 +163,7 @@ pub record KeepsLaws (z : Sizes) (r : Run) : Type 0 where
   pub walks : (t : ℕ) (l : Local) → slice_get r.world.locals t ≡ Some l → Walks (word z r.world) r.ledger.rows t l.activity l
   -- a walk goes up: the row after the one that it is at has a greater minimum than the seat knows
   -- of its own, and so has the row after that of its key
-  pub climbs : (t : ℕ) (l : Local) → slice_get r.world.locals t ≡ Some l → l.activity ≡ WalkMin → l.lower < least_in (word z r.world) l.candidate
+  pub climbs : (t : ℕ) (l : Local) → slice_get r.world.locals t ≡ Some l → l.activity ≡ Activity.Walk Walk.NextLeast → l.lower < least_in (word z r.world) l.candidate
   pub climbs_on : (t : ℕ) (l : Local) → slice_get r.world.locals t ≡ Some l → IsAtRow l.activity → (n : ℕ) → l.next ≡ Some n → l.lower < l.upper
   -- the pairs that a scan has added rise by key
   pub pairs : (t : ℕ) (l : Local) → slice_get r.world.locals t ≡ Some l → is_scan l.call ≡ true → IsCovering l.activity → IsRising l.pairs
@@ -166,27 +174,27 @@ pub record KeepsLaws (z : Sizes) (r : Run) : Type 0 where
   -- would have wanted next
   pub covers : (t : ℕ) (l : Local) → slice_get r.world.locals t ≡ Some l → is_scan l.call ≡ true → IsCovering l.activity → IsDrawnCover r t l l.want l.pairs
   -- a scan that is over, and has not been stopped, has those of its whole range
-  pub covered : (t : ℕ) (l : Local) → slice_get r.world.locals t ≡ Some l → is_scan l.call ≡ true → l.activity ≡ ClearScan Pairs → IsDrawnCover r t l (last_key l.call + 1) l.pairs
+  pub covered : (t : ℕ) (l : Local) → slice_get r.world.locals t ≡ Some l → is_scan l.call ≡ true → l.activity ≡ Activity.EndScan Pairs → IsDrawnCover r t l (last_key l.call + 1) l.pairs
   -- a call that has read no row has no pairs
   pub early : (t : ℕ) (l : Local) → slice_get r.world.locals t ≡ Some l → IsEarly l.activity → l.pairs ≡ []
   -- a seat that is to announce a cell finds its entry idle or frozen
-  pub announces : (t : ℕ) (l : Local) → slice_get r.world.locals t ≡ Some l → l.activity ≡ Announce → IsIdleOrFrozen (pend_of (word z r.world (name.Pend l.row t)))
+  pub announces : (t : ℕ) (l : Local) → slice_get r.world.locals t ≡ Some l → l.activity ≡ Activity.Put Put.Announce → IsIdleOrFrozen (pend_of (word z r.world (name.Pend l.row t)))
   -- a seat that is to stamp its cell finds its entry pending or stamped with it, or frozen
-  pub stamps : (t : ℕ) (l : Local) → slice_get r.world.locals t ≡ Some l → l.activity ≡ Stamp → HasCellOrFrozen l.cell (pend_of (word z r.world (name.Pend l.row t)))
+  pub stamps : (t : ℕ) (l : Local) → slice_get r.world.locals t ≡ Some l → l.activity ≡ Activity.Put Put.Stamp → HasCellOrFrozen l.cell (pend_of (word z r.world (name.Pend l.row t)))
   -- a scan that is to settle finds that it waits, or a version
-  pub settles : (t : ℕ) (l : Local) → slice_get r.world.locals t ≡ Some l → l.activity ≡ ScanSettle → IsWaitingOrDrawn l.waiting (scan_of (word z r.world (name.Scan t)))
+  pub settles : (t : ℕ) (l : Local) → slice_get r.world.locals t ≡ Some l → l.activity ≡ Activity.Draw Draw.Settle → IsWaitingOrDrawn l.waiting (scan_of (word z r.world (name.Scan t)))
   -- a cell that a put meets on its walk along the row's list stands behind the cell whose link led
   -- to it, so that the put meets none twice: it has met fewer cells than the row has, and so there
   -- is one for it to meet
   pub meets : (t : ℕ) (l : Local) → slice_get r.world.locals t ≡ Some l → IsMeeting l.activity → IsBehind (list_in (word z r.world) r.listed l.row) l.link l.place
-  pub walked : (t : ℕ) (l : Local) → slice_get r.world.locals t ≡ Some l → l.activity ≡ InsFrom → l.walked < z.cells
+  pub walked : (t : ℕ) (l : Local) → slice_get r.world.locals t ≡ Some l → l.activity ≡ Activity.Insert Insert.Link → l.walked < z.cells
   -- a put loses fewer of its exchanges to insert a cell than the row has cells
   pub lost : (t : ℕ) (l : Local) → slice_get r.world.locals t ≡ Some l → IsInserting l.activity → l.lost < z.cells
   -- so it is with a get or a scan that walks along the row's list: a cell that it meets stands
   -- behind the cell whose link led to it, and where the link at which it stands leads to a cell, it
   -- has met fewer cells than the row has
   pub reader_meets : (t : ℕ) (l : Local) → slice_get r.world.locals t ≡ Some l → IsAtListed l.activity → IsBehind (list_in (word z r.world) r.listed l.row) l.link l.place
-  pub reads_on : (t : ℕ) (l : Local) → slice_get r.world.locals t ≡ Some l → l.activity ≡ ListFrom → (c : ℕ) → cell_of_link_word (word z r.world (link_name l.row l.link)) ≡ Some c → l.walked < z.cells
+  pub reads_on : (t : ℕ) (l : Local) → slice_get r.world.locals t ≡ Some l → l.activity ≡ Activity.Read Read.Link → (c : ℕ) → cell_of_link_word (word z r.world (link_name l.row l.link)) ≡ Some c → l.walked < z.cells
   -- each stamped put loaded its clock between its announcement and its stamp
   pub stamped : (p : ℕ) → IsPut r.history p → IsStampedInOrder r.history p
   -- the cell of each attempt whose row was not used again stands for it

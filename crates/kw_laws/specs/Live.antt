@@ -3,7 +3,9 @@ use Rattle.std.specs.Prelude.{ℕ, ◌≡◌, ◌≤◌, true, false, Some, List
 use Rattle.kw_words.specs.declared.kind.Kind.TheVariants as kind
 use Rattle.kw_words.specs.declared.layout.Name.TheVariants as name
 use Rattle.kw_words.specs.Plain.{pass_word}
-use Rattle.kw_world.specs.declared.activity.Activity.TheVariants.{Enter, ScanDraw}
+use Rattle.kw_world.specs.declared.activity.Activity.TheVariants as Activity
+use Rattle.kw_world.specs.declared.activity.draw.Draw.TheVariants as Draw
+use Rattle.kw_world.specs.declared.activity.enter.Enter.TheVariants as Enter
 use Rattle.kw_world.specs.declared.event.Event.{Event}
 use Rattle.kw_world.specs.declared.local.Local.{Local}
 use Rattle.kw_world.specs.declared.opening.Opening.{Opening}
@@ -28,13 +30,13 @@ pub record WasMet (z : Sizes) (o : Opening) (es : List Event) (q since : ℕ) : 
 pub record StoresPass (z : Sizes) (o : Opening) (es : List Event) (x s : ℕ) : Type 0 where
   pub epoch : ℕ
   pub found : ℕ
-  pub acts : Acts z o es x s Enter (operation kind.StorePass (name.Pass s) (Store (pass_word (Some epoch)))) found
+  pub acts : Acts z o es x s (Activity.Enter Enter.Announce) (operation kind.StorePass (name.Pass s) (Store (pass_word (Some epoch)))) found
 
 -- at position x the seat itself draws a version for its scan; the scan may yet get one that another
 -- seat draws for it
 pub record DrawsHere (z : Sizes) (o : Opening) (es : List Event) (x s : ℕ) : Type 0 where
   pub version : ℕ
-  pub acts : Acts z o es x s ScanDraw (operation kind.Draw name.Clock (Add 1)) version
+  pub acts : Acts z o es x s (Activity.Draw Draw.Version) (operation kind.Draw name.Clock (Add 1)) version
 
 -- the row at which a put, a delete or a get has arrived was met from Head along links at some
 -- position not before the one at which the seat stored its pass. The row that a scan reads was met

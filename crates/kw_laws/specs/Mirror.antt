@@ -13,7 +13,8 @@ use Rattle.kw_words.specs.declared.pend.Pend.TheVariants as pend
 use Rattle.kw_words.specs.Count.{count_of}
 use Rattle.kw_words.specs.Pend.{pend_word}
 use Rattle.kw_world.specs.declared.activity.Activity.{Activity}
-use Rattle.kw_world.specs.declared.activity.Activity.TheVariants.{Idle, LookClock, LookHelp, PutAdd, Announce, PutClock, Stamp}
+use Rattle.kw_world.specs.declared.activity.look.Look.TheVariants as Look
+use Rattle.kw_world.specs.declared.activity.put.Put.TheVariants as Put
 use Rattle.kw_world.specs.declared.local.Local.{Local}
 use Rattle.kw_world.specs.declared.event.Choice.{Choice}
 use Rattle.kw_world.specs.declared.event.Choice.TheVariants.{Begin, Go, Guess, Stop}
@@ -76,14 +77,14 @@ pub record BeginsCall (z : Sizes) (o : Opening) (es : List Event) (x s : ℕ) (c
   pub local : Local
   pub occurs : Occurs z o es x before (event s (Begin call))
   pub knows : slice_get before.locals s ≡ Some local
-  pub idle : local.activity ≡ Idle
+  pub idle : local.activity ≡ Activity.Idle
 
 -- a seat at this activity begins a call
 abbrev pub is_begun : Activity → Choice → Bool
-is_begun Idle (Begin call) = true
-is_begun Idle Go = false
-is_begun Idle (Guess r) = false
-is_begun Idle Stop = false
+is_begun Activity.Idle (Begin call) = true
+is_begun Activity.Idle Go = false
+is_begun Activity.Idle (Guess r) = false
+is_begun Activity.Idle Stop = false
 is_begun _ choice = false
 
 -- the event, of a seat that knows this, is one by which seat s begins a call
@@ -135,7 +136,7 @@ pub record MirrorsCall (z : Sizes) (o : Opening) (es : List Event) (h : History)
 -- at position x the seat asks the row for a cell, and is given this one
 pub record TakesCell (z : Sizes) (o : Opening) (es : List Event) (x s row cell : ℕ) : Type 0 where
   pub found : ℕ
-  pub acts : Acts z o es x s PutAdd (operation kind.AddCount (name.Count row) (Add 1)) found
+  pub acts : Acts z o es x s (Activity.Put Put.Add) (operation kind.AddCount (name.Count row) (Add 1)) found
   pub room : has_room z (count_of found) ≡ true
   pub given : given_of (count_of found) ≡ cell
   pub below : cell < z.cells
@@ -161,14 +162,14 @@ pub record StampedBy (z : Sizes) (o : Opening) (es : List Event) (q : Attempt) (
 
 -- by its own seat, or by a reader that helps
 abbrev pub StampedAt : Sizes → Opening → List Event → Attempt → Type 0
-StampedAt z o es q = StampedBy z o es q q.seat Stamp PutClock kind.Stamp ⊎ ((s : ℕ) × StampedBy z o es q s LookHelp LookClock kind.HelpStamp)
+StampedAt z o es q = StampedBy z o es q q.seat (Activity.Put Put.Stamp) (Activity.Put Put.Clock) kind.Stamp ⊎ ((s : ℕ) × StampedBy z o es q s (Activity.Look Look.Help) (Activity.Look Look.Clock) kind.HelpStamp)
 
 -- an attempt of the record: its seat was given the cell, within its call; it was announced by the
 -- exchange that won, and stamped so
 pub record MirrorsAttempt (z : Sizes) (o : Opening) (es : List Event) (h : History) (p : ℕ) : Type 0 where
   pub takes : TakesCell z o es (attempt h p).add (attempt h p).seat (attempt h p).row (attempt h p).cell
   pub within : (e : End) → (called h (attempt h p).call).end ≡ Some e → (attempt h p).add < e.at
-  pub announced : (attempt h p).is_announced ≡ true → Acts z o es (attempt h p).announced (attempt h p).seat Announce (announcing (attempt h p).row (attempt h p).seat (attempt h p).cell) (pend_word pend.Idle)
+  pub announced : (attempt h p).is_announced ≡ true → Acts z o es (attempt h p).announced (attempt h p).seat (Activity.Put Put.Announce) (announcing (attempt h p).row (attempt h p).seat (attempt h p).cell) (pend_word pend.Idle)
   pub stamped : IsPut h p → StampedAt z o es (attempt h p)
 
 -- All of it.

@@ -6,7 +6,8 @@ use Rattle.kw_words.specs.declared.layout.Name.TheVariants as name
 use Rattle.kw_words.specs.declared.pend.Pend.TheVariants as pend
 use Rattle.kw_words.specs.Pend.{pend_word}
 use Rattle.kw_world.specs.declared.activity.Activity.{Activity}
-use Rattle.kw_world.specs.declared.activity.Activity.TheVariants.{Freeze}
+use Rattle.kw_world.specs.declared.activity.rebalance.freeze.Freeze.TheVariants as Freeze
+use Rattle.kw_world.specs.declared.activity.rebalance.Rebalance.TheVariants as Rebalance
 use Rattle.kw_world.specs.declared.event.Event.{Event}
 use Rattle.kw_world.specs.declared.opening.Opening.{Opening}
 use Rattle.kw_world.specs.declared.operation.Action.TheVariants.{Exchange}
@@ -26,7 +27,7 @@ freezing row seat cell = operation kind.FreezePend (name.Pend row seat) (Exchang
 -- the entry was pending with its cell
 pub record IsLostAt (z : Sizes) (o : Opening) (es : List Event) (q : Attempt) (x : ℕ) : Type 0 where
   pub seat : ℕ
-  pub freezes : Acts z o es x seat (Freeze q.seat) (freezing q.row q.seat q.cell) (pend_word (pend.Pending q.cell))
+  pub freezes : Acts z o es x seat (Activity.Rebalance (Rebalance.Freeze (Freeze.Entry q.seat))) (freezing q.row q.seat q.cell) (pend_word (pend.Pending q.cell))
   pub announced : q.is_announced ≡ true
   pub after : q.announced < x
   pub pending : (u : ℕ) → q.announced < u → u ≤ x → word z (world z o (take u es)) (name.Pend q.row q.seat) ≡ pend_word (pend.Pending q.cell)

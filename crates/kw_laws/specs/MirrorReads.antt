@@ -8,7 +8,10 @@ use Rattle.kw_words.specs.declared.scan.ScanWord.TheVariants.{Waiting, Drawn}
 use Rattle.kw_words.specs.Plain.{value_of_word}
 use Rattle.kw_words.specs.Scan.{scan_word}
 use Rattle.kw_world.specs.declared.activity.Activity.{Activity}
-use Rattle.kw_world.specs.declared.activity.Activity.TheVariants.{ListVal, RestVal, ScanDraw, ScanSettle, HelpDraw, HelpSettle}
+use Rattle.kw_world.specs.declared.activity.draw.Draw.TheVariants as Draw
+use Rattle.kw_world.specs.declared.activity.rebalance.freeze.Freeze.TheVariants as Freeze
+use Rattle.kw_world.specs.declared.activity.read.Read.TheVariants as Read
+use Rattle.kw_world.specs.declared.activity.rebalance.Rebalance.TheVariants as Rebalance
 use Rattle.kw_world.specs.declared.event.Event.{Event}
 use Rattle.kw_world.specs.declared.opening.Opening.{Opening}
 use Rattle.kw_world.specs.declared.operation.Action.TheVariants.{Load, Add, Exchange}
@@ -34,11 +37,11 @@ helping seat clock version = operation kind.HelpSettle (name.Scan seat) (Exchang
 -- before the last position, it settled the scan, which still waited with this clock
 pub record WasHelped (z : Sizes) (o : Opening) (es : List Event) (s clock at version till : ℕ) : Type 0 where
   pub helper : ℕ
-  pub draws : Acts z o es at helper (HelpDraw s) (operation kind.HelpDraw name.Clock (Add 1)) version
+  pub draws : Acts z o es at helper (Activity.Rebalance (Rebalance.Freeze (Freeze.Draw s))) (operation kind.HelpDraw name.Clock (Add 1)) version
   pub settle : ℕ
   pub after : at < settle
   pub before : settle < till
-  pub settles : Acts z o es settle helper (HelpSettle s) (helping s clock version) (scan_word (Waiting clock))
+  pub settles : Acts z o es settle helper (Activity.Rebalance (Rebalance.Freeze (Freeze.Settle s))) (helping s clock version) (scan_word (Waiting clock))
 
 -- the scan of this seat has its version, which was drawn at this position: the seat drew, and after
 -- that an exchange of its entry either won, and left the version that it drew, or found there the
@@ -46,18 +49,18 @@ pub record WasHelped (z : Sizes) (o : Opening) (es : List Event) (s clock at ver
 pub record HasSettled (z : Sizes) (o : Opening) (es : List Event) (s at version : ℕ) : Type 0 where
   pub draw : ℕ
   pub drew : ℕ
-  pub draws : Acts z o es draw s ScanDraw (operation kind.Draw name.Clock (Add 1)) drew
+  pub draws : Acts z o es draw s (Activity.Draw Draw.Version) (operation kind.Draw name.Clock (Add 1)) drew
   pub settle : ℕ
   pub after : draw < settle
   pub clock : ℕ
   pub found : ℕ
-  pub settles : Acts z o es settle s ScanSettle (settling s clock drew) found
+  pub settles : Acts z o es settle s (Activity.Draw Draw.Settle) (settling s clock drew) found
   pub entry : (draw ≡ at) × (drew ≡ version) × (found ≡ scan_word (Waiting clock)) ⊎ (found ≡ scan_word (Drawn version)) × WasHelped z o es s clock at version settle
 
 -- a reader loads the value of the cell in hand
 abbrev pub IsLoadingValue : Activity → Type 0
-IsLoadingValue ListVal = Unit {0}
-IsLoadingValue RestVal = Unit {0}
+IsLoadingValue (Activity.Read Read.Value) = Unit {0}
+IsLoadingValue (Activity.Read Read.LeftOverValue) = Unit {0}
 IsLoadingValue _ = ⊥
 
 -- the seat has read the value of a cell that stood for this attempt then, after the first position

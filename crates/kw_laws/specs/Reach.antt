@@ -12,7 +12,9 @@ use Rattle.kw_words.specs.declared.state.State.TheVariants as state
 use Rattle.kw_words.specs.Plain.{pass_word}
 use Rattle.kw_words.specs.State.{state_of, state_word}
 use Rattle.kw_world.specs.declared.activity.Activity.{Activity}
-use Rattle.kw_world.specs.declared.activity.Activity.TheVariants.{Again, Leave, Number, Reclaim}
+use Rattle.kw_world.specs.declared.activity.rebalance.Rebalance.TheVariants as Rebalance
+use Rattle.kw_world.specs.declared.activity.rebalance.replace.Replace.TheVariants as Replace
+use Rattle.kw_world.specs.declared.activity.rebalance.seek.Seek.TheVariants as Seek
 use Rattle.kw_world.specs.declared.event.Event.{Event}
 use Rattle.kw_world.specs.declared.local.Local.{Local}
 use Rattle.kw_world.specs.declared.opening.Opening.{Opening}
@@ -37,8 +39,8 @@ use Rattle.kw_laws.specs.Mirror.{Acts, operation}
 
 -- the seat takes its pass back: it leaves, or tries again
 abbrev pub IsEnding : Activity → Type 0
-IsEnding (Leave answer) = Unit {0}
-IsEnding Again = Unit {0}
+IsEnding (Activity.Leave answer) = Unit {0}
+IsEnding Activity.Retry = Unit {0}
 IsEnding _ = ⊥
 
 -- at position x the seat takes its pass back
@@ -57,11 +59,11 @@ pub record IsInPass (z : Sizes) (o : Opening) (es : List Event) (s u x : ℕ) : 
 
 -- at position x the seat draws this number
 abbrev pub DrawsNumber : Sizes → Opening → List Event → ℕ → ℕ → ℕ → Type 0
-DrawsNumber z o es x s number = Acts z o es x s Number (operation kind.Number name.Epoch (Add 1)) number
+DrawsNumber z o es x s number = Acts z o es x s (Activity.Rebalance (Rebalance.Replace Replace.Number)) (operation kind.Number name.Epoch (Add 1)) number
 
 -- at position x the seat finds the row retired with this number, and gives it free
 abbrev pub Reclaims : Sizes → Opening → List Event → ℕ → ℕ → ℕ → ℕ → Type 0
-Reclaims z o es x s q number = Acts z o es x s Reclaim (reclaiming q number) (state_word (state.Retired number))
+Reclaims z o es x s q number = Acts z o es x s (Activity.Rebalance (Rebalance.Seek Seek.Reclaim)) (reclaiming q number) (state_word (state.Retired number))
 
 -- Rows that are reached.
 

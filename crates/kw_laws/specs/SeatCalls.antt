@@ -7,7 +7,6 @@ use Rattle.std.specs.Prelude.{ℕ, ◌≡◌, ◌+◌, ◌==◌, ◌<◌, ◌≤
 use Rattle.kw_model.specs.declared.call.Call.{Call}
 use Rattle.kw_model.specs.declared.call.Reply.{Reply}
 use Rattle.kw_world.specs.declared.activity.Activity.{Activity}
-use Rattle.kw_world.specs.declared.activity.Activity.TheVariants.{Idle, Leave}
 use Rattle.kw_world.specs.declared.event.Choice.{Choice}
 use Rattle.kw_world.specs.declared.event.Choice.TheVariants.{Begin, Go, Guess, Stop}
 use Rattle.kw_world.specs.declared.event.Event.{Event}
@@ -67,11 +66,11 @@ end_last n reply (c ∷ d ∷ cs) = c ∷ end_last n reply (d ∷ cs)
 -- the calls of a seat that has begun `number` calls, after its event at place n, at this activity
 -- and with this choice: an idle seat begins a call, and one that leaves ends its last call
 abbrev pub seen_after : Activity → Choice → Local → ℕ → List CallSeen → List CallSeen
-seen_after Idle (Begin call) l n cs = cs ++ begun_at n (l.number + 1) call ∷ []
-seen_after Idle Go l n cs = cs
-seen_after Idle (Guess r) l n cs = cs
-seen_after Idle Stop l n cs = cs
-seen_after (Leave answer) choice l n cs = end_last n (reply_of answer l.pairs) cs
+seen_after Activity.Idle (Begin call) l n cs = cs ++ begun_at n (l.number + 1) call ∷ []
+seen_after Activity.Idle Go l n cs = cs
+seen_after Activity.Idle (Guess r) l n cs = cs
+seen_after Activity.Idle Stop l n cs = cs
+seen_after (Activity.Leave answer) choice l n cs = end_last n (reply_of answer l.pairs) cs
 seen_after _ choice l n cs = cs
 
 -- How the calls lie.
@@ -97,7 +96,7 @@ pub record HasLast (n : ℕ) (l : Local) (cs : List CallSeen) : Type 0 where
 -- the calls of a seat that knows l, after n events: an idle seat's have all ended, and any other
 -- seat makes the last one
 pub record KeepsTurns (n : ℕ) (l : Local) (cs : List CallSeen) : Type 0 where
-  pub rests : l.activity ≡ Idle → AreInTurn 0 cs n
+  pub rests : l.activity ≡ Activity.Idle → AreInTurn 0 cs n
   pub makes : IsBusy l.activity → HasLast n l cs
 
 -- the same, call by call: each begins and ends below n, ends after it began, and has ended before a

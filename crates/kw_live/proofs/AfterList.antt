@@ -5,7 +5,20 @@ use Rattle.kw_words.specs.Plain.{key_of_word, value_of_word}
 use Rattle.kw_model.specs.declared.call.Call.{Call}
 use Rattle.kw_model.specs.declared.call.Call.TheVariants.{Put, Del, Get, Scan}
 use Rattle.kw_world.specs.declared.activity.Activity.{Activity}
-use Rattle.kw_world.specs.declared.activity.Activity.TheVariants.{Walk, ListFrom, ListKey, ListVer, ListVal, RestKey, RestVal}
+use Rattle.kw_world.specs.declared.activity.read.Read.TheVariants as Read
+use Rattle.kw_world.specs.declared.activity.walk.Walk.TheVariants as Walk
+use Rattle.kw_world.specs.declared.activity.draw.Draw.TheVariants as Draw
+use Rattle.kw_world.specs.declared.activity.rebalance.engage.Engage.TheVariants as Engage
+use Rattle.kw_world.specs.declared.activity.enter.Enter.TheVariants as Enter
+use Rattle.kw_world.specs.declared.activity.rebalance.freeze.Freeze.TheVariants as Freeze
+use Rattle.kw_world.specs.declared.activity.rebalance.gather.Gather.TheVariants as Gather
+use Rattle.kw_world.specs.declared.activity.insert.Insert.TheVariants as Insert
+use Rattle.kw_world.specs.declared.activity.look.Look.TheVariants as Look
+use Rattle.kw_world.specs.declared.activity.put.Put.TheVariants as Put
+use Rattle.kw_world.specs.declared.activity.rebalance.Rebalance.TheVariants as Rebalance
+use Rattle.kw_world.specs.declared.activity.rebalance.replace.Replace.TheVariants as Replace
+use Rattle.kw_world.specs.declared.activity.rebalance.seek.Seek.TheVariants as Seek
+use Rattle.kw_world.specs.declared.activity.rebalance.write.Write.TheVariants as Write
 use Rattle.kw_world.specs.declared.event.Choice.TheVariants.{Go}
 use Rattle.kw_world.specs.declared.local.Local.{Local}
 use Rattle.kw_world.specs.declared.marks.Mark.{Mark}
@@ -29,24 +42,21 @@ use Rattle.kw_live.specs.Reading.{ReadsOn, is_at_remembered, is_listing, is_read
 
 -- at a cell that it remembers it still reads the row
 pub remembered_reads : (a : Activity) → is_at_remembered a ≡ true → is_reading_list a ≡ true
-remembered_reads RestKey u = refl
-remembered_reads RestVal u = refl
+remembered_reads (Activity.Read Read.LeftOverKey) u = refl
+remembered_reads (Activity.Read Read.LeftOverValue) u = refl
 remembered_reads _ u = true_false u refl
 
 -- and makes the event of such a cell
 pub remembered_at : (a : Activity) → is_at_remembered a ≡ true → IsAtRemembered a
-remembered_at RestKey u = tt
-remembered_at RestVal u = tt
+remembered_at (Activity.Read Read.LeftOverKey) u = tt
+remembered_at (Activity.Read Read.LeftOverValue) u = tt
 remembered_at _ u = true_false u refl
 
 -- where it is neither in the list nor at such a cell, it has read the row
 pub neither_reads : (a : Activity) → is_listing a ≡ false → is_at_remembered a ≡ false → is_reading_list a ≡ false
-neither_reads ListFrom u v = true_false refl u
-neither_reads ListKey u v = true_false refl u
-neither_reads ListVer u v = true_false refl u
-neither_reads ListVal u v = true_false refl u
-neither_reads RestKey u v = true_false refl v
-neither_reads RestVal u v = true_false refl v
+neither_reads (Activity.Read Read.LeftOverKey) u v = true_false refl v
+neither_reads (Activity.Read Read.LeftOverValue) u v = true_false refl v
+neither_reads (Activity.Read _) u v = true_false refl u
 neither_reads _ u v = refl
 
 -- What leads out of the list, and not back to it.
@@ -56,7 +66,7 @@ scan_leaves : (next : Option ℕ) (upto : ℕ) (l : Local) → is_listing (scan_
 scan_leaves None upto l = refl
 scan_leaves (Some r) upto l = met (nat_lt upto l.upper)
   where
-    met : (b : Bool) → is_listing (if b then scan_ended l else to Walk (record l { row = r; lower = l.upper; want = l.upper; next = None; upper = 0 })).local.activity ≡ false
+    met : (b : Bool) → is_listing (if b then scan_ended l else to (Activity.Walk Walk.Next) (record l { row = r; lower = l.upper; want = l.upper; next = None; upper = 0 })).local.activity ≡ false
     met true = refl
     met false = refl
 
@@ -80,14 +90,26 @@ rest_leaves l = met (least_mark l.remembered)
 rest_key_leaves : (key : ℕ) (l : Local) → is_listing (rest_key key l).local.activity ≡ false
 rest_key_leaves key l = met (is_in_range l.call key)
   where
-    met : (b : Bool) → is_listing (if b then to RestVal (record l { place_key = key }) else to_rest l).local.activity ≡ false
+    met : (b : Bool) → is_listing (if b then to (Activity.Read Read.LeftOverValue) (record l { place_key = key }) else to_rest l).local.activity ≡ false
     met true = refl
     met false = rest_leaves l
 
 -- each event at such a cell
 event_leaves : (z : Sizes) (a : Activity) (k : Local) (rows told : ℕ) → is_at_remembered a ≡ true → is_listing ((transition z a 0 Go k).next rows told).local.activity ≡ false
-event_leaves z RestKey k rows told u = rest_key_leaves (key_of_word told) k
-event_leaves z RestVal k rows told u = rest_leaves (gathering z (value_of_word told) k)
+event_leaves z (Activity.Read Read.LeftOverKey) k rows told u = rest_key_leaves (key_of_word told) k
+event_leaves z (Activity.Read Read.LeftOverValue) k rows told u = rest_leaves (gathering z (value_of_word told) k)
+event_leaves z (Activity.Enter Enter.Announce) k rows told u = true_false u refl
+event_leaves z (Activity.Draw Draw.Clock) k rows told u = true_false u refl
+event_leaves z (Activity.Walk Walk.First) k rows told u = true_false u refl
+event_leaves z (Activity.Look Look.Key) k rows told u = true_false u refl
+event_leaves z (Activity.Put Put.Count) k rows told u = true_false u refl
+event_leaves z (Activity.Insert Insert.Link) k rows told u = true_false u refl
+event_leaves z (Activity.Rebalance (Rebalance.Engage Engage.Clock)) k rows told u = true_false u refl
+event_leaves z (Activity.Rebalance (Rebalance.Freeze Freeze.Count)) k rows told u = true_false u refl
+event_leaves z (Activity.Rebalance (Rebalance.Gather Gather.Link)) k rows told u = true_false u refl
+event_leaves z (Activity.Rebalance (Rebalance.Seek Seek.Next)) k rows told u = true_false u refl
+event_leaves z (Activity.Rebalance (Rebalance.Write Write.Count)) k rows told u = true_false u refl
+event_leaves z (Activity.Rebalance (Rebalance.Replace Replace.First)) k rows told u = true_false u refl
 event_leaves z _ k rows told u = true_false u refl
 
 -- Code that follows.

@@ -11,7 +11,9 @@ use Rattle.kw_cells.specs.InOrder.{AreInOrder, stands_before, with_cell}
 use Rattle.kw_cells.proofs.InOrder.{length-with_cell, with_cell-in_order}
 use Rattle.kw_model.specs.declared.call.Call.{Call}
 use Rattle.kw_model.specs.declared.call.Call.TheVariants.{Scan}
-use Rattle.kw_world.specs.declared.activity.Activity.TheVariants.{Walk, ListFrom, ListKey, ListVer, ListVal, ClearScan}
+use Rattle.kw_world.specs.declared.activity.Activity.TheVariants as Activity
+use Rattle.kw_world.specs.declared.activity.read.Read.TheVariants as Read
+use Rattle.kw_world.specs.declared.activity.walk.Walk.TheVariants as Walk
 use Rattle.kw_world.specs.declared.answer.Answer.TheVariants.{Pairs}
 use Rattle.kw_world.specs.declared.event.Choice.TheVariants.{Go}
 use Rattle.kw_world.specs.declared.local.Local.{Local}
@@ -45,7 +47,7 @@ use Rattle.kw_live.proofs.ReadEvent.{reads_trans}
 
 -- the local of a scan that goes on with this row
 abbrev going_on : ℕ → ℕ → Local → Outcome
-going_on r upto y = to Walk (record (with_pairs upto y) { row = r; lower = y.upper; want = y.upper; next = None; upper = 0 })
+going_on r upto y = to (Activity.Walk Walk.Next) (record (with_pairs upto y) { row = r; lower = y.upper; want = y.upper; next = None; upper = 0 })
 
 -- a scan whose row leads on goes on with the next row
 leads_to : (y : Local) (first upto : ℕ) → y.call ≡ Some (Scan first upto) → (leads : LeadsOn upto y) → to_rest y ≡ going_on leads.next upto y
@@ -68,7 +70,7 @@ carries_more y m cells first upto scan leads on = record {
 }
 
 -- it then walks
-walks_on : (y m : Local) (first upto : ℕ) → y.call ≡ Some (Scan first upto) → LeadsOn upto y → CarriesOn to_rest y m → m.activity ≡ Walk
+walks_on : (y m : Local) (first upto : ℕ) → y.call ≡ Some (Scan first upto) → LeadsOn upto y → CarriesOn to_rest y m → m.activity ≡ Activity.Walk Walk.Next
 walks_on y m first upto scan leads on =
     ap (λ (n : Local). n.activity) (on.carries 0 []) ∙ ap (λ (o : Outcome). o.local.activity) (leads_to (record y { number = 0; pairs = [] }) first upto scan (record { unmarked = leads.unmarked; next = leads.next; after = leads.after; within = leads.within }))
 
@@ -83,7 +85,7 @@ with_cell_behind c (d ∷ cells) a =
     ∙ ap (λ (ds : List Cell). d ∷ ds) (with_cell_behind c cells (All-tail (λ (e : Cell). stands_before e c ≡ true) d cells a))
 
 -- what the seat has gathered stands before the cell whose value it is told
-seat_before : (s : Shared) (t u : Pass) (k : Local) (told : ℕ) (value : Option ℕ) → GoesTo s t u → k.activity ≡ ListVal → ReadsWord s t k told u → All (λ c. stands_before c (cell_in_hand value k) ≡ true) k.gathered
+seat_before : (s : Shared) (t u : Pass) (k : Local) (told : ℕ) (value : Option ℕ) → GoesTo s t u → k.activity ≡ Activity.Read Read.Value → ReadsWord s t k told u → All (λ c. stands_before c (cell_in_hand value k) ≡ true) k.gathered
 seat_before s t u k told value goes at word =
     let x : Met t u k.activity Go told = word.met.met in
     let valid = met_valid s t u k.activity Go told goes x in
@@ -106,17 +108,17 @@ unmarked_so k cell none =
     let same : unmarked cell k.remembered ≡ k.remembered = ap (unmarked cell) none ∙ sym none in
     ap (λ (ms : List Mark). record k { remembered = ms }) (sym same)
 
-module _ {s : Shared} {o p q : Pass} {l : Local} {w x : Cursor} {link : ℕ} (first upto : ℕ) (scan : l.call ≡ Some (Scan first upto)) (leads : LeadsOn upto l) (cells : List Cell) (before : Listing s o l w cells p x) (load : (k : Local) → Follows s p (with_cursor ListFrom x k) → ReadsWord s p (with_cursor ListFrom x k) link q) where
+module _ {s : Shared} {o p q : Pass} {l : Local} {w x : Cursor} {link : ℕ} (first upto : ℕ) (scan : l.call ≡ Some (Scan first upto)) (leads : LeadsOn upto l) (cells : List Cell) (before : Listing s o l w cells p x) (load : (k : Local) → Follows s p (with_cursor (Activity.Read Read.Link) x k) → ReadsWord s p (with_cursor (Activity.Read Read.Link) x k) link q) where
   abbrev k : Local
   k = record l { gathered = cells }
 
-  f : Follows s p (with_cursor ListFrom x k)
+  f : Follows s p (with_cursor (Activity.Read Read.Link) x k)
   f = before.streams.follows
 
   -- the row is at its end
-  ended_by : {r : Pass} (y m : Local) → y.call ≡ l.call → y.want ≡ l.want → LeadsOn upto y → CarriesOn to_rest y m → ReadsOn s p (with_cursor ListFrom x k) r (record m { gathered = cells }) → EndsRow s o l upto cells r m
+  ended_by : {r : Pass} (y m : Local) → y.call ≡ l.call → y.want ≡ l.want → LeadsOn upto y → CarriesOn to_rest y m → ReadsOn s p (with_cursor (Activity.Read Read.Link) x k) r (record m { gathered = cells }) → EndsRow s o l upto cells r m
   ended_by {r} y m called wanted lead on read =
-      let walks : m.activity ≡ Walk = walks_on y m first upto (called ∙ scan) lead on in
+      let walks : m.activity ≡ (Activity.Walk Walk.Next) = walks_on y m first upto (called ∙ scan) lead on in
       let has : HasReadAs (Some (Scan first upto)) l.want l.version (record m { gathered = cells }) (held p) (held r) =
       subst (λ (c : Option Call). HasReadAs c l.want l.version (record m { gathered = cells }) (held p) (held r)) scan (read.ends (ap is_reading_list walks)) in
       record {
@@ -129,17 +131,17 @@ module _ {s : Shared} {o p q : Pass} {l : Local} {w x : Cursor} {link : ℕ} (fi
         goes_on = going has.0 walks;
       }
     where
-      going : GoesOn l.want upto l.version (record m { gathered = cells }) ⊎ (m.activity ≡ ClearScan Pairs) → m.activity ≡ Walk → GoesOn l.want upto l.version (record m { gathered = cells })
+      going : GoesOn l.want upto l.version (record m { gathered = cells }) ⊎ (m.activity ≡ Activity.EndScan Pairs) → m.activity ≡ Activity.Walk Walk.Next → GoesOn l.want upto l.version (record m { gathered = cells })
       going (inl g) is = g
-      going (inr e) is = let same : ClearScan Pairs ≡ Walk = sym e ∙ is in absurd (cc)
+      going (inr e) is = let same : (Activity.EndScan Pairs) ≡ (Activity.Walk Walk.Next) = sym e ∙ is in absurd (cc)
 
   -- since its list is
-  pub stream_ends : (m written : Local) → written ≡ with_cursor ListFrom x l → cell_of_link_word link ≡ None → CarriesOn to_rest written m → EndsRow s o l upto cells q m
+  pub stream_ends : (m written : Local) → written ≡ with_cursor (Activity.Read Read.Link) x l → cell_of_link_word link ≡ None → CarriesOn to_rest written m → EndsRow s o l upto cells q m
   stream_ends m written is none on =
-      let own : CarriesOn to_rest (with_cursor ListFrom x l) m = subst (λ (y : Local). CarriesOn to_rest y m) is on in
-      let lead : LeadsOn upto (with_cursor ListFrom x l) = record { unmarked = leads.unmarked; next = leads.next; after = leads.after; within = leads.within } in
-      ended_by (with_cursor ListFrom x l) m refl refl lead own
-      (link_ended k x (with_cursor ListFrom x k) (record m { gathered = cells }) refl none (carries_more (with_cursor ListFrom x l) m cells first upto scan lead own) f (load k f))
+      let own : CarriesOn to_rest (with_cursor (Activity.Read Read.Link) x l) m = subst (λ (y : Local). CarriesOn to_rest y m) is on in
+      let lead : LeadsOn upto (with_cursor (Activity.Read Read.Link) x l) = record { unmarked = leads.unmarked; next = leads.next; after = leads.after; within = leads.within } in
+      ended_by (with_cursor (Activity.Read Read.Link) x l) m refl refl lead own
+      (link_ended k x (with_cursor (Activity.Read Read.Link) x k) (record m { gathered = cells }) refl none (carries_more (with_cursor (Activity.Read Read.Link) x l) m cells first upto scan lead own) f (load k f))
 
   -- a link leads to a cell
   module _ (met : Cursor) (cell : ℕ) (is : met ≡ reached cell x) (led : cell_of_link_word link ≡ Some cell) where
@@ -151,16 +153,16 @@ module _ {s : Shared} {o p q : Pass} {l : Local} {w x : Cursor} {link : ℕ} (fi
     one_more : met.walked ≡ suc x.walked
     one_more = let fewer = stream_counts in ap (λ (y : Cursor). y.walked) is ∙ omega (arith, fewer)
 
-    met_one : ReadsOn s p (with_cursor ListFrom x k) q (with_cursor ListKey met k)
+    met_one : ReadsOn s p (with_cursor (Activity.Read Read.Link) x k) q (with_cursor (Activity.Read Read.Key) met k)
     met_one = link_led k x met k cell is (unmarked_so k cell leads.unmarked) led f (load k f)
 
-    pub stream_led : Follows s q (with_cursor ListKey met k)
+    pub stream_led : Follows s q (with_cursor (Activity.Read Read.Key) met k)
     stream_led = met_one.follows
 
-    module _ {r : Pass} {found : ℕ} (key : ℕ) (keyed : key ≡ key_of_word found) (second : (n : Local) → Follows s q (with_cursor ListKey met n) → ReadsWord s q (with_cursor ListKey met n) found r) where
+    module _ {r : Pass} {found : ℕ} (key : ℕ) (keyed : key ≡ key_of_word found) (second : (n : Local) → Follows s q (with_cursor (Activity.Read Read.Key) met n) → ReadsWord s q (with_cursor (Activity.Read Read.Key) met n) found r) where
       -- its key is below the range: it is passed
       module _ (y : Cursor) (passes : y ≡ past met) (below : key < first) where
-        passing : ReadsOn s p (with_cursor ListFrom x k) r (with_cursor ListFrom y k)
+        passing : ReadsOn s p (with_cursor (Activity.Read Read.Link) x k) r (with_cursor (Activity.Read Read.Link) y k)
         passing = cell_passed k k x met cell is (unmarked_so k cell leads.unmarked) led f (load k) (second k) y key first (Some (Scan first upto)) passes keyed refl scan below
 
         passed_one : y.walked ≡ suc x.walked
@@ -185,34 +187,34 @@ module _ {s : Shared} {o p q : Pass} {l : Local} {w x : Cursor} {link : ℕ} (fi
         stream_passes_fewer = let one = passed_one in let less = stream_counts in omega (arith, one, less)
 
       -- it is above it: the row is read
-      pub stream_above : (m written : Local) → written ≡ with_cursor ListKey met l → first ≤ key → upto < key → CarriesOn to_rest written m → EndsRow s o l upto cells r m
+      pub stream_above : (m written : Local) → written ≡ with_cursor (Activity.Read Read.Key) met l → first ≤ key → upto < key → CarriesOn to_rest written m → EndsRow s o l upto cells r m
       stream_above m written same from beyond on =
-          let own : CarriesOn to_rest (with_cursor ListKey met l) m = subst (λ (y : Local). CarriesOn to_rest y m) same on in
-          let lead : LeadsOn upto (with_cursor ListKey met l) = record { unmarked = leads.unmarked; next = leads.next; after = leads.after; within = leads.within } in
-          ended_by (with_cursor ListKey met l) m refl refl lead own
-          (cell_above k k x met cell is (unmarked_so k cell leads.unmarked) led f (load k) (second k) (with_cursor ListKey met k) (record m { gathered = cells }) key first upto (Some (Scan first upto)) refl keyed refl refl scan from beyond (carries_more (with_cursor ListKey met l) m cells first upto scan lead own))
+          let own : CarriesOn to_rest (with_cursor (Activity.Read Read.Key) met l) m = subst (λ (y : Local). CarriesOn to_rest y m) same on in
+          let lead : LeadsOn upto (with_cursor (Activity.Read Read.Key) met l) = record { unmarked = leads.unmarked; next = leads.next; after = leads.after; within = leads.within } in
+          ended_by (with_cursor (Activity.Read Read.Key) met l) m refl refl lead own
+          (cell_above k k x met cell is (unmarked_so k cell leads.unmarked) led f (load k) (second k) (with_cursor (Activity.Read Read.Key) met k) (record m { gathered = cells }) key first upto (Some (Scan first upto)) refl keyed refl refl scan from beyond (carries_more (with_cursor (Activity.Read Read.Key) met l) m cells first upto scan lead own))
 
       -- it is in the range: the cell is read
       module _ (y : Cursor) (ranged : y ≡ record met { key = key }) (from : first ≤ key) (within : key ≤ upto) where
-        in_range : ReadsOn s p (with_cursor ListFrom x k) r (with_cursor ListVer y k)
+        in_range : ReadsOn s p (with_cursor (Activity.Read Read.Link) x k) r (with_cursor (Activity.Read Read.Version) y k)
         in_range = cell_within k k x met cell is (unmarked_so k cell leads.unmarked) led f (load k) (second k) y key first upto (Some (Scan first upto)) ranged keyed refl refl scan from within
 
-        pub stream_ranged : Follows s r (with_cursor ListVer y k)
+        pub stream_ranged : Follows s r (with_cursor (Activity.Read Read.Version) y k)
         stream_ranged = in_range.follows
 
-        module _ {t : Pass} {version : ℕ} (z : Cursor) (versioned : z ≡ record y { version = unwrap_or (version_of_word version) 1 }) (third : (n : Local) → Follows s r (with_cursor ListVer y n) → ReadsWord s r (with_cursor ListVer y n) version t) where
-          told : ReadsOn s r (with_cursor ListVer y k) t (with_cursor ListVal z k)
+        module _ {t : Pass} {version : ℕ} (z : Cursor) (versioned : z ≡ record y { version = unwrap_or (version_of_word version) 1 }) (third : (n : Local) → Follows s r (with_cursor (Activity.Read Read.Version) y n) → ReadsWord s r (with_cursor (Activity.Read Read.Version) y n) version t) where
+          told : ReadsOn s r (with_cursor (Activity.Read Read.Version) y k) t (with_cursor (Activity.Read Read.Value) z k)
           told = version_told k y z versioned in_range.follows (third k in_range.follows)
 
-          pub stream_versioned : Follows s t (with_cursor ListVal z k)
+          pub stream_versioned : Follows s t (with_cursor (Activity.Read Read.Value) z k)
           stream_versioned = told.follows
 
-          module _ {u : Pass} {value : ℕ} (last : Cursor) (read : Cell) (passes : last ≡ past z) (reads : read ≡ cell_at z (value_of_word value)) (fourth : (n : Local) → Follows s t (with_cursor ListVal z n) → ReadsWord s t (with_cursor ListVal z n) value u) where
-            word : ReadsWord s t (with_cursor ListVal z k) value u
+          module _ {u : Pass} {value : ℕ} (last : Cursor) (read : Cell) (passes : last ≡ past z) (reads : read ≡ cell_at z (value_of_word value)) (fourth : (n : Local) → Follows s t (with_cursor (Activity.Read Read.Value) z n) → ReadsWord s t (with_cursor (Activity.Read Read.Value) z n) value u) where
+            word : ReadsWord s t (with_cursor (Activity.Read Read.Value) z k) value u
             word = fourth k told.follows
 
             behind : All (λ d. stands_before d read ≡ true) cells
-            behind = subst (λ (c : Cell). All (λ d. stands_before d c ≡ true) cells) (sym reads) (seat_before s t u (with_cursor ListVal z k) value (value_of_word value) word.goes refl word)
+            behind = subst (λ (c : Cell). All (λ d. stands_before d c ≡ true) cells) (sym reads) (seat_before s t u (with_cursor (Activity.Read Read.Value) z k) value (value_of_word value) word.goes refl word)
 
             -- what is gathered grows by the cell at its end
             grown : record l { gathered = cells ++ read ∷ [] } ≡ gathering_at z (value_of_word value) k
@@ -223,7 +225,7 @@ module _ {s : Shared} {o p q : Pass} {l : Local} {w x : Cursor} {link : ℕ} (fi
                 ap (λ (cs : List Cell). record l { gathered = cs })
                 (sym (with_cell_behind read cells behind) ∙ (ap (λ (c : Cell). with_cell c cells) reads ∙ ap (λ (b : Bool). if b then with_cell (cell_at z (value_of_word value)) cells else cells) (sym room)))
 
-            gathers : ReadsOn s p (with_cursor ListFrom x k) u (with_cursor ListFrom last (record l { gathered = cells ++ read ∷ [] }))
+            gathers : ReadsOn s p (with_cursor (Activity.Read Read.Link) x k) u (with_cursor (Activity.Read Read.Link) last (record l { gathered = cells ++ read ∷ [] }))
             gathers =
                 reads_trans s p t u _ _ _ refl (reads_trans s p r t _ _ _ refl in_range told)
                 (value_told k z last (record l { gathered = cells ++ read ∷ [] }) passes grown told.follows word)

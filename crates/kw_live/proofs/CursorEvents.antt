@@ -4,7 +4,8 @@ use Rattle.std.proofs.Common.{arith, ◌≡◌, ℕ, ◌<◌, ◌≤◌, Some, u
 use Rattle.kw_model.specs.declared.call.Call.{Call}
 use Rattle.kw_words.specs.Plain.{key_of_word, value_of_word, version_of_word, cell_of_link_word}
 use Rattle.kw_words.specs.declared.sizes.TheConstants.{CELLS}
-use Rattle.kw_world.specs.declared.activity.Activity.TheVariants.{ListFrom, ListKey, ListVer, ListVal}
+use Rattle.kw_world.specs.declared.activity.Activity.TheVariants as Activity
+use Rattle.kw_world.specs.declared.activity.read.Read.TheVariants as Read
 use Rattle.kw_world.specs.declared.event.Choice.TheVariants.{Go}
 use Rattle.kw_world.specs.declared.local.Local.{Local}
 use Rattle.kw_world.specs.Calls.{first_key, last_key}
@@ -45,35 +46,35 @@ module _ {s : Shared} {p q : Pass} {l m : Local} {told : ℕ} where
 
 module _ {s : Shared} {p q : Pass} {told : ℕ} (l : Local) (w : Cursor) where
   -- a walk that is led to a cell has met fewer cells than there are
-  pub cell_counts : (cell : ℕ) → cell_of_link_word told ≡ Some cell → ReadsWord s p (with_cursor ListFrom w l) told q → w.walked < CELLS
+  pub cell_counts : (cell : ℕ) → cell_of_link_word told ≡ Some cell → ReadsWord s p (with_cursor (Activity.Read Read.Link) w l) told q → w.walked < CELLS
   cell_counts cell leads word =
-      let x : Met p q ListFrom Go told = word.met.met in
-      let laws = met_laws s p q ListFrom Go told word.goes x in
-      let own = met_told p q ListFrom Go told x _ refl in
+      let x : Met p q (Activity.Read Read.Link) Go told = word.met.met in
+      let laws = met_laws s p q (Activity.Read Read.Link) Go told word.goes x in
+      let own = met_told p q (Activity.Read Read.Link) Go told x _ refl in
       subst (λ n. n < CELLS) (ap (λ (k : Local). k.walked) word.met.knew)
-      (laws.reads_on (view p).number (local_at p x.front) (met_local p q ListFrom Go told x) x.activity cell (ap cell_of_link_word (sym own) ∙ leads))
+      (laws.reads_on (view p).number (local_at p x.front) (met_local p q (Activity.Read Read.Link) Go told x) x.activity cell (ap cell_of_link_word (sym own) ∙ leads))
 
   -- the link led to a cell
-  pub link_led : (x : Cursor) (m : Local) (cell : ℕ) → x ≡ reached cell w → m ≡ forgetting cell l → cell_of_link_word told ≡ Some cell → Follows s p (with_cursor ListFrom w l) → ReadsWord s p (with_cursor ListFrom w l) told q → ReadsOn s p (with_cursor ListFrom w l) q (with_cursor ListKey x m)
+  pub link_led : (x : Cursor) (m : Local) (cell : ℕ) → x ≡ reached cell w → m ≡ forgetting cell l → cell_of_link_word told ≡ Some cell → Follows s p (with_cursor (Activity.Read Read.Link) w l) → ReadsWord s p (with_cursor (Activity.Read Read.Link) w l) told q → ReadsOn s p (with_cursor (Activity.Read Read.Link) w l) q (with_cursor (Activity.Read Read.Key) x m)
   link_led x m cell is left leads f word =
-      let k : ℕ → List (ℕ × ℕ) → Local = λ begun added. record (with_cursor ListFrom w l) { number = begun; pairs = added } in
-      let after : Follows s q (with_cursor ListKey (reached cell w) (forgetting cell l)) =
-      read_follows s p q (with_cursor ListFrom w l) (with_cursor ListKey (reached cell w) (forgetting cell l)) told ListFrom f word.makes refl (record {
+      let k : ℕ → List (ℕ × ℕ) → Local = λ begun added. record (with_cursor (Activity.Read Read.Link) w l) { number = begun; pairs = added } in
+      let after : Follows s q (with_cursor (Activity.Read Read.Key) (reached cell w) (forgetting cell l)) =
+      read_follows s p q (with_cursor (Activity.Read Read.Link) w l) (with_cursor (Activity.Read Read.Key) (reached cell w) (forgetting cell l)) told (Activity.Read Read.Link) f word.makes refl (record {
         carries = λ begun added. ap (λ o. carried (list_met product o (k begun added)).local) (sym leads);
         number = refl;
         pairs = refl;
       })
       in
-      subst (λ (y : Cursor). ReadsOn s p (with_cursor ListFrom w l) q (with_cursor ListKey y m)) (sym is)
-      (subst (λ (n : Local). ReadsOn s p (with_cursor ListFrom w l) q (with_cursor ListKey (reached cell w) n)) (sym left) (one_word f word after refl))
+      subst (λ (y : Cursor). ReadsOn s p (with_cursor (Activity.Read Read.Link) w l) q (with_cursor (Activity.Read Read.Key) y m)) (sym is)
+      (subst (λ (n : Local). ReadsOn s p (with_cursor (Activity.Read Read.Link) w l) q (with_cursor (Activity.Read Read.Key) (reached cell w) n)) (sym left) (one_word f word after refl))
 
   -- it led to none: the walk is over
-  pub link_ended : (k m : Local) → k ≡ with_cursor ListFrom w l → cell_of_link_word told ≡ None → CarriesOn to_rest k m → Follows s p (with_cursor ListFrom w l) → ReadsWord s p (with_cursor ListFrom w l) told q → ReadsOn s p (with_cursor ListFrom w l) q m
+  pub link_ended : (k m : Local) → k ≡ with_cursor (Activity.Read Read.Link) w l → cell_of_link_word told ≡ None → CarriesOn to_rest k m → Follows s p (with_cursor (Activity.Read Read.Link) w l) → ReadsWord s p (with_cursor (Activity.Read Read.Link) w l) told q → ReadsOn s p (with_cursor (Activity.Read Read.Link) w l) q m
   link_ended k m written none on f word =
-      let x : ℕ → List (ℕ × ℕ) → Local = λ begun added. record (with_cursor ListFrom w l) { number = begun; pairs = added } in
-      let own : CarriesOn to_rest (with_cursor ListFrom w l) m = subst (λ (n : Local). CarriesOn to_rest n m) written on in
+      let x : ℕ → List (ℕ × ℕ) → Local = λ begun added. record (with_cursor (Activity.Read Read.Link) w l) { number = begun; pairs = added } in
+      let own : CarriesOn to_rest (with_cursor (Activity.Read Read.Link) w l) m = subst (λ (n : Local). CarriesOn to_rest n m) written on in
       let after : Follows s q m =
-      read_follows s p q (with_cursor ListFrom w l) m told ListFrom f word.makes refl (record {
+      read_follows s p q (with_cursor (Activity.Read Read.Link) w l) m told (Activity.Read Read.Link) f word.makes refl (record {
         carries = λ begun added. own.carries begun added ∙ ap (λ o. carried (list_met product o (x begun added)).local) (sym none);
         number = own.number;
         pairs = own.pairs;
@@ -82,45 +83,45 @@ module _ {s : Shared} {p q : Pass} {told : ℕ} (l : Local) (w : Cursor) where
       one_word f word after refl
 
   -- the key of the cell is below the range: it is passed
-  pub key_below : (x : Cursor) → x ≡ past w → key_of_word told < first_key l.call → Follows s p (with_cursor ListKey w l) → ReadsWord s p (with_cursor ListKey w l) told q → ReadsOn s p (with_cursor ListKey w l) q (with_cursor ListFrom x l)
+  pub key_below : (x : Cursor) → x ≡ past w → key_of_word told < first_key l.call → Follows s p (with_cursor (Activity.Read Read.Key) w l) → ReadsWord s p (with_cursor (Activity.Read Read.Key) w l) told q → ReadsOn s p (with_cursor (Activity.Read Read.Key) w l) q (with_cursor (Activity.Read Read.Link) x l)
   key_below x is below f word =
-      let after : Follows s q (with_cursor ListFrom (past w) l) =
-      read_follows s p q (with_cursor ListKey w l) (with_cursor ListFrom (past w) l) told ListKey f word.makes refl
-      (passed_on (key_of_word told) (with_cursor ListKey w l) (with_cursor ListFrom (past w) l) below (record { carries = λ begun added. refl; number = refl; pairs = refl }))
+      let after : Follows s q (with_cursor (Activity.Read Read.Link) (past w) l) =
+      read_follows s p q (with_cursor (Activity.Read Read.Key) w l) (with_cursor (Activity.Read Read.Link) (past w) l) told (Activity.Read Read.Key) f word.makes refl
+      (passed_on (key_of_word told) (with_cursor (Activity.Read Read.Key) w l) (with_cursor (Activity.Read Read.Link) (past w) l) below (record { carries = λ begun added. refl; number = refl; pairs = refl }))
       in
-      subst (λ (y : Cursor). ReadsOn s p (with_cursor ListKey w l) q (with_cursor ListFrom y l)) (sym is) (one_word f word after refl)
+      subst (λ (y : Cursor). ReadsOn s p (with_cursor (Activity.Read Read.Key) w l) q (with_cursor (Activity.Read Read.Link) y l)) (sym is) (one_word f word after refl)
 
   -- it is in the range: the cell is read on
-  pub key_within : (x : Cursor) (key : ℕ) → x ≡ record w { key = key } → key ≡ key_of_word told → first_key l.call ≤ key → key ≤ last_key l.call → Follows s p (with_cursor ListKey w l) → ReadsWord s p (with_cursor ListKey w l) told q → ReadsOn s p (with_cursor ListKey w l) q (with_cursor ListVer x l)
+  pub key_within : (x : Cursor) (key : ℕ) → x ≡ record w { key = key } → key ≡ key_of_word told → first_key l.call ≤ key → key ≤ last_key l.call → Follows s p (with_cursor (Activity.Read Read.Key) w l) → ReadsWord s p (with_cursor (Activity.Read Read.Key) w l) told q → ReadsOn s p (with_cursor (Activity.Read Read.Key) w l) q (with_cursor (Activity.Read Read.Version) x l)
   key_within x key is keyed from upto f word =
-      let k : ℕ → List (ℕ × ℕ) → Local = λ begun added. record (with_cursor ListKey w l) { number = begun; pairs = added } in
+      let k : ℕ → List (ℕ × ℕ) → Local = λ begun added. record (with_cursor (Activity.Read Read.Key) w l) { number = begun; pairs = added } in
       let above : nat_lt key (first_key l.call) ≡ false = grind (arith) in
       let within : nat_le key (last_key l.call) ≡ true = grind (arith) in
-      let after : Follows s q (with_cursor ListVer (record w { key = key }) l) =
-      read_follows s p q (with_cursor ListKey w l) (with_cursor ListVer (record w { key = key }) l) told ListKey f word.makes refl (record {
+      let after : Follows s q (with_cursor (Activity.Read Read.Version) (record w { key = key }) l) =
+      read_follows s p q (with_cursor (Activity.Read Read.Key) w l) (with_cursor (Activity.Read Read.Version) (record w { key = key }) l) told (Activity.Read Read.Key) f word.makes refl (record {
         carries = λ begun added.
-            ap (λ (b : Bool). carried (if b then to ListVer (record (k begun added) { place_key = key }) else to_rest (k begun added)).local) (sym within)
-            ∙ (ap (λ (b : Bool). carried (if b then list_past (k begun added) else if nat_le key (last_key l.call) then to ListVer (record (k begun added) { place_key = key }) else to_rest (k begun added)).local) (sym above)
+            ap (λ (b : Bool). carried (if b then to (Activity.Read Read.Version) (record (k begun added) { place_key = key }) else to_rest (k begun added)).local) (sym within)
+            ∙ (ap (λ (b : Bool). carried (if b then list_past (k begun added) else if nat_le key (last_key l.call) then to (Activity.Read Read.Version) (record (k begun added) { place_key = key }) else to_rest (k begun added)).local) (sym above)
             ∙ ap (λ n. carried (list_key n (k begun added)).local) keyed);
         number = refl;
         pairs = refl;
       })
       in
-      subst (λ (y : Cursor). ReadsOn s p (with_cursor ListKey w l) q (with_cursor ListVer y l)) (sym is) (one_word f word after refl)
+      subst (λ (y : Cursor). ReadsOn s p (with_cursor (Activity.Read Read.Key) w l) q (with_cursor (Activity.Read Read.Version) y l)) (sym is) (one_word f word after refl)
 
   -- it is above the range: the walk is over
-  pub key_above : (k m : Local) (key : ℕ) → k ≡ with_cursor ListKey w l → key ≡ key_of_word told → first_key l.call ≤ key → last_key l.call < key → CarriesOn to_rest k m → Follows s p (with_cursor ListKey w l) → ReadsWord s p (with_cursor ListKey w l) told q → ReadsOn s p (with_cursor ListKey w l) q m
+  pub key_above : (k m : Local) (key : ℕ) → k ≡ with_cursor (Activity.Read Read.Key) w l → key ≡ key_of_word told → first_key l.call ≤ key → last_key l.call < key → CarriesOn to_rest k m → Follows s p (with_cursor (Activity.Read Read.Key) w l) → ReadsWord s p (with_cursor (Activity.Read Read.Key) w l) told q → ReadsOn s p (with_cursor (Activity.Read Read.Key) w l) q m
   key_above k m key written keyed from upto on f word =
-      let x : ℕ → List (ℕ × ℕ) → Local = λ begun added. record (with_cursor ListKey w l) { number = begun; pairs = added } in
-      let own : CarriesOn to_rest (with_cursor ListKey w l) m = subst (λ (n : Local). CarriesOn to_rest n m) written on in
+      let x : ℕ → List (ℕ × ℕ) → Local = λ begun added. record (with_cursor (Activity.Read Read.Key) w l) { number = begun; pairs = added } in
+      let own : CarriesOn to_rest (with_cursor (Activity.Read Read.Key) w l) m = subst (λ (n : Local). CarriesOn to_rest n m) written on in
       let above : nat_lt key (first_key l.call) ≡ false = grind (arith) in
       let beyond : nat_le key (last_key l.call) ≡ false = grind (arith) in
       let after : Follows s q m =
-      read_follows s p q (with_cursor ListKey w l) m told ListKey f word.makes refl (record {
+      read_follows s p q (with_cursor (Activity.Read Read.Key) w l) m told (Activity.Read Read.Key) f word.makes refl (record {
         carries = λ begun added.
             own.carries begun added
-            ∙ (ap (λ (b : Bool). carried (if b then to ListVer (record (x begun added) { place_key = key }) else to_rest (x begun added)).local) (sym beyond)
-            ∙ (ap (λ (b : Bool). carried (if b then list_past (x begun added) else if nat_le key (last_key l.call) then to ListVer (record (x begun added) { place_key = key }) else to_rest (x begun added)).local) (sym above)
+            ∙ (ap (λ (b : Bool). carried (if b then to (Activity.Read Read.Version) (record (x begun added) { place_key = key }) else to_rest (x begun added)).local) (sym beyond)
+            ∙ (ap (λ (b : Bool). carried (if b then list_past (x begun added) else if nat_le key (last_key l.call) then to (Activity.Read Read.Version) (record (x begun added) { place_key = key }) else to_rest (x begun added)).local) (sym above)
             ∙ ap (λ n. carried (list_key n (x begun added)).local) keyed));
         number = own.number;
         pairs = own.pairs;
@@ -129,44 +130,44 @@ module _ {s : Shared} {p q : Pass} {told : ℕ} (l : Local) (w : Cursor) where
       one_word f word after refl
 
   -- its version was told
-  pub version_told : (x : Cursor) → x ≡ record w { version = unwrap_or (version_of_word told) 1 } → Follows s p (with_cursor ListVer w l) → ReadsWord s p (with_cursor ListVer w l) told q → ReadsOn s p (with_cursor ListVer w l) q (with_cursor ListVal x l)
+  pub version_told : (x : Cursor) → x ≡ record w { version = unwrap_or (version_of_word told) 1 } → Follows s p (with_cursor (Activity.Read Read.Version) w l) → ReadsWord s p (with_cursor (Activity.Read Read.Version) w l) told q → ReadsOn s p (with_cursor (Activity.Read Read.Version) w l) q (with_cursor (Activity.Read Read.Value) x l)
   version_told x is f word =
-      let after : Follows s q (with_cursor ListVal (record w { version = unwrap_or (version_of_word told) 1 }) l) =
-      read_follows s p q (with_cursor ListVer w l) _ told ListVer f word.makes refl (record { carries = λ begun added. refl; number = refl; pairs = refl })
+      let after : Follows s q (with_cursor (Activity.Read Read.Value) (record w { version = unwrap_or (version_of_word told) 1 }) l) =
+      read_follows s p q (with_cursor (Activity.Read Read.Version) w l) _ told (Activity.Read Read.Version) f word.makes refl (record { carries = λ begun added. refl; number = refl; pairs = refl })
       in
-      subst (λ (y : Cursor). ReadsOn s p (with_cursor ListVer w l) q (with_cursor ListVal y l)) (sym is) (one_word f word after refl)
+      subst (λ (y : Cursor). ReadsOn s p (with_cursor (Activity.Read Read.Version) w l) q (with_cursor (Activity.Read Read.Value) y l)) (sym is) (one_word f word after refl)
 
   -- its value was told: the cell is gathered, and passed
-  pub value_told : (x : Cursor) (m : Local) → x ≡ past w → m ≡ gathering_at w (value_of_word told) l → Follows s p (with_cursor ListVal w l) → ReadsWord s p (with_cursor ListVal w l) told q → ReadsOn s p (with_cursor ListVal w l) q (with_cursor ListFrom x m)
+  pub value_told : (x : Cursor) (m : Local) → x ≡ past w → m ≡ gathering_at w (value_of_word told) l → Follows s p (with_cursor (Activity.Read Read.Value) w l) → ReadsWord s p (with_cursor (Activity.Read Read.Value) w l) told q → ReadsOn s p (with_cursor (Activity.Read Read.Value) w l) q (with_cursor (Activity.Read Read.Link) x m)
   value_told x m is put f word =
-      let after : Follows s q (with_cursor ListFrom (past w) (gathering_at w (value_of_word told) l)) =
-      read_follows s p q (with_cursor ListVal w l) _ told ListVal f word.makes refl (record { carries = λ begun added. refl; number = refl; pairs = refl })
+      let after : Follows s q (with_cursor (Activity.Read Read.Link) (past w) (gathering_at w (value_of_word told) l)) =
+      read_follows s p q (with_cursor (Activity.Read Read.Value) w l) _ told (Activity.Read Read.Value) f word.makes refl (record { carries = λ begun added. refl; number = refl; pairs = refl })
       in
-      subst (λ (y : Cursor). ReadsOn s p (with_cursor ListVal w l) q (with_cursor ListFrom y m)) (sym is)
-      (subst (λ (n : Local). ReadsOn s p (with_cursor ListVal w l) q (with_cursor ListFrom (past w) n)) (sym put) (one_word f word after refl))
+      subst (λ (y : Cursor). ReadsOn s p (with_cursor (Activity.Read Read.Value) w l) q (with_cursor (Activity.Read Read.Link) y m)) (sym is)
+      (subst (λ (n : Local). ReadsOn s p (with_cursor (Activity.Read Read.Value) w l) q (with_cursor (Activity.Read Read.Link) (past w) n)) (sym put) (one_word f word after refl))
 
 -- Both events of a reader that meets a cell.
 
-module _ {s : Shared} {p q r : Pass} {link word : ℕ} (l m : Local) (w x : Cursor) (cell : ℕ) (is : x ≡ reached cell w) (left : m ≡ forgetting cell l) (leads : cell_of_link_word link ≡ Some cell) (f : Follows s p (with_cursor ListFrom w l)) (first : Follows s p (with_cursor ListFrom w l) → ReadsWord s p (with_cursor ListFrom w l) link q) (second : Follows s q (with_cursor ListKey x m) → ReadsWord s q (with_cursor ListKey x m) word r) where
-  led : ReadsOn s p (with_cursor ListFrom w l) q (with_cursor ListKey x m)
+module _ {s : Shared} {p q r : Pass} {link word : ℕ} (l m : Local) (w x : Cursor) (cell : ℕ) (is : x ≡ reached cell w) (left : m ≡ forgetting cell l) (leads : cell_of_link_word link ≡ Some cell) (f : Follows s p (with_cursor (Activity.Read Read.Link) w l)) (first : Follows s p (with_cursor (Activity.Read Read.Link) w l) → ReadsWord s p (with_cursor (Activity.Read Read.Link) w l) link q) (second : Follows s q (with_cursor (Activity.Read Read.Key) x m) → ReadsWord s q (with_cursor (Activity.Read Read.Key) x m) word r) where
+  led : ReadsOn s p (with_cursor (Activity.Read Read.Link) w l) q (with_cursor (Activity.Read Read.Key) x m)
   led = link_led l w x m cell is left leads f (first f)
 
   -- the bounds of the call stay
   bound_stays : (bound_of : Option Call → ℕ) (bound : ℕ) (call : Option Call) → bound ≡ bound_of call → l.call ≡ call → bound ≡ bound_of m.call
   bound_stays bound_of bound call has same = has ∙ ap bound_of (sym (ap (λ (k : Local). k.call) left ∙ same))
 
-  pub cell_passed : (y : Cursor) (key from : ℕ) (call : Option Call) → y ≡ past x → key ≡ key_of_word word → from ≡ first_key call → l.call ≡ call → key < from → ReadsOn s p (with_cursor ListFrom w l) r (with_cursor ListFrom y m)
+  pub cell_passed : (y : Cursor) (key from : ℕ) (call : Option Call) → y ≡ past x → key ≡ key_of_word word → from ≡ first_key call → l.call ≡ call → key < from → ReadsOn s p (with_cursor (Activity.Read Read.Link) w l) r (with_cursor (Activity.Read Read.Link) y m)
   cell_passed y key from call passes keyed has same below =
       let under : key_of_word word < first_key m.call = subst (λ n. n < first_key m.call) keyed (subst (λ n. key < n) (bound_stays first_key from call has same) below) in
       reads_trans s p q r _ _ _ refl led (key_below m x y passes under led.follows (second led.follows))
 
-  pub cell_within : (y : Cursor) (key from upto : ℕ) (call : Option Call) → y ≡ record x { key = key } → key ≡ key_of_word word → from ≡ first_key call → upto ≡ last_key call → l.call ≡ call → from ≤ key → key ≤ upto → ReadsOn s p (with_cursor ListFrom w l) r (with_cursor ListVer y m)
+  pub cell_within : (y : Cursor) (key from upto : ℕ) (call : Option Call) → y ≡ record x { key = key } → key ≡ key_of_word word → from ≡ first_key call → upto ≡ last_key call → l.call ≡ call → from ≤ key → key ≤ upto → ReadsOn s p (with_cursor (Activity.Read Read.Link) w l) r (with_cursor (Activity.Read Read.Version) y m)
   cell_within y key from upto call holds keyed begins ends same above below =
       let over : first_key m.call ≤ key = subst (λ n. n ≤ key) (bound_stays first_key from call begins same) above in
       let under : key ≤ last_key m.call = subst (λ n. key ≤ n) (bound_stays last_key upto call ends same) below in
       reads_trans s p q r _ _ _ refl led (key_within m x y key holds keyed over under led.follows (second led.follows))
 
-  pub cell_above : (k n : Local) (key from upto : ℕ) (call : Option Call) → k ≡ with_cursor ListKey x m → key ≡ key_of_word word → from ≡ first_key call → upto ≡ last_key call → l.call ≡ call → from ≤ key → upto < key → CarriesOn to_rest k n → ReadsOn s p (with_cursor ListFrom w l) r n
+  pub cell_above : (k n : Local) (key from upto : ℕ) (call : Option Call) → k ≡ with_cursor (Activity.Read Read.Key) x m → key ≡ key_of_word word → from ≡ first_key call → upto ≡ last_key call → l.call ≡ call → from ≤ key → upto < key → CarriesOn to_rest k n → ReadsOn s p (with_cursor (Activity.Read Read.Link) w l) r n
   cell_above k n key from upto call written keyed begins ends same above beyond on =
       let over : first_key m.call ≤ key = subst (λ n. n ≤ key) (bound_stays first_key from call begins same) above in
       let under : last_key m.call < key = subst (λ n. n < key) (bound_stays last_key upto call ends same) beyond in

@@ -8,7 +8,8 @@ use Rattle.kw_cells.specs.InOrder.{stands_before}
 use Rattle.kw_lists.specs.Rows.{IsBehind, Row, Stands}
 use Rattle.kw_lists.specs.Walks.{IsPassed}
 use Rattle.kw_lists.proofs.Orders.{stands_trans}
-use Rattle.kw_world.specs.declared.activity.Activity.TheVariants.{ListVal}
+use Rattle.kw_world.specs.declared.activity.Activity.TheVariants as Activity
+use Rattle.kw_world.specs.declared.activity.read.Read.TheVariants as Read
 use Rattle.kw_world.specs.declared.local.Local.{Local}
 use Rattle.kw_world.specs.ReadTransitions.{cell_in_hand}
 use Rattle.kw_world.specs.Sizes.{Sizes}
@@ -57,7 +58,7 @@ module _ (z : Sizes) (r : Run) (i : Inv z r) (q : ℕ) (linked : WasLinked r.led
   copies_before d y l (c ∷ cells) (p ∷ ids) x f (suc k) e u = copies_before d y l cells ids x.1 (λ n g. f n (place_old c cells 0 n g)) k e (omega arith)
 
 -- a reader that is to gather the cell in hand has gathered cells alone that stand before it
-pub gathered_before : (z : Sizes) (r : Run) → Inv z r → (t : ℕ) (l : Local) → slice_get r.world.locals t ≡ Some l → l.activity ≡ ListVal → (value : Option ℕ) → All (λ c. stands_before c (cell_in_hand value l) ≡ true) l.gathered
+pub gathered_before : (z : Sizes) (r : Run) → Inv z r → (t : ℕ) (l : Local) → slice_get r.world.locals t ≡ Some l → l.activity ≡ Activity.Read Read.Value → (value : Option ℕ) → All (λ c. stands_before c (cell_in_hand value l) ≡ true) l.gathered
 gathered_before z r i t l g a value =
     let hand = reads.hand (subst HasPlace (sym a) tt) in
     copies_before z r i l.row linked (cell_in_hand value l) (listed_in z r i l.row linked (cell_in_hand value l) hand.put met.walks.on hand.origin (hand.key (subst HasCellKey (sym a) tt)) (hand.version (subst HasVersion (sym a) tt)))

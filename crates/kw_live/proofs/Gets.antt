@@ -13,7 +13,8 @@ use Rattle.kw_model.specs.declared.call.Reply.{Reply}
 use Rattle.kw_model.specs.declared.call.Reply.TheVariants.{Value, Absent}
 use Rattle.kw_model.specs.Map.{found}
 use Rattle.kw_world.specs.declared.activity.Activity.{Activity}
-use Rattle.kw_world.specs.declared.activity.Activity.TheVariants.{Start, Head, GuessMin, Walk, WalkMin, Look, Leave}
+use Rattle.kw_world.specs.declared.activity.look.Look.TheVariants as Look
+use Rattle.kw_world.specs.declared.activity.walk.Walk.TheVariants as Walk
 use Rattle.kw_world.specs.declared.event.Choice.TheVariants.{Go, Guess}
 use Rattle.kw_world.specs.declared.event.StepDone.TheVariants.{Moved}
 use Rattle.kw_world.specs.declared.limits.TheConstants.{NEWEST}
@@ -49,7 +50,7 @@ use Rattle.kw_live.specs.Walking.{IsUnderWay}
 -- The walk to the row.
 
 -- a row that is not in use sends the walk to the first row
-refused : (r : ℕ) (state : Option State) (l : Local) → is_normal state ≡ false → to Head l ≡ guess_met r state l
+refused : (r : ℕ) (state : Option State) (l : Local) → is_normal state ≡ false → to (Activity.Walk Walk.First) l ≡ guess_met r state l
 refused r (Some Free) l u = refl
 refused r (Some (Infant seat)) l u = refl
 refused r (Some Normal) l u = true_false refl u
@@ -58,7 +59,7 @@ refused r (Some (Follower leader)) l u = refl
 refused r (Some (Retired number)) l u = refl
 refused r None l u = refl
 
-taken : (r : ℕ) (state : Option State) (l : Local) → is_normal state ≡ true → to GuessMin (record l { row = r }) ≡ guess_met r state l
+taken : (r : ℕ) (state : Option State) (l : Local) → is_normal state ≡ true → to (Activity.Walk Walk.GuessedLeast) (record l { row = r }) ≡ guess_met r state l
 taken r (Some Normal) l u = refl
 taken r (Some Free) l u = true_false u refl
 taken r (Some (Infant seat)) l u = true_false u refl
@@ -69,75 +70,75 @@ taken r None l u = true_false u refl
 
 module _ {s : Shared} {p q : Pass} {told : ℕ} (w : Way) where
   -- the state of the guessed row was told
-  module _ (r : ℕ) (inside : r < s.opening.rows) (f : Follows s p (on_way Start w)) (makes : Makes s p (Guess r) told q) where
-    guessed : (m : Local) → outcome m Moved ≡ guess_met r (state_of told) (on_way Start w) → Reaches s p q m
-    guessed m line = reaches_by (went s p q (Guess r) (on_way Start w) m Moved told s.opening.rows (offered s.opening.rows (Guess r)) f makes refl refl (line ∙ next_guess s.opening.rows r (on_way Start w) told refl inside)) tt
+  module _ (r : ℕ) (inside : r < s.opening.rows) (f : Follows s p (on_way (Activity.Walk Walk.Start) w)) (makes : Makes s p (Guess r) told q) where
+    guessed : (m : Local) → outcome m Moved ≡ guess_met r (state_of told) (on_way (Activity.Walk Walk.Start) w) → Reaches s p q m
+    guessed m line = reaches_by (went s p q (Guess r) (on_way (Activity.Walk Walk.Start) w) m Moved told s.opening.rows (offered s.opening.rows (Guess r)) f makes refl refl (line ∙ next_guess s.opening.rows r (on_way (Activity.Walk Walk.Start) w) told refl inside)) tt
 
     -- it is not in use
-    pub row_refused : is_normal (state_of told) ≡ false → Reaches s p q (on_way Head w)
-    row_refused u = guessed (on_way Head w) (refused r (state_of told) (on_way Start w) u)
+    pub row_refused : is_normal (state_of told) ≡ false → Reaches s p q (on_way (Activity.Walk Walk.First) w)
+    row_refused u = guessed (on_way (Activity.Walk Walk.First) w) (refused r (state_of told) (on_way (Activity.Walk Walk.Start) w) u)
 
     -- it is
-    pub row_taken : is_normal (state_of told) ≡ true → Reaches s p q (on_way GuessMin (record w { row = r }))
-    row_taken u = guessed (on_way GuessMin (record w { row = r })) (taken r (state_of told) (on_way Start w) u)
+    pub row_taken : is_normal (state_of told) ≡ true → Reaches s p q (on_way (Activity.Walk Walk.GuessedLeast) (record w { row = r }))
+    row_taken u = guessed (on_way (Activity.Walk Walk.GuessedLeast) (record w { row = r })) (taken r (state_of told) (on_way (Activity.Walk Walk.Start) w) u)
 
   -- any later event of the walk
   walked : (a : Activity) (m : Local) (line : outcome m Moved ≡ next_of product s.opening.rows Go (on_way a w) told) → IsGoingOn a → Follows s p (on_way a w) → Makes s p Go told q → Reaches s p q m
   walked a m line going f makes = reaches_by (went_by (on_way a w) m Moved f makes line) going
 
   -- the least key of the guessed row was told, and is above the key
-  pub least_above : (least : ℕ) → least ≡ key_of_word told → w.key < least → Follows s p (on_way GuessMin w) → Makes s p Go told q → Reaches s p q (on_way Head w)
+  pub least_above : (least : ℕ) → least ≡ key_of_word told → w.key < least → Follows s p (on_way (Activity.Walk Walk.GuessedLeast) w) → Makes s p Go told q → Reaches s p q (on_way (Activity.Walk Walk.First) w)
   least_above least keyed above f makes =
       let beyond : nat_le (key_of_word told) w.key ≡ false = grind (arith, nat_tests) in
-      walked GuessMin (on_way Head w)
-      (ap (λ (b : Bool). let o : Outcome = if b then to Walk (record (on_way GuessMin w) { lower = key_of_word told }) else to Head (on_way GuessMin w) in o) (sym beyond)
-      ∙ next_at s.opening.rows GuessMin (on_way GuessMin w) told refl)
+      walked (Activity.Walk Walk.GuessedLeast) (on_way (Activity.Walk Walk.First) w)
+      (ap (λ (b : Bool). let o : Outcome = if b then to (Activity.Walk Walk.Next) (record (on_way (Activity.Walk Walk.GuessedLeast) w) { lower = key_of_word told }) else to (Activity.Walk Walk.First) (on_way (Activity.Walk Walk.GuessedLeast) w) in o) (sym beyond)
+      ∙ next_at s.opening.rows (Activity.Walk Walk.GuessedLeast) (on_way (Activity.Walk Walk.GuessedLeast) w) told refl)
       tt f makes
 
   -- or is not
-  pub least_below : (least : ℕ) → least ≡ key_of_word told → least ≤ w.key → Follows s p (on_way GuessMin w) → Makes s p Go told q → Reaches s p q (on_way Walk (record w { lower = least }))
+  pub least_below : (least : ℕ) → least ≡ key_of_word told → least ≤ w.key → Follows s p (on_way (Activity.Walk Walk.GuessedLeast) w) → Makes s p Go told q → Reaches s p q (on_way (Activity.Walk Walk.Next) (record w { lower = least }))
   least_below least keyed below f makes =
       let within : nat_le least w.key ≡ true = grind (arith, nat_tests) in
-      walked GuessMin (on_way Walk (record w { lower = least }))
-      (ap (λ (b : Bool). let o : Outcome = if b then to Walk (record (on_way GuessMin w) { lower = least }) else to Head (on_way GuessMin w) in o) (sym within)
-      ∙ (ap (λ n. let o : Outcome = if nat_le n w.key then to Walk (record (on_way GuessMin w) { lower = n }) else to Head (on_way GuessMin w) in o) keyed
-      ∙ next_at s.opening.rows GuessMin (on_way GuessMin w) told refl))
+      walked (Activity.Walk Walk.GuessedLeast) (on_way (Activity.Walk Walk.Next) (record w { lower = least }))
+      (ap (λ (b : Bool). let o : Outcome = if b then to (Activity.Walk Walk.Next) (record (on_way (Activity.Walk Walk.GuessedLeast) w) { lower = least }) else to (Activity.Walk Walk.First) (on_way (Activity.Walk Walk.GuessedLeast) w) in o) (sym within)
+      ∙ (ap (λ n. let o : Outcome = if nat_le n w.key then to (Activity.Walk Walk.Next) (record (on_way (Activity.Walk Walk.GuessedLeast) w) { lower = n }) else to (Activity.Walk Walk.First) (on_way (Activity.Walk Walk.GuessedLeast) w) in o) keyed
+      ∙ next_at s.opening.rows (Activity.Walk Walk.GuessedLeast) (on_way (Activity.Walk Walk.GuessedLeast) w) told refl))
       tt f makes
 
   -- the link after the row was told, and leads to none: the get is at its row
-  pub links_none : row_linked (link_of told) ≡ None → Follows s p (on_way Walk w) → Makes s p Go told q → Reaches s p q (on_way (Look 0) (record w { next = None; upper = 0 }))
+  pub links_none : row_linked (link_of told) ≡ None → Follows s p (on_way (Activity.Walk Walk.Next) w) → Makes s p Go told q → Reaches s p q (on_way (Activity.Look (Look.Entry 0)) (record w { next = None; upper = 0 }))
   links_none none f makes =
-      walked Walk (on_way (Look 0) (record w { next = None; upper = 0 }))
-      (ap (λ (o : Option ℕ). link_met o (on_way Walk w)) (sym none) ∙ next_at s.opening.rows Walk (on_way Walk w) told refl)
+      walked (Activity.Walk Walk.Next) (on_way (Activity.Look (Look.Entry 0)) (record w { next = None; upper = 0 }))
+      (ap (λ (o : Option ℕ). link_met o (on_way (Activity.Walk Walk.Next) w)) (sym none) ∙ next_at s.opening.rows (Activity.Walk Walk.Next) (on_way (Activity.Walk Walk.Next) w) told refl)
       tt f makes
 
   -- or leads to a row
-  pub links_row : (r : ℕ) → row_linked (link_of told) ≡ Some r → Follows s p (on_way Walk w) → Makes s p Go told q → Reaches s p q (on_way WalkMin (record w { candidate = r }))
+  pub links_row : (r : ℕ) → row_linked (link_of told) ≡ Some r → Follows s p (on_way (Activity.Walk Walk.Next) w) → Makes s p Go told q → Reaches s p q (on_way (Activity.Walk Walk.NextLeast) (record w { candidate = r }))
   links_row r leads f makes =
-      walked Walk (on_way WalkMin (record w { candidate = r }))
-      (ap (λ (o : Option ℕ). link_met o (on_way Walk w)) (sym leads) ∙ next_at s.opening.rows Walk (on_way Walk w) told refl)
+      walked (Activity.Walk Walk.Next) (on_way (Activity.Walk Walk.NextLeast) (record w { candidate = r }))
+      (ap (λ (o : Option ℕ). link_met o (on_way (Activity.Walk Walk.Next) w)) (sym leads) ∙ next_at s.opening.rows (Activity.Walk Walk.Next) (on_way (Activity.Walk Walk.Next) w) told refl)
       tt f makes
 
   -- whose least key is not above the key: the walk goes on there
-  pub next_below : (least : ℕ) → least ≡ key_of_word told → least ≤ w.key → Follows s p (on_way WalkMin w) → Makes s p Go told q → Reaches s p q (on_way Walk (record w { row = w.candidate; lower = least }))
+  pub next_below : (least : ℕ) → least ≡ key_of_word told → least ≤ w.key → Follows s p (on_way (Activity.Walk Walk.NextLeast) w) → Makes s p Go told q → Reaches s p q (on_way (Activity.Walk Walk.Next) (record w { row = w.candidate; lower = least }))
   next_below least keyed below f makes =
-      let l : Local = on_way WalkMin w in
+      let l : Local = on_way (Activity.Walk Walk.NextLeast) w in
       let within : nat_le least w.key ≡ true = grind (arith, nat_tests) in
-      walked WalkMin (on_way Walk (record w { row = w.candidate; lower = least }))
-      (ap (λ (b : Bool). let o : Outcome = if b then to Walk (record l { row = w.candidate; lower = least }) else arrive l.call (record l { next = Some w.candidate; upper = least }) in o) (sym within)
-      ∙ (ap (λ n. let o : Outcome = if nat_le n w.key then to Walk (record l { row = w.candidate; lower = n }) else arrive l.call (record l { next = Some w.candidate; upper = n }) in o) keyed
-      ∙ next_at s.opening.rows WalkMin l told refl))
+      walked (Activity.Walk Walk.NextLeast) (on_way (Activity.Walk Walk.Next) (record w { row = w.candidate; lower = least }))
+      (ap (λ (b : Bool). let o : Outcome = if b then to (Activity.Walk Walk.Next) (record l { row = w.candidate; lower = least }) else arrive l.call (record l { next = Some w.candidate; upper = least }) in o) (sym within)
+      ∙ (ap (λ n. let o : Outcome = if nat_le n w.key then to (Activity.Walk Walk.Next) (record l { row = w.candidate; lower = n }) else arrive l.call (record l { next = Some w.candidate; upper = n }) in o) keyed
+      ∙ next_at s.opening.rows (Activity.Walk Walk.NextLeast) l told refl))
       tt f makes
 
   -- or is: the get is at its row
-  pub next_above : (least : ℕ) → least ≡ key_of_word told → w.key < least → Follows s p (on_way WalkMin w) → Makes s p Go told q → Reaches s p q (on_way (Look 0) (record w { next = Some w.candidate; upper = least }))
+  pub next_above : (least : ℕ) → least ≡ key_of_word told → w.key < least → Follows s p (on_way (Activity.Walk Walk.NextLeast) w) → Makes s p Go told q → Reaches s p q (on_way (Activity.Look (Look.Entry 0)) (record w { next = Some w.candidate; upper = least }))
   next_above least keyed above f makes =
-      let l : Local = on_way WalkMin w in
+      let l : Local = on_way (Activity.Walk Walk.NextLeast) w in
       let beyond : nat_le least w.key ≡ false = grind (arith, nat_tests) in
-      walked WalkMin (on_way (Look 0) (record w { next = Some w.candidate; upper = least }))
-      (ap (λ (b : Bool). let o : Outcome = if b then to Walk (record l { row = w.candidate; lower = least }) else arrive l.call (record l { next = Some w.candidate; upper = least }) in o) (sym beyond)
-      ∙ (ap (λ n. let o : Outcome = if nat_le n w.key then to Walk (record l { row = w.candidate; lower = n }) else arrive l.call (record l { next = Some w.candidate; upper = n }) in o) keyed
-      ∙ next_at s.opening.rows WalkMin l told refl))
+      walked (Activity.Walk Walk.NextLeast) (on_way (Activity.Look (Look.Entry 0)) (record w { next = Some w.candidate; upper = least }))
+      (ap (λ (b : Bool). let o : Outcome = if b then to (Activity.Walk Walk.Next) (record l { row = w.candidate; lower = least }) else arrive l.call (record l { next = Some w.candidate; upper = least }) in o) (sym beyond)
+      ∙ (ap (λ n. let o : Outcome = if nat_le n w.key then to (Activity.Walk Walk.Next) (record l { row = w.candidate; lower = n }) else arrive l.call (record l { next = Some w.candidate; upper = n }) in o) keyed
+      ∙ next_at s.opening.rows (Activity.Walk Walk.NextLeast) l told refl))
       tt f makes
 
 -- The whole call.
@@ -154,7 +155,7 @@ whole {p} {q} {r} {t} {call} {reply} o k c = record {
 }
 
 -- code that is about to leave with an answer follows a seat that is about to leave with it
-pub leaves_with : {s : Shared} {p : Pass} {l : Local} (answer : Answer) → Follows s p l → l.activity ≡ Leave answer → activity_in p ≡ Leave answer
+pub leaves_with : {s : Shared} {p : Pass} {l : Local} (answer : Answer) → Follows s p l → l.activity ≡ Activity.Leave answer → activity_in p ≡ Activity.Leave answer
 leaves_with {s} {p} {l} answer f is = same_activity s p l f ∙ is
 
 -- the end of a get: code replies what the seat does, since neither has pairs
@@ -165,7 +166,7 @@ pub get_replies : {p q : Pass} (x : Option ℕ) (pairs : List (ℕ × ℕ)) (rep
 get_replies {p} {q} x pairs reply e = subst (Closes p q) (reply_of-found x pairs ∙ (sym (reply_of-found x []) ∙ sym e.1)) e.0
 
 -- a get that has read its row is about to leave with what the row shows
-pub get_reads : (key : ℕ) (l m : Local) (before after : List (ℕ × ℕ)) → l.call ≡ Some (Get key) → HasRead l m before after → m.activity ≡ Leave (answer_found (shown_at m.gathered NEWEST key))
+pub get_reads : (key : ℕ) (l m : Local) (before after : List (ℕ × ℕ)) → l.call ≡ Some (Get key) → HasRead l m before after → m.activity ≡ Activity.Leave (answer_found (shown_at m.gathered NEWEST key))
 get_reads key l m before after is read = (subst (λ c. HasReadAs c l.want l.version m before after) is read).0
 
 -- and where that is no value, it is that there is none
@@ -174,11 +175,11 @@ get_absent (Some value) reply e none = absurd (none value e)
 get_absent None reply e none = e
 
 -- a get that is at its row looks at its first entry next, and one that is not is still on its way
-pub at_row : (key i : ℕ) (a : Activity) → IsUnderWay (Some (Get key)) a → a ≡ Look i → a ≡ Look 0
+pub at_row : (key i : ℕ) (a : Activity) → IsUnderWay (Some (Get key)) a → a ≡ Activity.Look (Look.Entry i) → a ≡ Activity.Look (Look.Entry 0)
 at_row key i a (inl walks) is = true_false walks (ap is_walking is)
 at_row key i a (inr e) is = e
 
-pub walks_still : (key : ℕ) (a : Activity) → IsUnderWay (Some (Get key)) a → ((i : ℕ) → a ≡ Look i → ⊥) → is_walking a ≡ true
+pub walks_still : (key : ℕ) (a : Activity) → IsUnderWay (Some (Get key)) a → ((i : ℕ) → a ≡ Activity.Look (Look.Entry i) → ⊥) → is_walking a ≡ true
 walks_still key a (inl walks) none = walks
 walks_still key a (inr e) none = absurd (none 0 e)
 

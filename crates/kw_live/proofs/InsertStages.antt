@@ -5,7 +5,8 @@ use Rattle.std.proofs.lemmas.Bool.{lt-ltb}
 use Rattle.kw_model.specs.declared.call.Call.{Call}
 use Rattle.kw_words.specs.Plain.{cell_of_link_word, key_of_word}
 use Rattle.kw_words.specs.declared.sizes.TheConstants.{CELLS}
-use Rattle.kw_world.specs.declared.activity.Activity.TheVariants.{InsFrom, InsKey, InsVer, InsSet}
+use Rattle.kw_world.specs.declared.activity.Activity.TheVariants as Activity
+use Rattle.kw_world.specs.declared.activity.insert.Insert.TheVariants as Insert
 use Rattle.kw_world.specs.declared.event.Choice.TheVariants.{Go}
 use Rattle.kw_world.specs.declared.event.StepDone.{StepDone}
 use Rattle.kw_world.specs.declared.event.StepDone.TheVariants.{Moved}
@@ -36,7 +37,7 @@ use Rattle.kw_live.proofs.PutStages.{put_goes}
 use Rattle.kw_live.proofs.ReadEvent.{laws_in}
 
 -- a put that stands at a link has met fewer cells than there are
-pub put_counts : (s : Shared) (p : Pass) (l : Local) (w : Cursor) → Follows s p (with_cursor InsFrom w l) → w.walked < CELLS
+pub put_counts : (s : Shared) (p : Pass) (l : Local) (w : Cursor) → Follows s p (with_cursor (Activity.Insert Insert.Link) w l) → w.walked < CELLS
 put_counts s p l w f =
     let k : Local = local_in (view p) in
     subst (λ (x : Local). x.walked < CELLS) (sym f.carries)
@@ -74,7 +75,7 @@ from_link None l = tt
 from_key : (key : ℕ) (l : Local) → IsInserting (insert_key key l).local.activity
 from_key key l = met (nat_lt key (first_key l.call)) (key == first_key l.call)
   where
-    met : (b c : Bool) → IsInserting (let x : Outcome = if b then insert_past l else if c then to InsVer l else to InsSet l in x).local.activity
+    met : (b c : Bool) → IsInserting (let x : Outcome = if b then insert_past l else if c then to (Activity.Insert Insert.Version) l else to (Activity.Insert Insert.Set) l in x).local.activity
     met true c = tt
     met false true = tt
     met false false = tt
@@ -83,37 +84,37 @@ from_key key l = met (nat_lt key (first_key l.call)) (key == first_key l.call)
 
 module _ {s : Shared} {p q : Pass} {told : ℕ} (l : Local) (w : Cursor) where
   -- the link led to a cell
-  pub link_met : (x : Cursor) (m : Local) (cell : ℕ) → x ≡ reached cell w → m ≡ holding cell l → cell_of_link_word told ≡ Some cell → Follows s p (with_cursor InsFrom w l) → Makes s p Go told q → InsertsFurther s p (with_cursor InsFrom w l) q (with_cursor InsKey x m)
+  pub link_met : (x : Cursor) (m : Local) (cell : ℕ) → x ≡ reached cell w → m ≡ holding cell l → cell_of_link_word told ≡ Some cell → Follows s p (with_cursor (Activity.Insert Insert.Link) w l) → Makes s p Go told q → InsertsFurther s p (with_cursor (Activity.Insert Insert.Link) w l) q (with_cursor (Activity.Insert Insert.Key) x m)
   link_met x m cell is left leads f makes =
-      let k : Local = with_cursor InsFrom w l in
-      let line : outcome (with_cursor InsKey (reached cell w) (holding cell l)) Moved ≡ insert_from product (cell_of_link_word told) k = ap (λ (o : Option ℕ). insert_from product o k) (sym leads) in
-      let on : InsertsFurther s p k q (with_cursor InsKey (reached cell w) (holding cell l)) = inserts_by k (with_cursor InsKey (reached cell w) (holding cell l)) Moved f makes refl (line ∙ next_at _ InsFrom k told refl) tt in
-      subst (λ (y : Cursor). InsertsFurther s p (with_cursor InsFrom w l) q (with_cursor InsKey y m)) (sym is)
-      (subst (λ (n : Local). InsertsFurther s p (with_cursor InsFrom w l) q (with_cursor InsKey (reached cell w) n)) (sym left) on)
+      let k : Local = with_cursor (Activity.Insert Insert.Link) w l in
+      let line : outcome (with_cursor (Activity.Insert Insert.Key) (reached cell w) (holding cell l)) Moved ≡ insert_from product (cell_of_link_word told) k = ap (λ (o : Option ℕ). insert_from product o k) (sym leads) in
+      let on : InsertsFurther s p k q (with_cursor (Activity.Insert Insert.Key) (reached cell w) (holding cell l)) = inserts_by k (with_cursor (Activity.Insert Insert.Key) (reached cell w) (holding cell l)) Moved f makes refl (line ∙ next_at _ (Activity.Insert Insert.Link) k told refl) tt in
+      subst (λ (y : Cursor). InsertsFurther s p (with_cursor (Activity.Insert Insert.Link) w l) q (with_cursor (Activity.Insert Insert.Key) y m)) (sym is)
+      (subst (λ (n : Local). InsertsFurther s p (with_cursor (Activity.Insert Insert.Link) w l) q (with_cursor (Activity.Insert Insert.Key) (reached cell w) n)) (sym left) on)
 
   -- the walk is left at the link
-  pub link_left : (k m : Local) (done : StepDone) → k ≡ with_cursor InsFrom w l → outcome m done ≡ insert_from product (cell_of_link_word told) k → Follows s p (with_cursor InsFrom w l) → Makes s p Go told q → InsertsFurther s p (with_cursor InsFrom w l) q m
+  pub link_left : (k m : Local) (done : StepDone) → k ≡ with_cursor (Activity.Insert Insert.Link) w l → outcome m done ≡ insert_from product (cell_of_link_word told) k → Follows s p (with_cursor (Activity.Insert Insert.Link) w l) → Makes s p Go told q → InsertsFurther s p (with_cursor (Activity.Insert Insert.Link) w l) q m
   link_left k m done written on f makes =
-      let line : outcome m done ≡ insert_from product (cell_of_link_word told) (with_cursor InsFrom w l) = on ∙ ap (λ (n : Local). insert_from product (cell_of_link_word told) n) written in
-      inserts_by (with_cursor InsFrom w l) m done f makes refl (line ∙ next_at _ InsFrom (with_cursor InsFrom w l) told refl)
-      (subst (λ (o : Outcome). IsInserting o.local.activity) (sym line) (from_link (cell_of_link_word told) (with_cursor InsFrom w l)))
+      let line : outcome m done ≡ insert_from product (cell_of_link_word told) (with_cursor (Activity.Insert Insert.Link) w l) = on ∙ ap (λ (n : Local). insert_from product (cell_of_link_word told) n) written in
+      inserts_by (with_cursor (Activity.Insert Insert.Link) w l) m done f makes refl (line ∙ next_at _ (Activity.Insert Insert.Link) (with_cursor (Activity.Insert Insert.Link) w l) told refl)
+      (subst (λ (o : Outcome). IsInserting o.local.activity) (sym line) (from_link (cell_of_link_word told) (with_cursor (Activity.Insert Insert.Link) w l)))
 
   -- the key of the cell is below the own one: it is passed
-  pub key_passed : (x : Cursor) → x ≡ past w → key_of_word told < first_key l.call → Follows s p (with_cursor InsKey w l) → Makes s p Go told q → InsertsFurther s p (with_cursor InsKey w l) q (with_cursor InsFrom x l)
+  pub key_passed : (x : Cursor) → x ≡ past w → key_of_word told < first_key l.call → Follows s p (with_cursor (Activity.Insert Insert.Key) w l) → Makes s p Go told q → InsertsFurther s p (with_cursor (Activity.Insert Insert.Key) w l) q (with_cursor (Activity.Insert Insert.Link) x l)
   key_passed x is below f makes =
-      let k : Local = with_cursor InsKey w l in
-      let line : outcome (with_cursor InsFrom (past w) l) Moved ≡ insert_key (key_of_word told) k =
-      ap (λ (b : Bool). let o : Outcome = if b then insert_past k else if key_of_word told == first_key k.call then to InsVer k else to InsSet k in o) (sym (lt-ltb (key_of_word told) (first_key l.call) below))
+      let k : Local = with_cursor (Activity.Insert Insert.Key) w l in
+      let line : outcome (with_cursor (Activity.Insert Insert.Link) (past w) l) Moved ≡ insert_key (key_of_word told) k =
+      ap (λ (b : Bool). let o : Outcome = if b then insert_past k else if key_of_word told == first_key k.call then to (Activity.Insert Insert.Version) k else to (Activity.Insert Insert.Set) k in o) (sym (lt-ltb (key_of_word told) (first_key l.call) below))
       in
-      subst (λ (y : Cursor). InsertsFurther s p (with_cursor InsKey w l) q (with_cursor InsFrom y l)) (sym is)
-      (inserts_by k (with_cursor InsFrom (past w) l) Moved f makes refl (line ∙ next_at _ InsKey k told refl) tt)
+      subst (λ (y : Cursor). InsertsFurther s p (with_cursor (Activity.Insert Insert.Key) w l) q (with_cursor (Activity.Insert Insert.Link) y l)) (sym is)
+      (inserts_by k (with_cursor (Activity.Insert Insert.Link) (past w) l) Moved f makes refl (line ∙ next_at _ (Activity.Insert Insert.Key) k told refl) tt)
 
   -- the walk is left at the cell
-  pub key_left : (k m : Local) (done : StepDone) → k ≡ with_cursor InsKey w l → outcome m done ≡ insert_key (key_of_word told) k → Follows s p (with_cursor InsKey w l) → Makes s p Go told q → InsertsFurther s p (with_cursor InsKey w l) q m
+  pub key_left : (k m : Local) (done : StepDone) → k ≡ with_cursor (Activity.Insert Insert.Key) w l → outcome m done ≡ insert_key (key_of_word told) k → Follows s p (with_cursor (Activity.Insert Insert.Key) w l) → Makes s p Go told q → InsertsFurther s p (with_cursor (Activity.Insert Insert.Key) w l) q m
   key_left k m done written on f makes =
-      let line : outcome m done ≡ insert_key (key_of_word told) (with_cursor InsKey w l) = on ∙ ap (λ (n : Local). insert_key (key_of_word told) n) written in
-      inserts_by (with_cursor InsKey w l) m done f makes refl (line ∙ next_at _ InsKey (with_cursor InsKey w l) told refl)
-      (subst (λ (o : Outcome). IsInserting o.local.activity) (sym line) (from_key (key_of_word told) (with_cursor InsKey w l)))
+      let line : outcome m done ≡ insert_key (key_of_word told) (with_cursor (Activity.Insert Insert.Key) w l) = on ∙ ap (λ (n : Local). insert_key (key_of_word told) n) written in
+      inserts_by (with_cursor (Activity.Insert Insert.Key) w l) m done f makes refl (line ∙ next_at _ (Activity.Insert Insert.Key) (with_cursor (Activity.Insert Insert.Key) w l) told refl)
+      (subst (λ (o : Outcome). IsInserting o.local.activity) (sym line) (from_key (key_of_word told) (with_cursor (Activity.Insert Insert.Key) w l)))
 
 -- One event after the other.
 
@@ -130,9 +131,9 @@ inserts_trans {s} {p} {q} {r} l m n a b = record {
 
 -- A cell that the link led to.
 
-module _ {s : Shared} {p q r : Pass} {link word : ℕ} (l m : Local) (w x : Cursor) (cell : ℕ) (is : x ≡ reached cell w) (left : m ≡ holding cell l) (leads : cell_of_link_word link ≡ Some cell) (f : Follows s p (with_cursor InsFrom w l)) (first : Makes s p Go link q) (second : Makes s q Go word r) where
+module _ {s : Shared} {p q r : Pass} {link word : ℕ} (l m : Local) (w x : Cursor) (cell : ℕ) (is : x ≡ reached cell w) (left : m ≡ holding cell l) (leads : cell_of_link_word link ≡ Some cell) (f : Follows s p (with_cursor (Activity.Insert Insert.Link) w l)) (first : Makes s p Go link q) (second : Makes s q Go word r) where
   -- the put has met it
-  met : InsertsFurther s p (with_cursor InsFrom w l) q (with_cursor InsKey x m)
+  met : InsertsFurther s p (with_cursor (Activity.Insert Insert.Link) w l) q (with_cursor (Activity.Insert Insert.Key) x m)
   met = link_met l w x m cell is left leads f first
 
   -- the call is as it was
@@ -140,14 +141,14 @@ module _ {s : Shared} {p q r : Pass} {link word : ℕ} (l m : Local) (w x : Curs
   call_stays = ap (λ (k : Local). k.call) left
 
   -- it is passed
-  pub cell_passed : (y : Cursor) (key own : ℕ) (call : Option Call) → y ≡ past x → key ≡ key_of_word word → own ≡ first_key call → l.call ≡ call → key < own → InsertsFurther s p (with_cursor InsFrom w l) r (with_cursor InsFrom y m)
+  pub cell_passed : (y : Cursor) (key own : ℕ) (call : Option Call) → y ≡ past x → key ≡ key_of_word word → own ≡ first_key call → l.call ≡ call → key < own → InsertsFurther s p (with_cursor (Activity.Insert Insert.Link) w l) r (with_cursor (Activity.Insert Insert.Link) y m)
   cell_passed y key own call passes keyed has same below =
       let bound : own ≡ first_key m.call = has ∙ ap first_key (sym (call_stays ∙ same)) in
       let under : key_of_word word < first_key m.call = subst (λ n. n < first_key m.call) keyed (subst (λ n. key < n) bound below) in
       inserts_trans _ _ _ met (key_passed m x y passes under met.follows second)
 
   -- the walk is left there
-  pub cell_left : (k n : Local) (done : StepDone) → k ≡ with_cursor InsKey x m → outcome n done ≡ insert_key (key_of_word word) k → InsertsFurther s p (with_cursor InsFrom w l) r n
+  pub cell_left : (k n : Local) (done : StepDone) → k ≡ with_cursor (Activity.Insert Insert.Key) x m → outcome n done ≡ insert_key (key_of_word word) k → InsertsFurther s p (with_cursor (Activity.Insert Insert.Link) w l) r n
   cell_left k n done written on = inserts_trans _ _ _ met (key_left m x k n done written on met.follows second)
 
 -- What stays while a cursor goes along the list.

@@ -7,7 +7,8 @@ use Rattle.kw_words.specs.declared.pend.Pend.TheVariants.{Idle, Pending, Stamped
 use Rattle.kw_words.specs.Pend.{pend_of}
 use Rattle.kw_words.specs.Plain.{key_of_word}
 use Rattle.kw_world.specs.declared.activity.Activity.{Activity}
-use Rattle.kw_world.specs.declared.activity.Activity.TheVariants.{Look, LookKey, LookClock, LookHelp, ListFrom}
+use Rattle.kw_world.specs.declared.activity.look.Look.TheVariants as Look
+use Rattle.kw_world.specs.declared.activity.read.Read.TheVariants as Read
 use Rattle.kw_world.specs.declared.event.Choice.TheVariants.{Go}
 use Rattle.kw_world.specs.declared.event.StepDone.{StepDone}
 use Rattle.kw_world.specs.declared.event.StepDone.TheVariants.{Moved}
@@ -41,7 +42,7 @@ pub record Looked (z : Sizes) (l m : Local) (ahead : ℕ) : Type 0 where
 goes_on : (z : Sizes) (l x : Local) (i ahead : ℕ) → x.call ≡ l.call → x.want ≡ l.want → x.version ≡ l.version → 0 < ahead → (i < z.seats → 4 * (z.seats - i) + 4 < ahead) → Looked z l (to_look z i x).local ahead
 goes_on z l x i ahead a b c some fewer = met (nat_lt i z.seats) refl
   where
-    met : (e : Bool) → nat_lt i z.seats ≡ e → Looked z l (let o : Outcome = if e then to (Look i) x else to ListFrom x in o).local ahead
+    met : (e : Bool) → nat_lt i z.seats ≡ e → Looked z l (let o : Outcome = if e then to (Activity.Look (Look.Entry i)) x else to (Activity.Read Read.Link) x in o).local ahead
     met true h = record { looks = record { call = a; want = b; version = c; stage = λ f. true_false refl f }; fewer = fewer (grind (arith, nat_tests)) }
     met false h = record { looks = record { call = a; want = b; version = c; stage = λ f. refl }; fewer = some }
 
@@ -54,7 +55,7 @@ meets z l i (Some Frozen) = goes_on z l l (i + 1) _ refl refl refl (omega arith)
 meets z l i None = goes_on z l l (i + 1) _ refl refl refl (omega arith) (λ h. omega (arith, h))
 
 -- its cell's key is read
-keys : (z : Sizes) (l : Local) (b : Bool) → Looked z l (let o : Outcome = if b then to LookClock l else to_look z (l.looked + 1) l in o).local (4 * (z.seats - l.looked) + 3)
+keys : (z : Sizes) (l : Local) (b : Bool) → Looked z l (let o : Outcome = if b then to (Activity.Look Look.Clock) l else to_look z (l.looked + 1) l in o).local (4 * (z.seats - l.looked) + 3)
 keys z l true = record { looks = record { call = refl; want = refl; version = refl; stage = λ f. true_false refl f }; fewer = omega arith }
 keys z l false = goes_on z l l (l.looked + 1) _ refl refl refl (omega arith) (λ h. omega (arith, h))
 
@@ -72,10 +73,10 @@ helps z l None = goes_on z l l (l.looked + 1) _ refl refl refl (omega arith) (λ
 
 -- the event, by its activity
 event : (z : Sizes) (a : Activity) (l : Local) (rows told : ℕ) → is_looking a ≡ true → Looked z l ((transition z a 0 Go l).next rows told).local (look_ahead z a l.looked)
-event z (Look i) l rows told u = meets z l i (pend_of told)
-event z LookKey l rows told u = keys z l (is_in_range l.call (key_of_word told))
-event z LookClock l rows told u = record { looks = record { call = refl; want = refl; version = refl; stage = λ f. true_false refl f }; fewer = omega arith }
-event z LookHelp l rows told u = helps z l (pend_of told)
+event z (Activity.Look (Look.Entry i)) l rows told u = meets z l i (pend_of told)
+event z (Activity.Look Look.Key) l rows told u = keys z l (is_in_range l.call (key_of_word told))
+event z (Activity.Look Look.Clock) l rows told u = record { looks = record { call = refl; want = refl; version = refl; stage = λ f. true_false refl f }; fewer = omega arith }
+event z (Activity.Look Look.Help) l rows told u = helps z l (pend_of told)
 event z _ l rows told u = true_false u refl
 
 -- each event of looking takes the reader on
@@ -91,10 +92,7 @@ looks_trans l m n a b = record { call = b.call ∙ a.call; want = b.want ∙ a.w
 
 -- a reader that looks is in the middle of its call
 looking_within : (a : Activity) → is_looking a ≡ true → IsWithinCall a
-looking_within (Look i) u = tt
-looking_within LookKey u = tt
-looking_within LookClock u = tt
-looking_within LookHelp u = tt
+looking_within (Activity.Look _) u = tt
 looking_within _ u = true_false u refl
 
 module _ {s : Shared} {p q : Pass} {told : ℕ} (l m : Local) (done : StepDone) (f : Follows s p l) (makes : Makes s p Go told q) (u : is_looking l.activity ≡ true) (line : outcome m done ≡ next_of product s.opening.rows Go l told) where
@@ -117,14 +115,14 @@ module _ {s : Shared} {p q : Pass} {told : ℕ} (l : Local) (i : ℕ) (f : Follo
   -- the next entry is looked at
   idle_line : pend_of told ≡ Some Idle → i + 1 < product.seats → outcome (looking (i + 1) l) Moved ≡ look_met product i (pend_of told) (looking i l)
   idle_line idle more =
-      ap (λ (b : Bool). let o : Outcome = if b then to (Look (i + 1)) (looking i l) else to ListFrom (looking i l) in o) (sym (lt-ltb (i + 1) product.seats more))
+      ap (λ (b : Bool). let o : Outcome = if b then to (Activity.Look (Look.Entry (i + 1))) (looking i l) else to (Activity.Read Read.Link) (looking i l) in o) (sym (lt-ltb (i + 1) product.seats more))
       ∙ ap (λ (e : Option Pend). look_met product i e (looking i l)) (sym idle)
 
   pub passes_idle : pend_of told ≡ Some Idle → i + 1 < product.seats → LooksFurther s p (looking i l) q (looking (i + 1) l)
-  passes_idle idle more = looks_by (looking i l) (looking (i + 1) l) Moved f makes refl (idle_line idle more ∙ next_at _ (Look i) (looking i l) told refl)
+  passes_idle idle more = looks_by (looking i l) (looking (i + 1) l) Moved f makes refl (idle_line idle more ∙ next_at _ (Activity.Look (Look.Entry i)) (looking i l) told refl)
 
   pub meets_entry : (m : Local) (done : StepDone) → outcome m done ≡ look_met product i (pend_of told) (looking i l) → LooksFurther s p (looking i l) q m
-  meets_entry m done line = looks_by (looking i l) m done f makes refl (line ∙ next_at _ (Look i) (looking i l) told refl)
+  meets_entry m done line = looks_by (looking i l) m done f makes refl (line ∙ next_at _ (Activity.Look (Look.Entry i)) (looking i l) told refl)
 
 -- All of them.
 
@@ -137,18 +135,18 @@ idle_is (Some Frozen) u = true_false u refl
 idle_is None u = true_false u refl
 
 -- code that follows a reader at an entry looks at it next
-pub looks_here : (s : Shared) (p : Pass) (l : Local) (i : ℕ) → Follows s p l → l.activity ≡ Look i → Follows s p (looking i l)
+pub looks_here : (s : Shared) (p : Pass) (l : Local) (i : ℕ) → Follows s p l → l.activity ≡ Activity.Look (Look.Entry i) → Follows s p (looking i l)
 looks_here s p l i f is = subst (λ (a : Activity). Follows s p (record l { activity = a })) is f
 
 -- a reader begins to look at an entry
-pub begins_looking : (s : Shared) (p : Pass) (l : Local) (i : ℕ) → Follows s p l → l.activity ≡ Look i → IsLookingOn s p l p (looking i l)
+pub begins_looking : (s : Shared) (p : Pass) (l : Local) (i : ℕ) → Follows s p l → l.activity ≡ Activity.Look (Look.Entry i) → IsLookingOn s p l p (looking i l)
 begins_looking s p l i f is = record {
   goes = record { of_table = f.of_table; number = refl; opening = refl; seen = prefix_self _ };
   follows = subst (λ (a : Activity). Follows s p (record l { activity = a })) is f;
   calls = refl;
   held = refl;
   looks = record { call = refl; want = refl; version = refl; stage = λ e. true_false refl e };
-  fewer = subst (λ (a : Activity). look_ahead product (Look i) l.looked ≤ look_ahead product a l.looked) (sym is) (omega (arith));
+  fewer = subst (λ (a : Activity). look_ahead product (Activity.Look (Look.Entry i)) l.looked ≤ look_ahead product a l.looked) (sym is) (omega (arith));
 }
 
 module _ {s : Shared} {o p q : Pass} {l m n : Local} (before : IsLookingOn s o l p m) (more : LooksFurther s p m q n) where
@@ -175,14 +173,14 @@ module _ {s : Shared} {o p q : Pass} {l m n : Local} (before : IsLookingOn s o l
   }
 
 -- looks up to an entry, and what follows from it
-pub looked_from : {s : Shared} {p q : Pass} {l m : Local} {from entry told : ℕ} {done : StepDone} → l.activity ≡ Look from → LooksUpTo s p l from entry told q → outcome m done ≡ look_met product entry (pend_of told) (looking entry l) → LooksFurther s p l q m
+pub looked_from : {s : Shared} {p q : Pass} {l m : Local} {from entry told : ℕ} {done : StepDone} → l.activity ≡ Activity.Look (Look.Entry from) → LooksUpTo s p l from entry told q → outcome m done ≡ look_met product entry (pend_of told) (looking entry l) → LooksFurther s p l q m
 looked_from {s} {p} {q} {l} {m} {from} {entry} {told} {done} is up line =
     subst (λ (a : Activity). LooksFurther s p (record l { activity = a }) q m) (sym is)
     (looked_on up.on (meets_entry l entry up.on.follows up.makes m done line))
 
 -- after the last entry, at which nothing is announced, the list is gone along
-pub last_line : (l : Local) (i told : ℕ) → is_idle (pend_of told) ≡ true → product.seats ≤ i + 1 → outcome (record l { activity = ListFrom }) Moved ≡ look_met product i (pend_of told) (looking i l)
+pub last_line : (l : Local) (i told : ℕ) → is_idle (pend_of told) ≡ true → product.seats ≤ i + 1 → outcome (record l { activity = Activity.Read Read.Link }) Moved ≡ look_met product i (pend_of told) (looking i l)
 last_line l i told idle last =
     let over : nat_lt (i + 1) product.seats ≡ false = grind (arith, nat_tests) in
-    ap (λ (b : Bool). let o : Outcome = if b then to (Look (i + 1)) (looking i l) else to ListFrom (looking i l) in o) (sym over)
+    ap (λ (b : Bool). let o : Outcome = if b then to (Activity.Look (Look.Entry (i + 1))) (looking i l) else to (Activity.Read Read.Link) (looking i l) in o) (sym over)
     ∙ ap (λ (e : Option Pend). look_met product i e (looking i l)) (sym (idle_is (pend_of told) idle))

@@ -10,7 +10,8 @@ use Rattle.kw_cells.specs.InOrder.{AreInOrder, stands_before, with_cell}
 use Rattle.kw_cells.proofs.FirstFit.{first_is_best}
 use Rattle.kw_cells.proofs.InOrder.{before_apart, in_order_head, length-with_cell, with_cell-all, with_cell-in_order}
 use Rattle.kw_model.specs.declared.call.Call.TheVariants.{Get}
-use Rattle.kw_world.specs.declared.activity.Activity.TheVariants.{ListFrom, ListKey, ListVer, ListVal, Leave}
+use Rattle.kw_world.specs.declared.activity.Activity.TheVariants as Activity
+use Rattle.kw_world.specs.declared.activity.read.Read.TheVariants as Read
 use Rattle.kw_world.specs.declared.limits.TheConstants.{NEWEST}
 use Rattle.kw_world.specs.declared.local.Local.{Local}
 use Rattle.kw_world.specs.Answers.{answer_found}
@@ -75,48 +76,48 @@ newest_shows key (c ∷ cells) newest copies is =
 
 -- the local of a get that has gathered these cells
 abbrev pub reading : Way → List Cell → Local
-reading w cells = record (on_way ListFrom w) { gathered = cells }
+reading w cells = record (on_way (Activity.Read Read.Link) w) { gathered = cells }
 
 -- what stays while a get goes along the list
 pub record KeepsNewest (s : Shared) (o : Pass) (way : Way) (p : Pass) (w : Cursor) (newest : Option Cell) : Type 0 where
   pub cells : List Cell
-  pub gets : Reaches s o p (with_cursor ListFrom w (reading way cells))
+  pub gets : Reaches s o p (with_cursor (Activity.Read Read.Link) w (reading way cells))
   pub keeps : IsNewest way.key cells newest
   pub few : length cells ≤ w.walked
 
 -- a get begins at the first link
-pub newest_begins : {s : Shared} {p : Pass} (way : Way) (w : Cursor) → w ≡ first_of way.row → Follows s p (on_way ListFrom way) → KeepsNewest s p way p w None
+pub newest_begins : {s : Shared} {p : Pass} (way : Way) (w : Cursor) → w ≡ first_of way.row → Follows s p (on_way (Activity.Read Read.Link) way) → KeepsNewest s p way p w None
 newest_begins {s} {p} way w is f = record {
   cells = [];
-  gets = reaches_none (subst (λ (x : Cursor). Follows s p (with_cursor ListFrom x (reading way []))) (sym is) f);
+  gets = reaches_none (subst (λ (x : Cursor). Follows s p (with_cursor (Activity.Read Read.Link) x (reading way []))) (sym is) f);
   keeps = record { in_order = λ i j d u v. absurd (omega arith); of_key = λ k d u. absurd (omega arith); first = refl };
   few = omega arith;
 }
 
-module _ {s : Shared} {o p q : Pass} {way : Way} {w : Cursor} {newest : Option Cell} {link : ℕ} (before : KeepsNewest s o way p w newest) (first : (l : Local) → Follows s p (with_cursor ListFrom w l) → ReadsWord s p (with_cursor ListFrom w l) link q) where
+module _ {s : Shared} {o p q : Pass} {way : Way} {w : Cursor} {newest : Option Cell} {link : ℕ} (before : KeepsNewest s o way p w newest) (first : (l : Local) → Follows s p (with_cursor (Activity.Read Read.Link) w l) → ReadsWord s p (with_cursor (Activity.Read Read.Link) w l) link q) where
   abbrev l : Local
   l = reading way before.cells
 
-  f : Follows s p (with_cursor ListFrom w l)
+  f : Follows s p (with_cursor (Activity.Read Read.Link) w l)
   f = before.gets.follows
 
   -- what a reading adds
-  further : {r : Pass} {m : Local} → ReadsOn s p (with_cursor ListFrom w l) r m → Reaches s o r m
+  further : {r : Pass} {m : Local} → ReadsOn s p (with_cursor (Activity.Read Read.Link) w l) r m → Reaches s o r m
   further on = reaches_trans before.gets (record { goes = on.goes; follows = on.follows; calls = on.calls })
 
   -- it has found what the newest cell shows
-  found_by : {r : Pass} {m : Local} (value : Option ℕ) → value ≡ value_in newest → m.activity ≡ Leave (answer_found (shown_at before.cells NEWEST way.key)) → ReadsOn s p (with_cursor ListFrom w l) r m → HasFound s o r value
+  found_by : {r : Pass} {m : Local} (value : Option ℕ) → value ≡ value_in newest → m.activity ≡ Activity.Leave (answer_found (shown_at before.cells NEWEST way.key)) → ReadsOn s p (with_cursor (Activity.Read Read.Link) w l) r m → HasFound s o r value
   found_by {r} {m} value is leaves on = record {
     local = m;
     gets = further on;
-    leaves = leaves ∙ ap (λ (x : Option ℕ). Leave (answer_found x)) (sym (is ∙ newest_shows way.key before.cells newest (follows_ranges s p _ f).copies before.keeps));
+    leaves = leaves ∙ ap (λ (x : Option ℕ). Activity.Leave (answer_found x)) (sym (is ∙ newest_shows way.key before.cells newest (follows_ranges s p _ f).copies before.keeps));
   }
 
   -- the list is at its end
   pub newest_ends : (value : Option ℕ) → value ≡ value_in newest → cell_of_link_word link ≡ None → HasFound s o q value
   newest_ends value is none =
-      let k : Local = with_cursor ListFrom w l in
-      found_by value is refl (link_ended l w k (record (without_rows k) { activity = Leave (answer_found (shown_at before.cells NEWEST way.key)) }) refl none (record { carries = λ begun added. refl; number = refl; pairs = refl }) f (first l f))
+      let k : Local = with_cursor (Activity.Read Read.Link) w l in
+      found_by value is refl (link_ended l w k (record (without_rows k) { activity = Activity.Leave (answer_found (shown_at before.cells NEWEST way.key)) }) refl none (record { carries = λ begun added. refl; number = refl; pairs = refl }) f (first l f))
 
   -- a link leads to a cell
   module _ (x : Cursor) (cell : ℕ) (is : x ≡ reached cell w) (leads : cell_of_link_word link ≡ Some cell) where
@@ -124,13 +125,13 @@ module _ {s : Shared} {o p q : Pass} {way : Way} {w : Cursor} {newest : Option C
     pub newest_counts : w.walked < CELLS
     newest_counts = cell_counts l w cell leads (first l f)
 
-    pub newest_led : Follows s q (with_cursor ListKey x l)
+    pub newest_led : Follows s q (with_cursor (Activity.Read Read.Key) x l)
     newest_led = (link_led l w x l cell is refl leads f (first l f)).follows
 
-    module _ {r : Pass} {word : ℕ} (key : ℕ) (keyed : key ≡ key_of_word word) (second : (m : Local) → Follows s q (with_cursor ListKey x m) → ReadsWord s q (with_cursor ListKey x m) word r) where
+    module _ {r : Pass} {word : ℕ} (key : ℕ) (keyed : key ≡ key_of_word word) (second : (m : Local) → Follows s q (with_cursor (Activity.Read Read.Key) x m) → ReadsWord s q (with_cursor (Activity.Read Read.Key) x m) word r) where
       -- its key is below the own: it is passed
       module _ (y : Cursor) (passes : y ≡ past x) (below : key < way.key) where
-        passing : ReadsOn s p (with_cursor ListFrom w l) r (with_cursor ListFrom y l)
+        passing : ReadsOn s p (with_cursor (Activity.Read Read.Link) w l) r (with_cursor (Activity.Read Read.Link) y l)
         passing = cell_passed l l w x cell is refl leads f (first l) (second l) y key way.key (Some (Get way.key)) passes keyed refl refl below
 
         pub newest_passes : KeepsNewest s o way r y newest
@@ -139,33 +140,33 @@ module _ {s : Shared} {o p q : Pass} {way : Way} {w : Cursor} {newest : Option C
             let few = before.few in
             record { cells = before.cells; gets = further passing; keeps = before.keeps; few = omega (arith, on, few, newest_counts) }
 
-        pub newest_passes_fewer : reads_ahead (with_cursor ListFrom y (reading way [])) < reads_ahead (with_cursor ListFrom w (reading way []))
+        pub newest_passes_fewer : reads_ahead (with_cursor (Activity.Read Read.Link) y (reading way [])) < reads_ahead (with_cursor (Activity.Read Read.Link) w (reading way []))
         newest_passes_fewer = passing.fewer
 
       -- it is above it: the walk is over
       pub newest_above : (value : Option ℕ) → value ≡ value_in newest → way.key < key → HasFound s o r value
       newest_above value shows above =
-          let k : Local = with_cursor ListKey x l in
+          let k : Local = with_cursor (Activity.Read Read.Key) x l in
           let within : way.key ≤ key = omega (arith, above) in
           found_by value shows refl
-          (cell_above l l w x cell is refl leads f (first l) (second l) k (record (without_rows k) { activity = Leave (answer_found (shown_at before.cells NEWEST way.key)) }) key way.key way.key (Some (Get way.key)) refl keyed refl refl refl within above (record { carries = λ begun added. refl; number = refl; pairs = refl }))
+          (cell_above l l w x cell is refl leads f (first l) (second l) k (record (without_rows k) { activity = Activity.Leave (answer_found (shown_at before.cells NEWEST way.key)) }) key way.key way.key (Some (Get way.key)) refl keyed refl refl refl within above (record { carries = λ begun added. refl; number = refl; pairs = refl }))
 
       -- it is the own key
       module _ (y : Cursor) (ranged : y ≡ record x { key = key }) (from : way.key ≤ key) (upto : key ≤ way.key) where
-        within : ReadsOn s p (with_cursor ListFrom w l) r (with_cursor ListVer y l)
+        within : ReadsOn s p (with_cursor (Activity.Read Read.Link) w l) r (with_cursor (Activity.Read Read.Version) y l)
         within = cell_within l l w x cell is refl leads f (first l) (second l) y key way.key way.key (Some (Get way.key)) ranged keyed refl refl refl from upto
 
-        pub newest_ranged : Follows s r (with_cursor ListVer y l)
+        pub newest_ranged : Follows s r (with_cursor (Activity.Read Read.Version) y l)
         newest_ranged = within.follows
 
-        module _ {t : Pass} {version : ℕ} (z : Cursor) (versioned : z ≡ record y { version = unwrap_or (version_of_word version) 1 }) (third : (m : Local) → Follows s r (with_cursor ListVer y m) → ReadsWord s r (with_cursor ListVer y m) version t) where
-          told : ReadsOn s r (with_cursor ListVer y l) t (with_cursor ListVal z l)
+        module _ {t : Pass} {version : ℕ} (z : Cursor) (versioned : z ≡ record y { version = unwrap_or (version_of_word version) 1 }) (third : (m : Local) → Follows s r (with_cursor (Activity.Read Read.Version) y m) → ReadsWord s r (with_cursor (Activity.Read Read.Version) y m) version t) where
+          told : ReadsOn s r (with_cursor (Activity.Read Read.Version) y l) t (with_cursor (Activity.Read Read.Value) z l)
           told = version_told l y z versioned within.follows (third l within.follows)
 
-          pub newest_versioned : Follows s t (with_cursor ListVal z l)
+          pub newest_versioned : Follows s t (with_cursor (Activity.Read Read.Value) z l)
           newest_versioned = told.follows
 
-          module _ {u : Pass} {value : ℕ} (last : Cursor) (cell_read : Cell) (passes : last ≡ past z) (read : cell_read ≡ cell_at z (value_of_word value)) (fourth : (m : Local) → Follows s t (with_cursor ListVal z m) → ReadsWord s t (with_cursor ListVal z m) value u) where
+          module _ {u : Pass} {value : ℕ} (last : Cursor) (cell_read : Cell) (passes : last ≡ past z) (read : cell_read ≡ cell_at z (value_of_word value)) (fourth : (m : Local) → Follows s t (with_cursor (Activity.Read Read.Value) z m) → ReadsWord s t (with_cursor (Activity.Read Read.Value) z m) value u) where
             few : length before.cells < CELLS
             few = let old = before.few in omega (arith, old, newest_counts)
 
@@ -176,7 +177,7 @@ module _ {s : Shared} {o p q : Pass} {way : Way} {w : Cursor} {newest : Option C
                 ap (λ (c : Cell). reading way (with_cell c before.cells)) read
                 ∙ ap (λ (b : Bool). reading way (if b then with_cell (cell_at z (value_of_word value)) before.cells else before.cells)) (sym room)
 
-            gathering : ReadsOn s p (with_cursor ListFrom w l) u (with_cursor ListFrom last (reading way (with_cell cell_read before.cells)))
+            gathering : ReadsOn s p (with_cursor (Activity.Read Read.Link) w l) u (with_cursor (Activity.Read Read.Link) last (reading way (with_cell cell_read before.cells)))
             gathering =
                 reads_trans s p t u _ _ _ refl (reads_trans s p r t _ _ _ refl within told)
                 (value_told l z last (reading way (with_cell cell_read before.cells)) passes gathered told.follows (fourth l told.follows))
@@ -197,5 +198,5 @@ module _ {s : Shared} {o p q : Pass} {way : Way} {w : Cursor} {newest : Option C
                   few = omega (arith, on, more, old, newest_counts);
                 }
 
-            pub newest_gathers_fewer : reads_ahead (with_cursor ListFrom last (reading way [])) < reads_ahead (with_cursor ListFrom w (reading way []))
+            pub newest_gathers_fewer : reads_ahead (with_cursor (Activity.Read Read.Link) last (reading way [])) < reads_ahead (with_cursor (Activity.Read Read.Link) w (reading way []))
             newest_gathers_fewer = gathering.fewer

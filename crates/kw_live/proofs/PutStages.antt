@@ -13,7 +13,20 @@ use Rattle.kw_words.proofs.PendWords.{pend_word_of}
 use Rattle.kw_world.specs.declared.answer.Answer.{Answer}
 use Rattle.kw_world.specs.declared.answer.Answer.TheVariants.{Done}
 use Rattle.kw_world.specs.declared.activity.Activity.{Activity}
-use Rattle.kw_world.specs.declared.activity.Activity.TheVariants.{PutCount, PutAdd, PutKey, PutValue, Announce, PutClock, Stamp, PutVersion, InsFrom, InsKey, InsVer, InsSet, Insert, PutClear, Leave, BalClock}
+use Rattle.kw_world.specs.declared.activity.rebalance.engage.Engage.TheVariants as Engage
+use Rattle.kw_world.specs.declared.activity.insert.Insert.TheVariants as Insert
+use Rattle.kw_world.specs.declared.activity.put.Put.TheVariants as Put
+use Rattle.kw_world.specs.declared.activity.rebalance.Rebalance.TheVariants as Rebalance
+use Rattle.kw_world.specs.declared.activity.draw.Draw.TheVariants as Draw
+use Rattle.kw_world.specs.declared.activity.enter.Enter.TheVariants as Enter
+use Rattle.kw_world.specs.declared.activity.rebalance.freeze.Freeze.TheVariants as Freeze
+use Rattle.kw_world.specs.declared.activity.rebalance.gather.Gather.TheVariants as Gather
+use Rattle.kw_world.specs.declared.activity.look.Look.TheVariants as Look
+use Rattle.kw_world.specs.declared.activity.read.Read.TheVariants as Read
+use Rattle.kw_world.specs.declared.activity.rebalance.replace.Replace.TheVariants as Replace
+use Rattle.kw_world.specs.declared.activity.rebalance.seek.Seek.TheVariants as Seek
+use Rattle.kw_world.specs.declared.activity.walk.Walk.TheVariants as Walk
+use Rattle.kw_world.specs.declared.activity.rebalance.write.Write.TheVariants as Write
 use Rattle.kw_world.specs.declared.event.Choice.TheVariants.{Go}
 use Rattle.kw_world.specs.declared.event.StepDone.TheVariants.{Moved}
 use Rattle.kw_world.specs.declared.local.Local.{Local}
@@ -50,8 +63,8 @@ use Rattle.kw_follow.proofs.Fronts.{met_laws, met_local, met_told, met_row_below
 -- what it has found where it stands: that its row is full, if it is about to rebalance it. Else it
 -- is done, or still at its row
 abbrev pub HasFound : Pass → Pass → Activity → Type 0
-HasFound p q (Leave Done) = Unit {0}
-HasFound p q BalClock = MetFull p q
+HasFound p q (Activity.Leave Done) = Unit {0}
+HasFound p q (Activity.Rebalance (Rebalance.Engage Engage.Clock)) = MetFull p q
 HasFound p q a = is_putting a ≡ true
 
 -- What the events of a put find.
@@ -80,16 +93,16 @@ frozen_else told (Some Frozen) f h n = sym (pend_word_of told Frozen f)
 frozen_else told None f h n = absurd h
 
 -- a put that is to announce, and does not find its entry idle, finds it frozen
-announced : (s : Shared) (p q : Pass) (told : ℕ) → GoesTo s p q → (m : Met p q Announce Go told) → told ≢ pend_word Idle → told ≡ pend_word Frozen
+announced : (s : Shared) (p q : Pass) (told : ℕ) → GoesTo s p q → (m : Met p q (Activity.Put Put.Announce) Go told) → told ≢ pend_word Idle → told ≡ pend_word Frozen
 announced s p q told goes m n =
-    let is = met_told p q Announce Go told m _ refl in
-    frozen_else told (pend_of told) refl (subst (λ w. IsIdleOrFrozen (pend_of w)) (sym is) ((met_laws s p q Announce Go told goes m).announces (view p).number (local_at p m.front) (met_local p q Announce Go told m) m.activity)) n
+    let is = met_told p q (Activity.Put Put.Announce) Go told m _ refl in
+    frozen_else told (pend_of told) refl (subst (λ w. IsIdleOrFrozen (pend_of w)) (sym is) ((met_laws s p q (Activity.Put Put.Announce) Go told goes m).announces (view p).number (local_at p m.front) (met_local p q (Activity.Put Put.Announce) Go told m) m.activity)) n
 
 -- a put that is to stamp finds its entry with its own cell, or frozen
-stamped : (s : Shared) (p q : Pass) (told : ℕ) → GoesTo s p q → (m : Met p q Stamp Go told) → HasCellOrFrozen (local_at p m.front).cell (pend_of told)
+stamped : (s : Shared) (p q : Pass) (told : ℕ) → GoesTo s p q → (m : Met p q (Activity.Put Put.Stamp) Go told) → HasCellOrFrozen (local_at p m.front).cell (pend_of told)
 stamped s p q told goes m =
-    let is = met_told p q Stamp Go told m _ refl in
-    subst (λ w. HasCellOrFrozen (local_at p m.front).cell (pend_of w)) (sym is) ((met_laws s p q Stamp Go told goes m).stamps (view p).number (local_at p m.front) (met_local p q Stamp Go told m) m.activity)
+    let is = met_told p q (Activity.Put Put.Stamp) Go told m _ refl in
+    subst (λ w. HasCellOrFrozen (local_at p m.front).cell (pend_of w)) (sym is) ((met_laws s p q (Activity.Put Put.Stamp) Go told goes m).stamps (view p).number (local_at p m.front) (met_local p q (Activity.Put Put.Stamp) Go told m) m.activity)
 
 -- One event.
 
@@ -116,99 +129,106 @@ module _ (s : Shared) (o p q : Pass) (l m : Local) (rows told : ℕ) (was : Goes
 
   -- the row is full by this event
   fills : (a : Activity) (ahead : ℕ) → l.activity ≡ a → TellsFull a told → 0 < ahead → m.activity ≡ (to_rebalance l).local.activity → GoesOn o q m ahead
-  fills a ahead is found more next = goes_on o q m BalClock ahead next (record { activity = a; told = told; met = met_earlier s o p q was (here a is); full = found }) more
+  fills a ahead is found more next = goes_on o q m (Activity.Rebalance (Rebalance.Engage Engage.Clock)) ahead next (record { activity = a; told = told; met = met_earlier s o p q was (here a is); full = found }) more
 
-  asks : (b : Bool) → has_room product (count_of told) ≡ b → l.activity ≡ PutCount → m.activity ≡ (let x : Outcome = if b then to PutAdd l else to_rebalance l in x).local.activity → GoesOn o q m (put_ahead PutCount l.walked l.lost)
-  asks true h is next = goes_on o q m PutAdd _ next refl (omega arith)
-  asks false h is next = fills PutCount _ is (counted s p q PutCount told goes (here PutCount is) (met_told p q PutCount Go told (here PutCount is) _ refl) h) (omega arith) next
+  asks : (b : Bool) → has_room product (count_of told) ≡ b → l.activity ≡ Activity.Put Put.Count → m.activity ≡ (let x : Outcome = if b then to (Activity.Put Put.Add) l else to_rebalance l in x).local.activity → GoesOn o q m (put_ahead (Activity.Put Put.Count) l.walked l.lost)
+  asks true h is next = goes_on o q m (Activity.Put Put.Add) _ next refl (omega arith)
+  asks false h is next = fills (Activity.Put Put.Count) _ is (counted s p q (Activity.Put Put.Count) told goes (here (Activity.Put Put.Count) is) (met_told p q (Activity.Put Put.Count) Go told (here (Activity.Put Put.Count) is) _ refl) h) (omega arith) next
 
-  adds : (b : Bool) → has_room product (count_of told) ≡ b → l.activity ≡ PutAdd → m.activity ≡ (let x : Outcome = if b then to PutKey (record l { cell = given_of (count_of told) }) else to_rebalance l in x).local.activity → GoesOn o q m (put_ahead PutAdd l.walked l.lost)
-  adds true h is next = goes_on o q m PutKey _ next refl (omega arith)
-  adds false h is next = fills PutAdd _ is (counted s p q PutAdd told goes (here PutAdd is) (met_told p q PutAdd Go told (here PutAdd is) _ refl) h) (omega arith) next
+  adds : (b : Bool) → has_room product (count_of told) ≡ b → l.activity ≡ Activity.Put Put.Add → m.activity ≡ (let x : Outcome = if b then to (Activity.Put Put.Key) (record l { cell = given_of (count_of told) }) else to_rebalance l in x).local.activity → GoesOn o q m (put_ahead (Activity.Put Put.Add) l.walked l.lost)
+  adds true h is next = goes_on o q m (Activity.Put Put.Key) _ next refl (omega arith)
+  adds false h is next = fills (Activity.Put Put.Add) _ is (counted s p q (Activity.Put Put.Add) told goes (here (Activity.Put Put.Add) is) (met_told p q (Activity.Put Put.Add) Go told (here (Activity.Put Put.Add) is) _ refl) h) (omega arith) next
 
-  announces : (b : Bool) → (told == pend_word Idle) ≡ b → l.activity ≡ Announce → m.activity ≡ (let x : Outcome = if b then to PutClock l else to_rebalance l in x).local.activity → GoesOn o q m (put_ahead Announce l.walked l.lost)
-  announces true h is next = goes_on o q m PutClock _ next refl (omega arith)
-  announces false h is next = fills Announce _ is (announced s p q told goes (here Announce is) (λ e. true_false (eq-eqb told (pend_word Idle) e) h)) (omega arith) next
+  announces : (b : Bool) → (told == pend_word Idle) ≡ b → l.activity ≡ Activity.Put Put.Announce → m.activity ≡ (let x : Outcome = if b then to (Activity.Put Put.Clock) l else to_rebalance l in x).local.activity → GoesOn o q m (put_ahead (Activity.Put Put.Announce) l.walked l.lost)
+  announces true h is next = goes_on o q m (Activity.Put Put.Clock) _ next refl (omega arith)
+  announces false h is next = fills (Activity.Put Put.Announce) _ is (announced s p q told goes (here (Activity.Put Put.Announce) is) (λ e. true_false (eq-eqb told (pend_word Idle) e) h)) (omega arith) next
 
   -- its own cell is stamped, or the entry was frozen
-  stamps : (e : Option Pend) → pend_of told ≡ e → l.activity ≡ Stamp → HasCellOrFrozen l.cell e → m.activity ≡ (stamp_met e l).local.activity → GoesOn o q m (put_ahead Stamp l.walked l.lost)
+  stamps : (e : Option Pend) → pend_of told ≡ e → l.activity ≡ Activity.Put Put.Stamp → HasCellOrFrozen l.cell e → m.activity ≡ (stamp_met e l).local.activity → GoesOn o q m (put_ahead (Activity.Put Put.Stamp) l.walked l.lost)
   stamps (Some Idle) f is own next = absurd own
-  stamps (Some (Pending cell)) f is own next = goes_on o q m PutVersion _ (next ∙ rw (eq-eqb cell l.cell own) refl) refl (omega arith)
-  stamps (Some (Stamped cell version)) f is own next = goes_on o q m PutVersion _ (next ∙ rw (eq-eqb cell l.cell own) refl) refl (omega arith)
-  stamps (Some Frozen) f is own next = fills Stamp _ is (sym (pend_word_of told Frozen f)) (omega arith) next
+  stamps (Some (Pending cell)) f is own next = goes_on o q m (Activity.Put Put.Version) _ (next ∙ rw (eq-eqb cell l.cell own) refl) refl (omega arith)
+  stamps (Some (Stamped cell version)) f is own next = goes_on o q m (Activity.Put Put.Version) _ (next ∙ rw (eq-eqb cell l.cell own) refl) refl (omega arith)
+  stamps (Some Frozen) f is own next = fills (Activity.Put Put.Stamp) _ is (sym (pend_word_of told Frozen f)) (omega arith) next
   stamps None f is own next = absurd own
 
   -- on its walk the put has met fewer cells than there are, and has lost fewer exchanges
-  has_walked : l.activity ≡ InsFrom → l.walked < CELLS
+  has_walked : l.activity ≡ Activity.Insert Insert.Link → l.walked < CELLS
   unfolding here
   has_walked is =
-      let x = here InsFrom is in
-      let laws = met_laws s p q InsFrom Go told goes x in
-      subst (λ n. n < CELLS) (ap (λ (k : Local). k.walked) met.knew) (laws.walked (view p).number (local_at p x.front) (met_local p q InsFrom Go told x) x.activity)
+      let x = here (Activity.Insert Insert.Link) is in
+      let laws = met_laws s p q (Activity.Insert Insert.Link) Go told goes x in
+      subst (λ n. n < CELLS) (ap (λ (k : Local). k.walked) met.knew) (laws.walked (view p).number (local_at p x.front) (met_local p q (Activity.Insert Insert.Link) Go told x) x.activity)
 
-  has_lost : l.activity ≡ Insert → l.lost < CELLS
+  has_lost : l.activity ≡ Activity.Insert Insert.Exchange → l.lost < CELLS
   unfolding here
   has_lost is =
-      let x = here Insert is in
-      let laws = met_laws s p q Insert Go told goes x in
-      subst (λ n. n < CELLS) (ap (λ (k : Local). k.lost) met.knew) (laws.lost (view p).number (local_at p x.front) (met_local p q Insert Go told x) (subst IsInserting (sym x.activity) tt))
+      let x = here (Activity.Insert Insert.Exchange) is in
+      let laws = met_laws s p q (Activity.Insert Insert.Exchange) Go told goes x in
+      subst (λ n. n < CELLS) (ap (λ (k : Local). k.lost) met.knew) (laws.lost (view p).number (local_at p x.front) (met_local p q (Activity.Insert Insert.Exchange) Go told x) (subst IsInserting (sym x.activity) tt))
 
   -- the link leads to a cell, or to none
-  from_link : (x : Option ℕ) → l.activity ≡ InsFrom → m ≡ (insert_from product x l).local → GoesOn o q m (put_ahead InsFrom l.walked l.lost)
-  from_link (Some c) is e = goes_on o q m InsKey _ (ap (λ (x : Local). x.activity) e) refl (omega (arith, has_walked is, ap (λ (x : Local). x.walked) e, ap (λ (x : Local). x.lost) e))
-  from_link None is e = goes_on o q m InsSet _ (ap (λ (x : Local). x.activity) e) refl (omega (arith, ap (λ (x : Local). x.lost) e))
+  from_link : (x : Option ℕ) → l.activity ≡ Activity.Insert Insert.Link → m ≡ (insert_from product x l).local → GoesOn o q m (put_ahead (Activity.Insert Insert.Link) l.walked l.lost)
+  from_link (Some c) is e = goes_on o q m (Activity.Insert Insert.Key) _ (ap (λ (x : Local). x.activity) e) refl (omega (arith, has_walked is, ap (λ (x : Local). x.walked) e, ap (λ (x : Local). x.lost) e))
+  from_link None is e = goes_on o q m (Activity.Insert Insert.Set) _ (ap (λ (x : Local). x.activity) e) refl (omega (arith, ap (λ (x : Local). x.lost) e))
 
   -- the cell is passed, or not
-  from_key : (b c : Bool) → m ≡ (let x : Outcome = if b then insert_past l else if c then to InsVer l else to InsSet l in x).local → GoesOn o q m (put_ahead InsKey l.walked l.lost)
-  from_key true c e = goes_on o q m InsFrom _ (ap (λ (x : Local). x.activity) e) refl (omega (arith, ap (λ (x : Local). x.walked) e, ap (λ (x : Local). x.lost) e))
-  from_key false true e = goes_on o q m InsVer _ (ap (λ (x : Local). x.activity) e) refl (omega (arith, ap (λ (x : Local). x.walked) e, ap (λ (x : Local). x.lost) e))
-  from_key false false e = goes_on o q m InsSet _ (ap (λ (x : Local). x.activity) e) refl (omega (arith, ap (λ (x : Local). x.lost) e))
+  from_key : (b c : Bool) → m ≡ (let x : Outcome = if b then insert_past l else if c then to (Activity.Insert Insert.Version) l else to (Activity.Insert Insert.Set) l in x).local → GoesOn o q m (put_ahead (Activity.Insert Insert.Key) l.walked l.lost)
+  from_key true c e = goes_on o q m (Activity.Insert Insert.Link) _ (ap (λ (x : Local). x.activity) e) refl (omega (arith, ap (λ (x : Local). x.walked) e, ap (λ (x : Local). x.lost) e))
+  from_key false true e = goes_on o q m (Activity.Insert Insert.Version) _ (ap (λ (x : Local). x.activity) e) refl (omega (arith, ap (λ (x : Local). x.walked) e, ap (λ (x : Local). x.lost) e))
+  from_key false false e = goes_on o q m (Activity.Insert Insert.Set) _ (ap (λ (x : Local). x.activity) e) refl (omega (arith, ap (λ (x : Local). x.lost) e))
 
-  from_version : (b : Bool) → m ≡ (let x : Outcome = if b then insert_past l else to InsSet l in x).local → GoesOn o q m (put_ahead InsVer l.walked l.lost)
-  from_version true e = goes_on o q m InsFrom _ (ap (λ (x : Local). x.activity) e) refl (omega (arith, ap (λ (x : Local). x.walked) e, ap (λ (x : Local). x.lost) e))
-  from_version false e = goes_on o q m InsSet _ (ap (λ (x : Local). x.activity) e) refl (omega (arith, ap (λ (x : Local). x.lost) e))
+  from_version : (b : Bool) → m ≡ (let x : Outcome = if b then insert_past l else to (Activity.Insert Insert.Set) l in x).local → GoesOn o q m (put_ahead (Activity.Insert Insert.Version) l.walked l.lost)
+  from_version true e = goes_on o q m (Activity.Insert Insert.Link) _ (ap (λ (x : Local). x.activity) e) refl (omega (arith, ap (λ (x : Local). x.walked) e, ap (λ (x : Local). x.lost) e))
+  from_version false e = goes_on o q m (Activity.Insert Insert.Set) _ (ap (λ (x : Local). x.activity) e) refl (omega (arith, ap (λ (x : Local). x.lost) e))
 
   -- the exchange is made, or lost
-  from_exchange : (b : Bool) → l.activity ≡ Insert → m ≡ (insert_tried product b l).local → GoesOn o q m (put_ahead Insert l.walked l.lost)
-  from_exchange true is e = goes_on o q m PutClear _ (ap (λ (x : Local). x.activity) e) refl (omega arith)
-  from_exchange false is e = goes_on o q m InsFrom _ (ap (λ (x : Local). x.activity) e) refl (omega (arith, has_lost is, ap (λ (x : Local). x.walked) e, ap (λ (x : Local). x.lost) e))
+  from_exchange : (b : Bool) → l.activity ≡ Activity.Insert Insert.Exchange → m ≡ (insert_tried product b l).local → GoesOn o q m (put_ahead (Activity.Insert Insert.Exchange) l.walked l.lost)
+  from_exchange true is e = goes_on o q m (Activity.Put Put.Clear) _ (ap (λ (x : Local). x.activity) e) refl (omega arith)
+  from_exchange false is e = goes_on o q m (Activity.Insert Insert.Link) _ (ap (λ (x : Local). x.activity) e) refl (omega (arith, has_lost is, ap (λ (x : Local). x.walked) e, ap (λ (x : Local). x.lost) e))
 
   -- an event of a put takes it on
   event : (a : Activity) → l.activity ≡ a → is_putting a ≡ true → GoesOn o q m (put_ahead a l.walked l.lost)
   unfolding here
-  event PutCount is put = asks (has_room product (count_of told)) refl is (next_is rows PutCount l m told is line)
-  event PutAdd is put = adds (has_room product (count_of told)) refl is (next_is rows PutAdd l m told is line)
-  event PutKey is put = goes_on o q m PutValue _ (next_is rows PutKey l m told is line) refl (omega arith)
-  event PutValue is put = goes_on o q m Announce _ (next_is rows PutValue l m told is line) refl (omega arith)
-  event Announce is put = announces (told == pend_word Idle) refl is (next_is rows Announce l m told is line)
-  event PutClock is put = goes_on o q m Stamp _ (next_is rows PutClock l m told is line) refl (omega arith)
-  event Stamp is put = stamps (pend_of told) refl is (subst (λ n. HasCellOrFrozen n (pend_of told)) (ap (λ (k : Local). k.cell) met.knew) (stamped s p q told goes (here Stamp is))) (next_is rows Stamp l m told is line)
-  event PutVersion is put = goes_on o q m InsFrom _ (next_is rows PutVersion l m told is line) refl
-      (omega (arith, ap (λ (x : Local). x.walked) (local_is rows PutVersion l m told is line), ap (λ (x : Local). x.lost) (local_is rows PutVersion l m told is line)))
-  event InsFrom is put = from_link (cell_of_link_word told) is (local_is rows InsFrom l m told is line)
-  event InsKey is put = from_key (nat_lt (key_of_word told) (first_key l.call)) (key_of_word told == first_key l.call) (local_is rows InsKey l m told is line)
-  event InsVer is put = from_version (is_newer (unwrap_or (version_of_word told) 0) l.place l) (local_is rows InsVer l m told is line)
-  event InsSet is put = goes_on o q m Insert _ (next_is rows InsSet l m told is line) refl (omega (arith, ap (λ (x : Local). x.lost) (local_is rows InsSet l m told is line)))
-  event Insert is put = from_exchange (told == cell_link_word l.held) is (local_is rows Insert l m told is line)
-  event PutClear is put = goes_on o q m (Leave Done) _ (next_is rows PutClear l m told is line) tt (omega arith)
+  event (Activity.Put Put.Count) is put = asks (has_room product (count_of told)) refl is (next_is rows (Activity.Put Put.Count) l m told is line)
+  event (Activity.Put Put.Add) is put = adds (has_room product (count_of told)) refl is (next_is rows (Activity.Put Put.Add) l m told is line)
+  event (Activity.Put Put.Key) is put = goes_on o q m (Activity.Put Put.Value) _ (next_is rows (Activity.Put Put.Key) l m told is line) refl (omega arith)
+  event (Activity.Put Put.Value) is put = goes_on o q m (Activity.Put Put.Announce) _ (next_is rows (Activity.Put Put.Value) l m told is line) refl (omega arith)
+  event (Activity.Put Put.Announce) is put = announces (told == pend_word Idle) refl is (next_is rows (Activity.Put Put.Announce) l m told is line)
+  event (Activity.Put Put.Clock) is put = goes_on o q m (Activity.Put Put.Stamp) _ (next_is rows (Activity.Put Put.Clock) l m told is line) refl (omega arith)
+  event (Activity.Put Put.Stamp) is put = stamps (pend_of told) refl is (subst (λ n. HasCellOrFrozen n (pend_of told)) (ap (λ (k : Local). k.cell) met.knew) (stamped s p q told goes (here (Activity.Put Put.Stamp) is))) (next_is rows (Activity.Put Put.Stamp) l m told is line)
+  event (Activity.Put Put.Version) is put = goes_on o q m (Activity.Insert Insert.Link) _ (next_is rows (Activity.Put Put.Version) l m told is line) refl
+      (omega (arith, ap (λ (x : Local). x.walked) (local_is rows (Activity.Put Put.Version) l m told is line), ap (λ (x : Local). x.lost) (local_is rows (Activity.Put Put.Version) l m told is line)))
+  event (Activity.Insert Insert.Link) is put = from_link (cell_of_link_word told) is (local_is rows (Activity.Insert Insert.Link) l m told is line)
+  event (Activity.Insert Insert.Key) is put = from_key (nat_lt (key_of_word told) (first_key l.call)) (key_of_word told == first_key l.call) (local_is rows (Activity.Insert Insert.Key) l m told is line)
+  event (Activity.Insert Insert.Version) is put = from_version (is_newer (unwrap_or (version_of_word told) 0) l.place l) (local_is rows (Activity.Insert Insert.Version) l m told is line)
+  event (Activity.Insert Insert.Set) is put = goes_on o q m (Activity.Insert Insert.Exchange) _ (next_is rows (Activity.Insert Insert.Set) l m told is line) refl (omega (arith, ap (λ (x : Local). x.lost) (local_is rows (Activity.Insert Insert.Set) l m told is line)))
+  event (Activity.Insert Insert.Exchange) is put = from_exchange (told == cell_link_word l.held) is (local_is rows (Activity.Insert Insert.Exchange) l m told is line)
+  event (Activity.Put Put.Clear) is put = goes_on o q m (Activity.Leave Done) _ (next_is rows (Activity.Put Put.Clear) l m told is line) tt (omega arith)
   event _ is put = true_false put refl
 
   -- nor does the put tidy by it
   work : (a : Activity) → is_putting a ≡ true → ((transition product a 0 Go l).next rows told).local.tidies ≡ l.tidies
-  work PutCount put = keeps product PutCount 0 Go l rows told tt
-  work PutAdd put = keeps product PutAdd 0 Go l rows told tt
-  work PutKey put = refl
-  work PutValue put = refl
-  work Announce put = keeps product Announce 0 Go l rows told tt
-  work PutClock put = refl
-  work Stamp put = keeps product Stamp 0 Go l rows told tt
-  work PutVersion put = refl
-  work InsFrom put = keeps product InsFrom 0 Go l rows told tt
-  work InsKey put = keeps product InsKey 0 Go l rows told tt
-  work InsVer put = keeps product InsVer 0 Go l rows told tt
-  work InsSet put = refl
-  work Insert put = keeps product Insert 0 Go l rows told tt
-  work PutClear put = refl
+  work (Activity.Put Put.Count) put = keeps product (Activity.Put Put.Count) 0 Go l rows told tt
+  work (Activity.Put Put.Add) put = keeps product (Activity.Put Put.Add) 0 Go l rows told tt
+  work (Activity.Put Put.Announce) put = keeps product (Activity.Put Put.Announce) 0 Go l rows told tt
+  work (Activity.Put Put.Stamp) put = keeps product (Activity.Put Put.Stamp) 0 Go l rows told tt
+  work (Activity.Insert Insert.Link) put = keeps product (Activity.Insert Insert.Link) 0 Go l rows told tt
+  work (Activity.Insert Insert.Key) put = keeps product (Activity.Insert Insert.Key) 0 Go l rows told tt
+  work (Activity.Insert Insert.Version) put = keeps product (Activity.Insert Insert.Version) 0 Go l rows told tt
+  work (Activity.Insert Insert.Set) put = refl
+  work (Activity.Insert Insert.Exchange) put = keeps product (Activity.Insert Insert.Exchange) 0 Go l rows told tt
+  work (Activity.Put _) put = refl
+  work (Activity.Enter Enter.Announce) put = true_false put refl
+  work (Activity.Draw Draw.Clock) put = true_false put refl
+  work (Activity.Walk Walk.First) put = true_false put refl
+  work (Activity.Look Look.Key) put = true_false put refl
+  work (Activity.Read Read.Link) put = true_false put refl
+  work (Activity.Rebalance (Rebalance.Engage Engage.Clock)) put = true_false put refl
+  work (Activity.Rebalance (Rebalance.Freeze Freeze.Count)) put = true_false put refl
+  work (Activity.Rebalance (Rebalance.Gather Gather.Link)) put = true_false put refl
+  work (Activity.Rebalance (Rebalance.Seek Seek.Next)) put = true_false put refl
+  work (Activity.Rebalance (Rebalance.Write Write.Count)) put = true_false put refl
+  work (Activity.Rebalance (Rebalance.Replace Replace.First)) put = true_false put refl
   work _ put = true_false put refl
 
   pub put_tidies : is_putting l.activity ≡ true → m.tidies ≡ l.tidies
@@ -221,14 +241,14 @@ module _ (s : Shared) (o p q : Pass) (l m : Local) (rows told : ℕ) (was : Goes
 -- Where a put stands that has ended at its row.
 
 -- one that leaves is done
-pub leaves_done : (p q : Pass) (x : Answer) → HasFound p q (Leave x) → x ≡ Done
+pub leaves_done : (p q : Pass) (x : Answer) → HasFound p q (Activity.Leave x) → x ≡ Done
 leaves_done p q Done h = refl
 leaves_done p q _ h = true_false h refl
 
 -- one that does not is about to rebalance its row, and has found it full
-pub stands_full : (p q : Pass) (a : Activity) → HasFound p q a → is_putting a ≡ false → ((x : Answer) → a ≡ Leave x → ⊥) → (a ≡ BalClock) × MetFull p q
-stands_full p q (Leave x) h over stays = absurd (stays x refl)
-stands_full p q BalClock h over stays = (refl, h)
+pub stands_full : (p q : Pass) (a : Activity) → HasFound p q a → is_putting a ≡ false → ((x : Answer) → a ≡ Activity.Leave x → ⊥) → (a ≡ Activity.Rebalance (Rebalance.Engage Engage.Clock)) × MetFull p q
+stands_full p q (Activity.Leave x) h over stays = absurd (stays x refl)
+stands_full p q (Activity.Rebalance (Rebalance.Engage Engage.Clock)) h over stays = (refl, h)
 stands_full p q _ h over stays = true_false h over
 
 -- What stays through all events of a put.
@@ -241,7 +261,7 @@ pub record IsTrying (s : Shared) (o p : Pass) (l : Local) : Type 0 where
   pub untidied : l.tidies ≡ false
 
 -- a put that has come to its row has found nothing yet
-pub tries_first : (s : Shared) (p : Pass) (l : Local) → Follows s p l → l.activity ≡ PutCount → IsTrying s p p l
+pub tries_first : (s : Shared) (p : Pass) (l : Local) → Follows s p l → l.activity ≡ Activity.Put Put.Count → IsTrying s p p l
 tries_first s p l f is = record {
   goes = (reaches_none f).goes;
   follows = f;
@@ -271,11 +291,7 @@ tries_on s o p q l m rows told t put goes follows calls held met line =
 
 -- a put that inserts its cell has found nothing yet by which its row is full
 inserting_found : (o q : Pass) (a : Activity) → IsInserting a → HasFound o q a
-inserting_found o q InsFrom i = refl
-inserting_found o q InsKey i = refl
-inserting_found o q InsVer i = refl
-inserting_found o q InsSet i = refl
-inserting_found o q Insert i = refl
+inserting_found o q (Activity.Insert _) i = refl
 inserting_found o q _ i = absurd i
 
 -- and neither rebalances nor is done
@@ -283,16 +299,12 @@ inserting_on : (a : Activity) → IsInserting a → IsBalancing a ⊎ IsDone a �
 inserting_on a i (inl b) = inserting_works a i b
   where
     inserting_works : (a : Activity) → IsInserting a → IsBalancing a → ⊥
-    inserting_works InsFrom i b = b
-    inserting_works InsKey i b = b
-    inserting_works InsVer i b = b
-    inserting_works InsSet i b = b
-    inserting_works Insert i b = b
+    inserting_works (Activity.Insert _) i b = b
     inserting_works _ i b = i
 inserting_on a i (inr d) = inserting_stays a i d
   where
     inserting_stays : (a : Activity) → IsInserting a → IsDone a → ⊥
-    inserting_stays (Leave x) i d = i
+    inserting_stays (Activity.Leave x) i d = i
     inserting_stays _ i d = d
 
 -- so is it after the events of a walk along the list

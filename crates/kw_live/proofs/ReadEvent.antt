@@ -8,7 +8,8 @@ use Rattle.kw_model.specs.declared.call.Call.TheVariants.{Put, Del, Get, Scan}
 use Rattle.kw_words.specs.Plain.{cell_of_link_word}
 use Rattle.kw_words.specs.declared.sizes.TheConstants.{CELLS}
 use Rattle.kw_world.specs.declared.activity.Activity.{Activity}
-use Rattle.kw_world.specs.declared.activity.Activity.TheVariants.{Walk, ListFrom, ListKey, ListVer, ListVal, RestKey, RestVal}
+use Rattle.kw_world.specs.declared.activity.read.Read.TheVariants as Read
+use Rattle.kw_world.specs.declared.activity.walk.Walk.TheVariants as Walk
 use Rattle.kw_world.specs.declared.event.Choice.TheVariants.{Go}
 use Rattle.kw_world.specs.declared.local.Local.{Local}
 use Rattle.kw_world.specs.Calls.{first_key, is_scan}
@@ -36,12 +37,7 @@ use Rattle.kw_live.proofs.ReadStages.{Ended, Goes, IsBelowNext, read_goes}
 
 -- one that reads the row is at it
 list_at_row : (a : Activity) → is_reading_list a ≡ true → IsAtRow a
-list_at_row ListFrom u = tt
-list_at_row ListKey u = tt
-list_at_row ListVer u = tt
-list_at_row ListVal u = tt
-list_at_row RestKey u = tt
-list_at_row RestVal u = tt
+list_at_row (Activity.Read _) u = tt
 list_at_row _ u = true_false u refl
 
 -- its seat does so where code does
@@ -60,7 +56,7 @@ under_last low bound [] pairs h = all_under low bound pairs h
 under_last low bound (p ∷ before) pairs h = under_last (suc p.0) bound before pairs h.2
 
 -- so a reader that has read the row has read it as the contract says
-has_read : (call : Option Call) (want version : ℕ) (m : Local) (before after : List (ℕ × ℕ)) → (is_scan call ≡ true → m.activity ≡ Walk → RisesBelow (first_key call) m.want after) → Ended call want version m before after → HasReadAs call want version m before after
+has_read : (call : Option Call) (want version : ℕ) (m : Local) (before after : List (ℕ × ℕ)) → (is_scan call ≡ true → m.activity ≡ Activity.Walk Walk.Next → RisesBelow (first_key call) m.want after) → Ended call want version m before after → HasReadAs call want version m before after
 has_read (Some (Put key value)) want version m before after below e = tt
 has_read (Some (Del key)) want version m before after below e = tt
 has_read (Some (Get key)) want version m before after below e = e
@@ -96,7 +92,7 @@ below_next : (p : Pass) → is_reading_list (activity_in p) ≡ true → IsBelow
 below_next p u n e = ((((laws_in p).walks (view p).number (local_in (view p)) (stands p)).at (list_at_row (activity_in p) u)).next n e).below
 
 -- a scan that walks has pairs of keys below the one that it wants
-below_wanted : (q : Pass) → is_scan (local_in (view q)).call ≡ true → activity_in q ≡ Walk → RisesBelow (first_key (local_in (view q)).call) (local_in (view q)).want (held q)
+below_wanted : (q : Pass) → is_scan (local_in (view q)).call ≡ true → activity_in q ≡ Activity.Walk Walk.Next → RisesBelow (first_key (local_in (view q)).call) (local_in (view q)).want (held q)
 below_wanted q scan is =
     let covers : IsCovering (activity_in q) = subst IsCovering (sym is) tt in
     let rises = ((laws_in q).below (view q).number (local_in (view q)) (stands q) scan covers).rises in
@@ -104,20 +100,20 @@ below_wanted q scan is =
 
 module _ (s : Shared) (p q : Pass) (l m : Local) (told : ℕ) (f : Follows s p l) (goes : GoesTo s p q) (after : Follows s q m) (seat : local_in (view q) ≡ (next_of product (view p).opening.rows Go (local_in (view p)) told).local) (met : MetAs p q l Go told) (reading : is_reading_list l.activity ≡ true) where
   -- the event at a link
-  here : l.activity ≡ ListFrom → Met p q ListFrom Go told
+  here : l.activity ≡ Activity.Read Read.Link → Met p q (Activity.Read Read.Link) Go told
   here is = record { front = met.met.front; later = met.met.later; here = met.met.here; activity = met.met.activity ∙ is; tells = met.met.tells }
 
   -- a reader that a link leads to a cell has met fewer cells than there are
-  led_on : l.activity ≡ ListFrom → (c : ℕ) → cell_of_link_word told ≡ Some c → l.walked < CELLS
+  led_on : l.activity ≡ Activity.Read Read.Link → (c : ℕ) → cell_of_link_word told ≡ Some c → l.walked < CELLS
   unfolding here
   led_on is c leads =
       let x = here is in
-      let laws = met_laws s p q ListFrom Go told goes x in
-      let word = met_told p q ListFrom Go told x _ refl in
+      let laws = met_laws s p q (Activity.Read Read.Link) Go told goes x in
+      let word = met_told p q (Activity.Read Read.Link) Go told x _ refl in
       subst (λ n. n < CELLS) (ap (λ (k : Local). k.walked) met.knew)
-      (laws.reads_on (view p).number (local_at p x.front) (met_local p q ListFrom Go told x) x.activity c (ap cell_of_link_word (sym word) ∙ leads))
+      (laws.reads_on (view p).number (local_at p x.front) (met_local p q (Activity.Read Read.Link) Go told x) x.activity c (ap cell_of_link_word (sym word) ∙ leads))
 
-  led_in : activity_in p ≡ ListFrom → (c : ℕ) → cell_of_link_word told ≡ Some c → (local_in (view p)).walked < CELLS
+  led_in : activity_in p ≡ Activity.Read Read.Link → (c : ℕ) → cell_of_link_word told ≡ Some c → (local_in (view p)).walked < CELLS
   led_in is c leads = subst (λ (k : Local). k.walked < CELLS) f.carries (led_on (ap (λ (k : Local). k.activity) f.carries ∙ is) c leads)
 
   -- the seat goes on by the table

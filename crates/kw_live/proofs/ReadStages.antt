@@ -9,7 +9,8 @@ use Rattle.kw_model.specs.declared.call.Call.{Call}
 use Rattle.kw_model.specs.declared.call.Call.TheVariants.{Put, Del, Get, Scan}
 use Rattle.kw_world.specs.declared.answer.Answer.TheVariants.{Pairs}
 use Rattle.kw_world.specs.declared.activity.Activity.{Activity}
-use Rattle.kw_world.specs.declared.activity.Activity.TheVariants.{Walk, ListFrom, ListKey, ListVer, ListVal, RestKey, RestVal, ClearScan, Leave}
+use Rattle.kw_world.specs.declared.activity.read.Read.TheVariants as Read
+use Rattle.kw_world.specs.declared.activity.walk.Walk.TheVariants as Walk
 use Rattle.kw_world.specs.declared.event.Choice.TheVariants.{Go}
 use Rattle.kw_world.specs.declared.limits.TheConstants.{NEWEST}
 use Rattle.kw_world.specs.declared.local.Local.{Local}
@@ -62,15 +63,15 @@ least_fewer ms m e = marked_fewer m.cell ms (least_marked ms m e)
 
 -- a scan goes on with the next row: what is known of it by the event alone
 pub record Passes (want upto : ℕ) (m : Local) : Type 0 where
-  pub activity : m.activity ≡ Walk
+  pub activity : m.activity ≡ Activity.Walk Walk.Next
   pub rises : want < m.want
   pub within : m.want ≤ upto
   pub read : m.has_read ≡ true
 
 -- what a reader of this row gave, as far as the event tells
 abbrev pub Ended : Option Call → ℕ → ℕ → Local → List (ℕ × ℕ) → List (ℕ × ℕ) → Type 0
-Ended (Some (Get key)) want version m before after = (m.activity ≡ Leave (answer_found (shown_at m.gathered NEWEST key))) × (after ≡ before)
-Ended (Some (Scan from upto)) want version m before after = (Passes want upto m ⊎ (m.activity ≡ ClearScan Pairs)) × (after ≡ before ++ pairs_of m.gathered want upto version)
+Ended (Some (Get key)) want version m before after = (m.activity ≡ Activity.Leave (answer_found (shown_at m.gathered NEWEST key))) × (after ≡ before)
+Ended (Some (Scan from upto)) want version m before after = (Passes want upto m ⊎ (m.activity ≡ Activity.EndScan Pairs)) × (after ≡ before ++ pairs_of m.gathered want upto version)
 Ended _ want version m before after = Unit {0}
 
 -- the row after the reader's own begins above the key that it wants
@@ -98,7 +99,7 @@ scans_on z from upto ahead y is some None above = scan_ends z from upto ahead y 
 scans_on z from upto ahead y is some (Some r) above = met (nat_lt upto y.upper) refl
   where
     met : (b : Bool) → nat_lt upto y.upper ≡ b → Goes z (Some (Scan from upto)) y.want y.version y.pairs ahead
-        (if b then scan_ended (with_pairs upto y) else to Walk (record (with_pairs upto y) { row = r; lower = y.upper; want = y.upper; next = None; upper = 0 }))
+        (if b then scan_ended (with_pairs upto y) else to (Activity.Walk Walk.Next) (record (with_pairs upto y) { row = r; lower = y.upper; want = y.upper; next = None; upper = 0 }))
     met true h = scan_ends z from upto ahead y is some
     met false h = record {
       calls = is;
@@ -127,34 +128,34 @@ rests z ahead y some above = met (least_mark y.remembered) refl
 -- The events.
 
 -- a link was read
-links : (z : Sizes) (cell : Option ℕ) (y : Local) → ((c : ℕ) → cell ≡ Some c → y.walked < z.cells) → IsBelowNext y → Goes z y.call y.want y.version y.pairs (read_ahead z ListFrom y.walked (length y.remembered)) (list_met z cell y)
+links : (z : Sizes) (cell : Option ℕ) (y : Local) → ((c : ℕ) → cell ≡ Some c → y.walked < z.cells) → IsBelowNext y → Goes z y.call y.want y.version y.pairs (read_ahead z (Activity.Read Read.Link) y.walked (length y.remembered)) (list_met z cell y)
 links z (Some c) y led above = record { calls = refl; drawn = refl; on = λ e. (refl, refl); ends = λ e. true_false refl e; fewer = omega (arith, led c refl, unmarked_few c y.remembered) }
 links z None y led above = rests z _ y (omega arith) above
 
 -- a key of the list was read
-keys : (z : Sizes) (key : ℕ) (y : Local) → IsBelowNext y → Goes z y.call y.want y.version y.pairs (read_ahead z ListKey y.walked (length y.remembered)) (list_key key y)
+keys : (z : Sizes) (key : ℕ) (y : Local) → IsBelowNext y → Goes z y.call y.want y.version y.pairs (read_ahead z (Activity.Read Read.Key) y.walked (length y.remembered)) (list_key key y)
 keys z key y above = met (nat_lt key (first_key y.call)) (nat_le key (last_key y.call))
   where
-    met : (b c : Bool) → Goes z y.call y.want y.version y.pairs (read_ahead z ListKey y.walked (length y.remembered)) (if b then list_past y else if c then to ListVer (record y { place_key = key }) else to_rest y)
+    met : (b c : Bool) → Goes z y.call y.want y.version y.pairs (read_ahead z (Activity.Read Read.Key) y.walked (length y.remembered)) (if b then list_past y else if c then to (Activity.Read Read.Version) (record y { place_key = key }) else to_rest y)
     met true c = record { calls = refl; drawn = refl; on = λ e. (refl, refl); ends = λ e. true_false refl e; fewer = omega arith }
     met false true = record { calls = refl; drawn = refl; on = λ e. (refl, refl); ends = λ e. true_false refl e; fewer = omega arith }
     met false false = rests z _ y (omega arith) above
 
 -- and that of a remembered cell
-rest_keys : (z : Sizes) (key : ℕ) (y : Local) → IsBelowNext y → Goes z y.call y.want y.version y.pairs (read_ahead z RestKey y.walked (length y.remembered)) (rest_key key y)
+rest_keys : (z : Sizes) (key : ℕ) (y : Local) → IsBelowNext y → Goes z y.call y.want y.version y.pairs (read_ahead z (Activity.Read Read.LeftOverKey) y.walked (length y.remembered)) (rest_key key y)
 rest_keys z key y above = met (is_in_range y.call key)
   where
-    met : (b : Bool) → Goes z y.call y.want y.version y.pairs (read_ahead z RestKey y.walked (length y.remembered)) (if b then to RestVal (record y { place_key = key }) else to_rest y)
+    met : (b : Bool) → Goes z y.call y.want y.version y.pairs (read_ahead z (Activity.Read Read.LeftOverKey) y.walked (length y.remembered)) (if b then to (Activity.Read Read.LeftOverValue) (record y { place_key = key }) else to_rest y)
     met true = record { calls = refl; drawn = refl; on = λ e. (refl, refl); ends = λ e. true_false refl e; fewer = omega arith }
     met false = rests z _ y (omega arith) above
 
 -- what follows from an event there
-pub read_goes : (z : Sizes) (a : Activity) (k : Local) (rows told : ℕ) → is_reading_list a ≡ true → IsBelowNext k → (a ≡ ListFrom → (c : ℕ) → cell_of_link_word told ≡ Some c → k.walked < z.cells)
+pub read_goes : (z : Sizes) (a : Activity) (k : Local) (rows told : ℕ) → is_reading_list a ≡ true → IsBelowNext k → (a ≡ Activity.Read Read.Link → (c : ℕ) → cell_of_link_word told ≡ Some c → k.walked < z.cells)
     → Goes z k.call k.want k.version k.pairs (read_ahead z a k.walked (length k.remembered)) ((transition z a 0 Go k).next rows told)
-read_goes z ListFrom k rows told u above led = links z (cell_of_link_word told) k (led refl) above
-read_goes z ListKey k rows told u above led = keys z (key_of_word told) k above
-read_goes z ListVer k rows told u above led = record { calls = refl; drawn = refl; on = λ e. (refl, refl); ends = λ e. true_false refl e; fewer = omega arith }
-read_goes z ListVal k rows told u above led = record { calls = refl; drawn = refl; on = λ e. (refl, refl); ends = λ e. true_false refl e; fewer = omega arith }
-read_goes z RestKey k rows told u above led = rest_keys z (key_of_word told) k above
-read_goes z RestVal k rows told u above led = rests z _ (gathering z (value_of_word told) k) (omega arith) above
+read_goes z (Activity.Read Read.Link) k rows told u above led = links z (cell_of_link_word told) k (led refl) above
+read_goes z (Activity.Read Read.Key) k rows told u above led = keys z (key_of_word told) k above
+read_goes z (Activity.Read Read.Version) k rows told u above led = record { calls = refl; drawn = refl; on = λ e. (refl, refl); ends = λ e. true_false refl e; fewer = omega arith }
+read_goes z (Activity.Read Read.Value) k rows told u above led = record { calls = refl; drawn = refl; on = λ e. (refl, refl); ends = λ e. true_false refl e; fewer = omega arith }
+read_goes z (Activity.Read Read.LeftOverKey) k rows told u above led = rest_keys z (key_of_word told) k above
+read_goes z (Activity.Read Read.LeftOverValue) k rows told u above led = rests z _ (gathering z (value_of_word told) k) (omega arith) above
 read_goes z _ k rows told u above led = true_false u refl

@@ -11,7 +11,10 @@ use Rattle.kw_cells.specs.declared.cell.Cell.{Cell}
 use Rattle.kw_model.specs.declared.call.Call.{Call}
 use Rattle.kw_model.specs.declared.call.Call.TheVariants.{Put, Del, Get, Scan}
 use Rattle.kw_world.specs.declared.activity.Activity.{Activity}
-use Rattle.kw_world.specs.declared.activity.Activity.TheVariants.{Start, Head, GuessMin, Walk, WalkMin, Look}
+use Rattle.kw_world.specs.declared.activity.look.Look.TheVariants as Look
+use Rattle.kw_world.specs.declared.activity.walk.Walk.TheVariants as Walk
+use Rattle.kw_world.specs.declared.activity.rebalance.Rebalance.TheVariants as Rebalance
+use Rattle.kw_world.specs.declared.activity.rebalance.replace.Replace.TheVariants as Replace
 use Rattle.kw_world.specs.declared.event.Choice.{Choice}
 use Rattle.kw_world.specs.declared.event.Choice.TheVariants.{Go, Guess}
 use Rattle.kw_world.specs.declared.event.StepDone.{StepDone}
@@ -67,7 +70,7 @@ arrives l x (Some (Scan from upto)) ahead a b c d is more = record { walks = rec
 arrives l x None ahead a b c d is more = record { walks = record { call = a; want = b; version = c; has_read = d; stage = inr (ap arrived is) }; fewer = more }
 
 -- the walk begins at the first row, or tries the guessed one
-from_head : (l : Local) (w ahead : ℕ) → 2 * (l.want + 1) + 2 < ahead → Climbs l (record l { row = w; lower = 0; activity = Walk }) ahead
+from_head : (l : Local) (w ahead : ℕ) → 2 * (l.want + 1) + 2 < ahead → Climbs l (record l { row = w; lower = 0; activity = Activity.Walk Walk.Next }) ahead
 from_head l w ahead more = record { walks = record { call = refl; want = refl; version = refl; has_read = refl; stage = inl refl }; fewer = omega (arith, more) }
 
 guesses : (l : Local) (r : ℕ) (state : Option State) (ahead : ℕ) → 2 * (l.want + 1) + 4 < ahead → Climbs l (guess_met r state l).local ahead
@@ -80,7 +83,7 @@ guesses l r (Some (Retired number)) ahead more = record { walks = record { call 
 guesses l r None ahead more = record { walks = record { call = refl; want = refl; version = refl; has_read = refl; stage = inl refl }; fewer = omega (arith, more) }
 
 -- the guessed row serves, or does not
-least_met : (l : Local) (least : ℕ) (b : Bool) → Climbs l (let x : Outcome = if b then to Walk (record l { lower = least }) else to Head l in x).local (2 * (l.want + 1) + 4)
+least_met : (l : Local) (least : ℕ) (b : Bool) → Climbs l (let x : Outcome = if b then to (Activity.Walk Walk.Next) (record l { lower = least }) else to (Activity.Walk Walk.First) l in x).local (2 * (l.want + 1) + 4)
 least_met l least true = record { walks = record { call = refl; want = refl; version = refl; has_read = refl; stage = inl refl }; fewer = omega arith }
 least_met l least false = record { walks = record { call = refl; want = refl; version = refl; has_read = refl; stage = inl refl }; fewer = omega arith }
 
@@ -92,7 +95,7 @@ links l (Some r) = record { walks = record { call = refl; want = refl; version =
 -- the row after it is taken, whose least key is greater and at most the wanted one, or the walk has
 -- arrived
 climbs : (l : Local) (least : ℕ) → l.lower < least → (b : Bool) → nat_le least l.want ≡ b
-    → Climbs l (let x : Outcome = if b then to Walk (record l { row = l.candidate; lower = least }) else arrive l.call (record l { next = Some l.candidate; upper = least }) in x).local (2 * (l.want + 1 - l.lower) + 1)
+    → Climbs l (let x : Outcome = if b then to (Activity.Walk Walk.Next) (record l { row = l.candidate; lower = least }) else arrive l.call (record l { next = Some l.candidate; upper = least }) in x).local (2 * (l.want + 1 - l.lower) + 1)
 climbs l least above true h = record { walks = record { call = refl; want = refl; version = refl; has_read = refl; stage = inl refl }; fewer = let below = at_most least l.want h in omega (arith, above, below) }
 climbs l least above false h = arrives l (record l { next = Some l.candidate; upper = least }) l.call _ refl refl refl refl refl (omega arith)
 
@@ -102,21 +105,21 @@ module _ (s : Shared) (p q : Pass) (l m : Local) (rows told : ℕ) (goes : GoesT
   here a is = record { front = met.met.front; later = met.met.later; here = met.met.here; activity = met.met.activity ∙ is; tells = met.met.tells }
 
   -- the row after has a greater least key
-  above : l.activity ≡ WalkMin → l.lower < key_of_word told
+  above : l.activity ≡ Activity.Walk Walk.NextLeast → l.lower < key_of_word told
   unfolding here
   above is =
-      let x = here WalkMin is in
-      let rises = (met_laws s p q WalkMin Go told goes x).climbs (view p).number (local_at p x.front) (met_local p q WalkMin Go told x) x.activity in
+      let x = here (Activity.Walk Walk.NextLeast) is in
+      let rises = (met_laws s p q (Activity.Walk Walk.NextLeast) Go told goes x).climbs (view p).number (local_at p x.front) (met_local p q (Activity.Walk Walk.NextLeast) Go told x) x.activity in
       let least : ℕ = key_of_word (word product (history product (view p).opening x.front).world (name.Min (local_at p x.front).candidate)) in
       let more : l.lower < least = subst (λ n. n < least) (ap (λ (k : Local). k.lower) met.knew) rises in
-      subst (λ w. l.lower < key_of_word w) (sym (met_told p q WalkMin Go told x _ refl)) more
+      subst (λ w. l.lower < key_of_word w) (sym (met_told p q (Activity.Walk Walk.NextLeast) Go told x _ refl)) more
 
   event : (a : Activity) → l.activity ≡ a → is_walking a ≡ true → Climbs l m (walk_ahead a l.lower l.want)
-  event Start is w = on l m _ _ (after_is rows Start Go l m told is line) (from_head l (row_or_first (row_linked (link_of told))) _ (omega arith))
-  event Head is w = on l m _ _ (after_is rows Head Go l m told is line) (from_head l (row_or_first (row_linked (link_of told))) _ (omega arith))
-  event GuessMin is w = on l m _ _ (after_is rows GuessMin Go l m told is line) (least_met l (key_of_word told) (nat_le (key_of_word told) l.want))
-  event Walk is w = on l m _ _ (after_is rows Walk Go l m told is line) (links l (row_linked (link_of told)))
-  event WalkMin is w = on l m _ _ (after_is rows WalkMin Go l m told is line) (climbs l (key_of_word told) (above is) (nat_le (key_of_word told) l.want) refl)
+  event (Activity.Walk Walk.Start) is w = on l m _ _ (after_is rows (Activity.Walk Walk.Start) Go l m told is line) (from_head l (row_or_first (row_linked (link_of told))) _ (omega arith))
+  event (Activity.Walk Walk.First) is w = on l m _ _ (after_is rows (Activity.Walk Walk.First) Go l m told is line) (from_head l (row_or_first (row_linked (link_of told))) _ (omega arith))
+  event (Activity.Walk Walk.GuessedLeast) is w = on l m _ _ (after_is rows (Activity.Walk Walk.GuessedLeast) Go l m told is line) (least_met l (key_of_word told) (nat_le (key_of_word told) l.want))
+  event (Activity.Walk Walk.Next) is w = on l m _ _ (after_is rows (Activity.Walk Walk.Next) Go l m told is line) (links l (row_linked (link_of told)))
+  event (Activity.Walk Walk.NextLeast) is w = on l m _ _ (after_is rows (Activity.Walk Walk.NextLeast) Go l m told is line) (climbs l (key_of_word told) (above is) (nat_le (key_of_word told) l.want) refl)
   event _ is w = true_false w refl
 
   -- each event of a walk takes it on
@@ -124,13 +127,13 @@ module _ (s : Shared) (p q : Pass) (l m : Local) (rows told : ℕ) (goes : GoesT
   walk_goes = event l.activity refl
 
 -- The first event of a walk, with the choice that a guess makes.
-pub sets_out : (l m : Local) (told rows : ℕ) (guess : Option ℕ) → l.activity ≡ Start → outcome m Moved ≡ next_of product rows (offered rows (guessing guess)) l told → WalksOn l m
-sets_out l m told rows None is line = (on l m _ _ (after_is rows Start Go l m told is line) (from_head l (row_or_first (row_linked (link_of told))) (2 * (l.want + 1) + 3) (omega arith))).walks
+pub sets_out : (l m : Local) (told rows : ℕ) (guess : Option ℕ) → l.activity ≡ Activity.Walk Walk.Start → outcome m Moved ≡ next_of product rows (offered rows (guessing guess)) l told → WalksOn l m
+sets_out l m told rows None is line = (on l m _ _ (after_is rows (Activity.Walk Walk.Start) Go l m told is line) (from_head l (row_or_first (row_linked (link_of told))) (2 * (l.want + 1) + 3) (omega arith))).walks
 sets_out l m told rows (Some r) is line = met (nat_lt r rows) line
   where
     met : (b : Bool) → outcome m Moved ≡ next_of product rows (if b then Guess r else Go) l told → WalksOn l m
-    met true e = (on l m _ _ (after_is rows Start (Guess r) l m told is e) (guesses l r (state_of told) (2 * (l.want + 1) + 5) (omega arith))).walks
-    met false e = (on l m _ _ (after_is rows Start Go l m told is e) (from_head l (row_or_first (row_linked (link_of told))) (2 * (l.want + 1) + 3) (omega arith))).walks
+    met true e = (on l m _ _ (after_is rows (Activity.Walk Walk.Start) (Guess r) l m told is e) (guesses l r (state_of told) (2 * (l.want + 1) + 5) (omega arith))).walks
+    met false e = (on l m _ _ (after_is rows (Activity.Walk Walk.Start) Go l m told is e) (from_head l (row_or_first (row_linked (link_of told))) (2 * (l.want + 1) + 3) (omega arith))).walks
 
 -- one walk after the other
 pub walks_trans : (l m n : Local) → WalksOn l m → WalksOn m n → WalksOn l n
@@ -146,11 +149,8 @@ walks_trans l m n a b = record {
 
 -- a call that walks is in the middle
 walking_within : (a : Activity) → is_walking a ≡ true → IsWithinCall a
-walking_within Start u = tt
-walking_within Head u = tt
-walking_within GuessMin u = tt
-walking_within Walk u = tt
-walking_within WalkMin u = tt
+walking_within (Activity.Walk _) u = tt
+walking_within (Activity.Rebalance (Rebalance.Replace Replace.First)) u = true_false u refl
 walking_within _ u = true_false u refl
 
 module _ {s : Shared} {p q : Pass} {told : ℕ} (l m : Local) (done : StepDone) (f : Follows s p l) (makes : Makes s p Go told q) (u : is_walking l.activity ≡ true) (line : outcome m done ≡ next_of product s.opening.rows Go l told) where
@@ -174,28 +174,28 @@ module _ {s : Shared} {p q : Pass} {told : ℕ} (l m : Local) (done : StepDone) 
 
 module _ {s : Shared} {p q : Pass} {told : ℕ} (l : Local) where
   -- the link led to a row
-  pub link_led : (r : ℕ) → row_linked (link_of told) ≡ Some r → Follows s p (walking Walk l) → Makes s p Go told q → WalksFurther s p (walking Walk l) q (walking WalkMin (record l { candidate = r }))
+  pub link_led : (r : ℕ) → row_linked (link_of told) ≡ Some r → Follows s p (walking (Activity.Walk Walk.Next) l) → Makes s p Go told q → WalksFurther s p (walking (Activity.Walk Walk.Next) l) q (walking (Activity.Walk Walk.NextLeast) (record l { candidate = r }))
   link_led r leads f makes =
-      walks_by (walking Walk l) (walking WalkMin (record l { candidate = r })) Moved f makes refl
-      (ap (λ o. link_met o (walking Walk l)) (sym leads) ∙ next_at _ Walk (walking Walk l) told refl)
+      walks_by (walking (Activity.Walk Walk.Next) l) (walking (Activity.Walk Walk.NextLeast) (record l { candidate = r })) Moved f makes refl
+      (ap (λ o. link_met o (walking (Activity.Walk Walk.Next) l)) (sym leads) ∙ next_at _ (Activity.Walk Walk.Next) (walking (Activity.Walk Walk.Next) l) told refl)
 
   -- what follows from a link that was told
-  pub link_told : (m : Local) (done : StepDone) → outcome m done ≡ link_met (row_linked (link_of told)) (walking Walk l) → Follows s p (walking Walk l) → Makes s p Go told q → WalksFurther s p (walking Walk l) q m
-  link_told m done line f makes = walks_by (walking Walk l) m done f makes refl (line ∙ next_at _ Walk (walking Walk l) told refl)
+  pub link_told : (m : Local) (done : StepDone) → outcome m done ≡ link_met (row_linked (link_of told)) (walking (Activity.Walk Walk.Next) l) → Follows s p (walking (Activity.Walk Walk.Next) l) → Makes s p Go told q → WalksFurther s p (walking (Activity.Walk Walk.Next) l) q m
+  link_told m done line f makes = walks_by (walking (Activity.Walk Walk.Next) l) m done f makes refl (line ∙ next_at _ (Activity.Walk Walk.Next) (walking (Activity.Walk Walk.Next) l) told refl)
 
   -- the row's least key is not above the wanted one: it is taken
-  pub row_taken : (key : ℕ) → key ≡ key_of_word told → key ≤ l.want → Follows s p (walking WalkMin l) → Makes s p Go told q → WalksFurther s p (walking WalkMin l) q (walking Walk (record l { row = l.candidate; lower = key }))
+  pub row_taken : (key : ℕ) → key ≡ key_of_word told → key ≤ l.want → Follows s p (walking (Activity.Walk Walk.NextLeast) l) → Makes s p Go told q → WalksFurther s p (walking (Activity.Walk Walk.NextLeast) l) q (walking (Activity.Walk Walk.Next) (record l { row = l.candidate; lower = key }))
   row_taken key keyed serves f makes =
       let under : key_of_word told ≤ l.want = subst (λ n. n ≤ l.want) keyed serves in
       let below : nat_le (key_of_word told) l.want ≡ true = grind (arith) in
-      subst (λ n. WalksFurther s p (walking WalkMin l) q (walking Walk (record l { row = l.candidate; lower = n }))) (sym keyed)
-      (walks_by (walking WalkMin l) (walking Walk (record l { row = l.candidate; lower = key_of_word told })) Moved f makes refl
-      (ap (λ (b : Bool). let o : Outcome = if b then to Walk (record (walking WalkMin l) { row = l.candidate; lower = key_of_word told }) else arrive l.call (record (walking WalkMin l) { next = Some l.candidate; upper = key_of_word told }) in o) (sym below)
-      ∙ next_at _ WalkMin (walking WalkMin l) told refl))
+      subst (λ n. WalksFurther s p (walking (Activity.Walk Walk.NextLeast) l) q (walking (Activity.Walk Walk.Next) (record l { row = l.candidate; lower = n }))) (sym keyed)
+      (walks_by (walking (Activity.Walk Walk.NextLeast) l) (walking (Activity.Walk Walk.Next) (record l { row = l.candidate; lower = key_of_word told })) Moved f makes refl
+      (ap (λ (b : Bool). let o : Outcome = if b then to (Activity.Walk Walk.Next) (record (walking (Activity.Walk Walk.NextLeast) l) { row = l.candidate; lower = key_of_word told }) else arrive l.call (record (walking (Activity.Walk Walk.NextLeast) l) { next = Some l.candidate; upper = key_of_word told }) in o) (sym below)
+      ∙ next_at _ (Activity.Walk Walk.NextLeast) (walking (Activity.Walk Walk.NextLeast) l) told refl))
 
   -- what follows from a least key that was told
-  pub least_told : (m : Local) (done : StepDone) → outcome m done ≡ walk_min (key_of_word told) (walking WalkMin l) → Follows s p (walking WalkMin l) → Makes s p Go told q → WalksFurther s p (walking WalkMin l) q m
-  least_told m done line f makes = walks_by (walking WalkMin l) m done f makes refl (line ∙ next_at _ WalkMin (walking WalkMin l) told refl)
+  pub least_told : (m : Local) (done : StepDone) → outcome m done ≡ walk_min (key_of_word told) (walking (Activity.Walk Walk.NextLeast) l) → Follows s p (walking (Activity.Walk Walk.NextLeast) l) → Makes s p Go told q → WalksFurther s p (walking (Activity.Walk Walk.NextLeast) l) q m
+  least_told m done line f makes = walks_by (walking (Activity.Walk Walk.NextLeast) l) m done f makes refl (line ∙ next_at _ (Activity.Walk Walk.NextLeast) (walking (Activity.Walk Walk.NextLeast) l) told refl)
 
 -- What stays through all events of a walk.
 pub record IsWalkingOn (s : Shared) (o : Pass) (l : Local) (p : Pass) (m : Local) : Type 0 where
@@ -207,14 +207,14 @@ pub record IsWalkingOn (s : Shared) (o : Pass) (l : Local) (p : Pass) (m : Local
   pub fewer : walks_ahead m ≤ walks_ahead l
 
 -- a walk that begins to go from row to row
-pub begins_walking : (s : Shared) (p : Pass) (l : Local) → Follows s p l → l.activity ≡ Walk → IsWalkingOn s p l p (walking Walk l)
+pub begins_walking : (s : Shared) (p : Pass) (l : Local) → Follows s p l → l.activity ≡ Activity.Walk Walk.Next → IsWalkingOn s p l p (walking (Activity.Walk Walk.Next) l)
 begins_walking s p l f is = record {
   goes = record { of_table = f.of_table; number = refl; opening = refl; seen = prefix_self _ };
   follows = subst (λ (a : Activity). Follows s p (walking a l)) is f;
   calls = refl;
   held = refl;
   walks = record { call = refl; want = refl; version = refl; has_read = refl; stage = inl refl };
-  fewer = subst (λ (a : Activity). walk_ahead Walk l.lower l.want ≤ walk_ahead a l.lower l.want) (sym is) (omega (arith));
+  fewer = subst (λ (a : Activity). walk_ahead (Activity.Walk Walk.Next) l.lower l.want ≤ walk_ahead a l.lower l.want) (sym is) (omega (arith));
 }
 
 -- two parts of a walk
@@ -262,11 +262,11 @@ begins_on s p q r c goes b = record { front = b.front; later = b.later; first = 
 -- forget them
 pub record IsPassing (s : Shared) (o : Pass) (l : Local) (p : Pass) (m : Local) : Type 0 where
   pub cells : List Cell
-  pub on : IsWalkingOn s o l p (walking Walk (record m { gathered = cells }))
-  pub forgets : (arrived m.call ≡ Look 0) ⊎ (cells ≡ m.gathered)
+  pub on : IsWalkingOn s o l p (walking (Activity.Walk Walk.Next) (record m { gathered = cells }))
+  pub forgets : (arrived m.call ≡ Activity.Look (Look.Entry 0)) ⊎ (cells ≡ m.gathered)
 
 -- it begins
-pub begins_passing : (s : Shared) (p : Pass) (l : Local) → (cells : List Cell) × Follows s p (record l { gathered = cells }) → (arrived l.call ≡ Look 0) ⊎ Follows s p l → l.activity ≡ Walk → IsPassing s p l p l
+pub begins_passing : (s : Shared) (p : Pass) (l : Local) → (cells : List Cell) × Follows s p (record l { gathered = cells }) → (arrived l.call ≡ Activity.Look (Look.Entry 0)) ⊎ Follows s p l → l.activity ≡ Activity.Walk Walk.Next → IsPassing s p l p l
 begins_passing s p l beside (inl look) is =
     let on = begins_walking s p (record l { gathered = beside.0 }) beside.1 is in
     record {
@@ -284,7 +284,7 @@ begins_passing s p l beside (inl look) is =
 begins_passing s p l beside (inr f) is = record { cells = l.gathered; on = begins_walking s p l f is; forgets = inr refl }
 
 -- the arrival is the same whatever was gathered, where the walk forgets it
-arrive_over : (call : Option Call) (l : Local) (cells : List Cell) → (arrived call ≡ Look 0) ⊎ (cells ≡ l.gathered) → arrive call (record l { gathered = cells }) ≡ arrive call l
+arrive_over : (call : Option Call) (l : Local) (cells : List Cell) → (arrived call ≡ Activity.Look (Look.Entry 0)) ⊎ (cells ≡ l.gathered) → arrive call (record l { gathered = cells }) ≡ arrive call l
 arrive_over call l cells (inr e) = ap (λ (kept : List Cell). arrive call (record l { gathered = kept })) e
 arrive_over (Some (Put key value)) l cells (inl e) = true_false (ap is_looking e) refl
 arrive_over (Some (Del key)) l cells (inl e) = true_false (ap is_looking e) refl
@@ -302,7 +302,7 @@ arrive_at None l = refl
 
 -- a row whose least key is above the wanted one ends the walk
 stops_before : (least : ℕ) (l : Local) → nat_le least l.want ≡ false → walk_min least l ≡ arrive l.call (record l { next = Some l.candidate; upper = least })
-stops_before least l h = ap (λ (b : Bool). let o : Outcome = if b then to Walk (record l { row = l.candidate; lower = least }) else arrive l.call (record l { next = Some l.candidate; upper = least }) in o) h
+stops_before least l h = ap (λ (b : Bool). let o : Outcome = if b then to (Activity.Walk Walk.Next) (record l { row = l.candidate; lower = least }) else arrive l.call (record l { next = Some l.candidate; upper = least }) in o) h
 
 -- all of the walk, which has arrived
 pub record HasArrived (s : Shared) (o : Pass) (l : Local) (p : Pass) (m : Local) : Type 0 where
@@ -311,22 +311,22 @@ pub record HasArrived (s : Shared) (o : Pass) (l : Local) (p : Pass) (m : Local)
 
 module _ {s : Shared} {o p q : Pass} {told : ℕ} {first : Local} (l : Local) (x : IsPassing s o first p l) (makes : Makes s p Go told q) where
   -- the link led to a row
-  pub passing_led : (r : ℕ) → row_linked (link_of told) ≡ Some r → WalksFurther s p (walking Walk (record l { gathered = x.cells })) q (walking WalkMin (record l { gathered = x.cells; candidate = r }))
+  pub passing_led : (r : ℕ) → row_linked (link_of told) ≡ Some r → WalksFurther s p (walking (Activity.Walk Walk.Next) (record l { gathered = x.cells })) q (walking (Activity.Walk Walk.NextLeast) (record l { gathered = x.cells; candidate = r }))
   passing_led r leads = link_led (record l { gathered = x.cells }) r leads x.on.follows makes
 
   -- there is no row after this one
-  pub arrives_last : (m : Local) (done : StepDone) → row_linked (link_of told) ≡ None → outcome m done ≡ link_met (row_linked (link_of told)) (walking Walk l) → HasArrived s o first q m
+  pub arrives_last : (m : Local) (done : StepDone) → row_linked (link_of told) ≡ None → outcome m done ≡ link_met (row_linked (link_of told)) (walking (Activity.Walk Walk.Next) l) → HasArrived s o first q m
   arrives_last m done leads line =
-      let there : Local = record (walking Walk l) { next = None; upper = 0 } in
-      let met : outcome m done ≡ arrive l.call there = line ∙ ap (λ n. link_met n (walking Walk l)) leads in
+      let there : Local = record (walking (Activity.Walk Walk.Next) l) { next = None; upper = 0 } in
+      let met : outcome m done ≡ arrive l.call there = line ∙ ap (λ n. link_met n (walking (Activity.Walk Walk.Next) l)) leads in
       record {
-        walks = walked_on x.on (link_told (record l { gathered = x.cells }) m done (met ∙ sym (arrive_over l.call there x.cells x.forgets) ∙ ap (λ n. link_met n (walking Walk (record l { gathered = x.cells }))) (sym leads)) x.on.follows makes);
+        walks = walked_on x.on (link_told (record l { gathered = x.cells }) m done (met ∙ sym (arrive_over l.call there x.cells x.forgets) ∙ ap (λ n. link_met n (walking (Activity.Walk Walk.Next) (record l { gathered = x.cells }))) (sym leads)) x.on.follows makes);
         arrived = ap (λ (y : Outcome). y.local.activity) met ∙ arrive_at l.call there ∙ ap arrived x.on.walks.call;
       }
 
 module _ {s : Shared} {o p q r : Pass} {link told : ℕ} {first : Local} (l : Local) (x : IsPassing s o first p l) (row : ℕ) (leads : row_linked (link_of link) ≡ Some row) (makes : Makes s p Go link q) (makes_next : Makes s q Go told r) where
   -- the row after is taken
-  pub passing_taken : (key : ℕ) → key ≡ key_of_word told → key ≤ l.want → WalksFurther s p (walking Walk (record l { gathered = x.cells })) r (walking Walk (record l { gathered = x.cells; candidate = row; row = row; lower = key }))
+  pub passing_taken : (key : ℕ) → key ≡ key_of_word told → key ≤ l.want → WalksFurther s p (walking (Activity.Walk Walk.Next) (record l { gathered = x.cells })) r (walking (Activity.Walk Walk.Next) (record l { gathered = x.cells; candidate = row; row = row; lower = key }))
   passing_taken key keyed serves =
       let led = passing_led l x makes row leads in
       further_trans _ _ _ _ _ _ _ led (row_taken (record l { gathered = x.cells; candidate = row }) key keyed serves led.follows makes_next)
@@ -336,15 +336,15 @@ module _ {s : Shared} {o p q r : Pass} {link told : ℕ} {first : Local} (l : Lo
   passing_on key keyed serves = record { cells = x.cells; on = walking_on x.on (passing_taken key keyed serves); forgets = x.forgets }
 
   -- the row after begins above the wanted key
-  pub arrives_before : (key : ℕ) → key ≡ key_of_word told → l.want < key → (m : Local) (done : StepDone) → outcome m done ≡ walk_min (key_of_word told) (walking WalkMin (record l { candidate = row })) → HasArrived s o first r m
+  pub arrives_before : (key : ℕ) → key ≡ key_of_word told → l.want < key → (m : Local) (done : StepDone) → outcome m done ≡ walk_min (key_of_word told) (walking (Activity.Walk Walk.NextLeast) (record l { candidate = row })) → HasArrived s o first r m
   arrives_before key keyed over m done line =
       let beyond : l.want < key_of_word told = subst (λ n. l.want < n) keyed over in
       let above : nat_le (key_of_word told) l.want ≡ false = grind (arith) in
-      let here : Local = walking WalkMin (record l { candidate = row }) in
+      let here : Local = walking (Activity.Walk Walk.NextLeast) (record l { candidate = row }) in
       let there : Local = record here { next = Some row; upper = key_of_word told } in
       let met : outcome m done ≡ arrive l.call there = line ∙ stops_before (key_of_word told) here above in
       let led = passing_led l x makes row leads in
       record {
-        walks = walked_on x.on (further_trans _ _ _ _ _ _ _ led (least_told (record l { gathered = x.cells; candidate = row }) m done (met ∙ sym (arrive_over l.call there x.cells x.forgets) ∙ sym (stops_before (key_of_word told) (walking WalkMin (record l { gathered = x.cells; candidate = row })) above)) led.follows makes_next));
+        walks = walked_on x.on (further_trans _ _ _ _ _ _ _ led (least_told (record l { gathered = x.cells; candidate = row }) m done (met ∙ sym (arrive_over l.call there x.cells x.forgets) ∙ sym (stops_before (key_of_word told) (walking (Activity.Walk Walk.NextLeast) (record l { gathered = x.cells; candidate = row })) above)) led.follows makes_next));
         arrived = ap (λ (y : Outcome). y.local.activity) met ∙ arrive_at l.call there ∙ ap arrived x.on.walks.call;
       }

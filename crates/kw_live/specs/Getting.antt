@@ -6,7 +6,7 @@ use Rattle.kw_cells.specs.declared.cell.Cell.{Cell}
 use Rattle.kw_cells.specs.InOrder.{stands_before}
 use Rattle.kw_model.specs.Map.{found}
 use Rattle.kw_world.specs.Answers.{answer_found}
-use Rattle.kw_world.specs.declared.activity.Activity.TheVariants.{Idle, Leave}
+use Rattle.kw_world.specs.declared.activity.Activity.TheVariants as Activity
 use Rattle.kw_world.specs.declared.local.Local.{Local}
 use Rattle.kw_world.specs.Local.{resting}
 use Rattle.kw_table.specs.declared.pass.Pass.{Pass}
@@ -29,12 +29,12 @@ newer_of c (Some d) = if stands_before c d then c else d
 pub record HasFound (s : Shared) (p q : Pass) (value : Option ℕ) : Type 0 where
   pub local : Local
   pub gets : Reaches s p q local
-  pub leaves : local.activity ≡ Leave (answer_found value)
+  pub leaves : local.activity ≡ Activity.Leave (answer_found value)
 
 -- the get has ended with this value, or with none: its pass is idle, and its local at rest
 pub record HasGot (s : Shared) (p q : Pass) (value : Option ℕ) (m : Local) : Type 0 where
   pub goes : GoesTo s p q
-  pub idle : activity_in q ≡ Idle
+  pub idle : activity_in q ≡ Activity.Idle
   pub rests : m ≡ resting 0
   -- the pass before its last event
   pub before : Pass

@@ -7,7 +7,8 @@ use Rattle.kw_words.specs.declared.sizes.TheConstants.{CELLS}
 use Rattle.kw_words.specs.Count.{count_of}
 use Rattle.kw_words.specs.Pend.{pend_word}
 use Rattle.kw_world.specs.declared.activity.Activity.{Activity}
-use Rattle.kw_world.specs.declared.activity.Activity.TheVariants.{ScanClock, PutCount, PutAdd, Announce, Stamp}
+use Rattle.kw_world.specs.declared.activity.draw.Draw.TheVariants as Draw
+use Rattle.kw_world.specs.declared.activity.put.Put.TheVariants as Put
 use Rattle.kw_world.specs.declared.event.Choice.{Choice}
 use Rattle.kw_world.specs.declared.event.Choice.TheVariants.{Go}
 use Rattle.kw_world.specs.declared.event.Event.{Event}
@@ -24,10 +25,10 @@ IsFullCount None = ⊥
 -- what an event of a put at its row was told says that it gets no cell there, or no version for it:
 -- the count is full, or its entry is frozen
 abbrev pub TellsFull : Activity → ℕ → Type 0
-TellsFull PutCount told = IsFullCount (count_of told)
-TellsFull PutAdd told = IsFullCount (count_of told)
-TellsFull Announce told = told ≡ pend_word Frozen
-TellsFull Stamp told = told ≡ pend_word Frozen
+TellsFull (Activity.Put Put.Count) told = IsFullCount (count_of told)
+TellsFull (Activity.Put Put.Add) told = IsFullCount (count_of told)
+TellsFull (Activity.Put Put.Announce) told = told ≡ pend_word Frozen
+TellsFull (Activity.Put Put.Stamp) told = told ≡ pend_word Frozen
 TellsFull _ told = ⊥
 
 -- the pass found that its row is full
@@ -39,7 +40,7 @@ pub record MetFull (p q : Pass) : Type 0 where
 
 -- the clock that a scan loads first
 pub record MetClock (p q : Pass) (clock : ℕ) : Type 0 where
-  pub met : Met p q ScanClock Go clock
+  pub met : Met p q (Activity.Draw Draw.Clock) Go clock
 
 -- the next event of the pass's own, after what it had seen, has this choice
 pub record BeginsWith (p q : Pass) (c : Choice) : Type 0 where

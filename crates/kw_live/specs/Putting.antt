@@ -3,7 +3,10 @@ use Rattle.std.specs.Prelude.{◌≡◌, ℕ, ◌+◌, ◌*◌, ◌-◌, ◌<◌
 use Rattle.kw_words.specs.declared.sizes.TheConstants.{CELLS}
 use Rattle.kw_world.specs.declared.answer.Answer.TheVariants as answer
 use Rattle.kw_world.specs.declared.activity.Activity.{Activity}
-use Rattle.kw_world.specs.declared.activity.Activity.TheVariants.{PutCount, PutAdd, PutKey, PutValue, Announce, PutClock, Stamp, PutVersion, InsFrom, InsKey, InsVer, InsSet, Insert, PutClear, BalClock, Leave}
+use Rattle.kw_world.specs.declared.activity.rebalance.engage.Engage.TheVariants as Engage
+use Rattle.kw_world.specs.declared.activity.insert.Insert.TheVariants as Insert
+use Rattle.kw_world.specs.declared.activity.put.Put.TheVariants as Put
+use Rattle.kw_world.specs.declared.activity.rebalance.Rebalance.TheVariants as Rebalance
 use Rattle.kw_world.specs.declared.local.Local.{Local}
 use Rattle.kw_core.specs.Stages.{IsInserting}
 use Rattle.kw_follow.specs.Calling.{KeepsCalls}
@@ -16,8 +19,8 @@ use Rattle.kw_live.specs.Meeting.{MetFull}
 
 -- where a put or a delete stands that ended so at its row
 abbrev pub stands_after : TryPut → Activity
-stands_after Done = Leave answer.Done
-stands_after (RowFull row) = BalClock
+stands_after Done = Activity.Leave answer.Done
+stands_after (RowFull row) = Activity.Rebalance (Rebalance.Engage Engage.Clock)
 
 -- the put found its row full
 abbrev pub Tried : Pass → Pass → ℕ → TryPut → Type 0
@@ -33,20 +36,20 @@ each_walk = 3 * CELLS + 4
 -- how many events a put has yet to make at most, with so many cells met on its walk and so many
 -- exchanges lost. It meets fewer cells, and loses fewer exchanges, than the row has cells
 abbrev pub put_ahead : Activity → ℕ → ℕ → ℕ
-put_ahead PutCount walked lost = CELLS * each_walk + each_walk + 8
-put_ahead PutAdd walked lost = CELLS * each_walk + each_walk + 7
-put_ahead PutKey walked lost = CELLS * each_walk + each_walk + 6
-put_ahead PutValue walked lost = CELLS * each_walk + each_walk + 5
-put_ahead Announce walked lost = CELLS * each_walk + each_walk + 4
-put_ahead PutClock walked lost = CELLS * each_walk + each_walk + 3
-put_ahead Stamp walked lost = CELLS * each_walk + each_walk + 2
-put_ahead PutVersion walked lost = CELLS * each_walk + each_walk + 1
-put_ahead InsFrom walked lost = (CELLS - lost) * each_walk + 3 * (CELLS - walked) + 4
-put_ahead InsKey walked lost = (CELLS - lost) * each_walk + 3 * (CELLS - walked) + 6
-put_ahead InsVer walked lost = (CELLS - lost) * each_walk + 3 * (CELLS - walked) + 5
-put_ahead InsSet walked lost = (CELLS - lost) * each_walk + 3
-put_ahead Insert walked lost = (CELLS - lost) * each_walk + 2
-put_ahead PutClear walked lost = 1
+put_ahead (Activity.Put Put.Count) walked lost = CELLS * each_walk + each_walk + 8
+put_ahead (Activity.Put Put.Add) walked lost = CELLS * each_walk + each_walk + 7
+put_ahead (Activity.Put Put.Key) walked lost = CELLS * each_walk + each_walk + 6
+put_ahead (Activity.Put Put.Value) walked lost = CELLS * each_walk + each_walk + 5
+put_ahead (Activity.Put Put.Announce) walked lost = CELLS * each_walk + each_walk + 4
+put_ahead (Activity.Put Put.Clock) walked lost = CELLS * each_walk + each_walk + 3
+put_ahead (Activity.Put Put.Stamp) walked lost = CELLS * each_walk + each_walk + 2
+put_ahead (Activity.Put Put.Version) walked lost = CELLS * each_walk + each_walk + 1
+put_ahead (Activity.Insert Insert.Link) walked lost = (CELLS - lost) * each_walk + 3 * (CELLS - walked) + 4
+put_ahead (Activity.Insert Insert.Key) walked lost = (CELLS - lost) * each_walk + 3 * (CELLS - walked) + 6
+put_ahead (Activity.Insert Insert.Version) walked lost = (CELLS - lost) * each_walk + 3 * (CELLS - walked) + 5
+put_ahead (Activity.Insert Insert.Set) walked lost = (CELLS - lost) * each_walk + 3
+put_ahead (Activity.Insert Insert.Exchange) walked lost = (CELLS - lost) * each_walk + 2
+put_ahead (Activity.Put Put.Clear) walked lost = 1
 put_ahead _ walked lost = 0
 
 -- a put has made events along its row's list, one or more. It still inserts its cell there, and has

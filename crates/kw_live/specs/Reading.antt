@@ -6,7 +6,9 @@ use Rattle.kw_model.specs.declared.call.Call.TheVariants.{Get, Scan}
 use Rattle.kw_world.specs.declared.answer.Answer.TheVariants.{Pairs}
 use Rattle.kw_world.specs.Answers.{answer_found}
 use Rattle.kw_world.specs.declared.activity.Activity.{Activity}
-use Rattle.kw_world.specs.declared.activity.Activity.TheVariants.{Walk, Look, LookKey, LookClock, LookHelp, ListFrom, ListKey, ListVer, ListVal, RestKey, RestVal, ClearScan, Leave}
+use Rattle.kw_world.specs.declared.activity.look.Look.TheVariants as Look
+use Rattle.kw_world.specs.declared.activity.read.Read.TheVariants as Read
+use Rattle.kw_world.specs.declared.activity.walk.Walk.TheVariants as Walk
 use Rattle.kw_world.specs.declared.limits.TheConstants.{NEWEST}
 use Rattle.kw_world.specs.declared.local.Local.{Local}
 use Rattle.kw_world.specs.Sizes.{Sizes, product}
@@ -22,34 +24,26 @@ use Rattle.kw_follow.specs.Within.{looking}
 
 -- the reader looks at the entries of the row
 abbrev pub is_looking : Activity → Bool
-is_looking (Look i) = true
-is_looking LookKey = true
-is_looking LookClock = true
-is_looking LookHelp = true
+is_looking (Activity.Look _) = true
 is_looking _ = false
 
 -- the reader goes along the row's list, or reads what it remembers and did not meet there
 abbrev pub is_reading_list : Activity → Bool
-is_reading_list ListFrom = true
-is_reading_list ListKey = true
-is_reading_list ListVer = true
-is_reading_list ListVal = true
-is_reading_list RestKey = true
-is_reading_list RestVal = true
+is_reading_list (Activity.Read _) = true
 is_reading_list _ = false
 
 -- the reader goes along the row's list
 abbrev pub is_listing : Activity → Bool
-is_listing ListFrom = true
-is_listing ListKey = true
-is_listing ListVer = true
-is_listing ListVal = true
+is_listing (Activity.Read Read.Link) = true
+is_listing (Activity.Read Read.Key) = true
+is_listing (Activity.Read Read.Version) = true
+is_listing (Activity.Read Read.Value) = true
 is_listing _ = false
 
 -- the reader is at a cell that it remembers of the entries and did not meet in the list
 abbrev pub is_at_remembered : Activity → Bool
-is_at_remembered RestKey = true
-is_at_remembered RestVal = true
+is_at_remembered (Activity.Read Read.LeftOverKey) = true
+is_at_remembered (Activity.Read Read.LeftOverValue) = true
 is_at_remembered _ = false
 
 -- nothing is announced in the entry
@@ -62,14 +56,14 @@ pub record LooksOn (l m : Local) : Type 0 where
   pub call : m.call ≡ l.call
   pub want : m.want ≡ l.want
   pub version : m.version ≡ l.version
-  pub stage : is_looking m.activity ≡ false → m.activity ≡ ListFrom
+  pub stage : is_looking m.activity ≡ false → m.activity ≡ Activity.Read Read.Link
 
 -- how many events of looking a reader has yet to make at most, by the entry that it is at
 abbrev pub look_ahead : Sizes → Activity → ℕ → ℕ
-look_ahead z (Look i) looked = 4 * (z.seats - i) + 4
-look_ahead z LookKey looked = 4 * (z.seats - looked) + 3
-look_ahead z LookClock looked = 4 * (z.seats - looked) + 2
-look_ahead z LookHelp looked = 4 * (z.seats - looked) + 1
+look_ahead z (Activity.Look (Look.Entry i)) looked = 4 * (z.seats - i) + 4
+look_ahead z (Activity.Look Look.Key) looked = 4 * (z.seats - looked) + 3
+look_ahead z (Activity.Look Look.Clock) looked = 4 * (z.seats - looked) + 2
+look_ahead z (Activity.Look Look.Help) looked = 4 * (z.seats - looked) + 1
 look_ahead z _ looked = 0
 
 -- the same, of what code knows
@@ -106,7 +100,7 @@ pub record LooksUpTo (s : Shared) (p : Pass) (l : Local) (from entry told : ℕ)
 -- the one that it wanted and not above the range, and the keys of all pairs of this row are below
 -- it
 pub record GoesOn (want upto version : ℕ) (m : Local) : Type 0 where
-  pub activity : m.activity ≡ Walk
+  pub activity : m.activity ≡ Activity.Walk Walk.Next
   pub rises : want < m.want
   pub within : m.want ≤ upto
   pub read : m.has_read ≡ true
@@ -115,8 +109,8 @@ pub record GoesOn (want upto version : ℕ) (m : Local) : Type 0 where
 -- what a reader of this row gave: a get its answer, and a scan, which wanted this key at this
 -- version, the pairs that the gathered cells show
 abbrev pub HasReadAs : Option Call → ℕ → ℕ → Local → List (ℕ × ℕ) → List (ℕ × ℕ) → Type 0
-HasReadAs (Some (Get key)) want version m before after = (m.activity ≡ Leave (answer_found (shown_at m.gathered NEWEST key))) × (after ≡ before)
-HasReadAs (Some (Scan from upto)) want version m before after = (GoesOn want upto version m ⊎ (m.activity ≡ ClearScan Pairs)) × (after ≡ before ++ pairs_of m.gathered want upto version)
+HasReadAs (Some (Get key)) want version m before after = (m.activity ≡ Activity.Leave (answer_found (shown_at m.gathered NEWEST key))) × (after ≡ before)
+HasReadAs (Some (Scan from upto)) want version m before after = (GoesOn want upto version m ⊎ (m.activity ≡ Activity.EndScan Pairs)) × (after ≡ before ++ pairs_of m.gathered want upto version)
 HasReadAs _ want version m before after = Unit {0}
 
 -- the same, of the call of the local with which the reader came to the row
@@ -126,12 +120,12 @@ HasRead l m before after = HasReadAs l.call l.want l.version m before after
 -- how many events of reading a reader has yet to make at most, with so many cells met on its walk
 -- and so many remembered
 abbrev pub read_ahead : Sizes → Activity → ℕ → ℕ → ℕ
-read_ahead z ListFrom walked marks = 4 * (z.cells - walked) + 2 * marks + 1
-read_ahead z ListKey walked marks = 4 * (z.cells - walked) + 2 * marks + 4
-read_ahead z ListVer walked marks = 4 * (z.cells - walked) + 2 * marks + 3
-read_ahead z ListVal walked marks = 4 * (z.cells - walked) + 2 * marks + 2
-read_ahead z RestKey walked marks = 2 * marks + 2
-read_ahead z RestVal walked marks = 2 * marks + 1
+read_ahead z (Activity.Read Read.Link) walked marks = 4 * (z.cells - walked) + 2 * marks + 1
+read_ahead z (Activity.Read Read.Key) walked marks = 4 * (z.cells - walked) + 2 * marks + 4
+read_ahead z (Activity.Read Read.Version) walked marks = 4 * (z.cells - walked) + 2 * marks + 3
+read_ahead z (Activity.Read Read.Value) walked marks = 4 * (z.cells - walked) + 2 * marks + 2
+read_ahead z (Activity.Read Read.LeftOverKey) walked marks = 2 * marks + 2
+read_ahead z (Activity.Read Read.LeftOverValue) walked marks = 2 * marks + 1
 read_ahead z _ walked marks = 0
 
 -- the same, of what code knows

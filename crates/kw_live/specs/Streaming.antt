@@ -5,7 +5,8 @@ use Rattle.kw_words.specs.declared.sizes.TheConstants.{CELLS}
 use Rattle.kw_cells.specs.Cells.{pairs_of}
 use Rattle.kw_cells.specs.InOrder.{AreInOrder, stands_before}
 use Rattle.kw_cells.specs.declared.cell.Cell.{Cell}
-use Rattle.kw_world.specs.declared.activity.Activity.TheVariants.{ListFrom}
+use Rattle.kw_world.specs.declared.activity.Activity.TheVariants as Activity
+use Rattle.kw_world.specs.declared.activity.read.Read.TheVariants as Read
 use Rattle.kw_world.specs.declared.local.Local.{Local}
 use Rattle.kw_table.specs.declared.pass.Pass.{Pass}
 use Rattle.kw_table.specs.declared.shared.Shared.{Shared}
@@ -18,7 +19,7 @@ use Rattle.kw_live.specs.Reading.{GoesOn}
 -- the local of a scan whose cursor is here and that has gathered these cells, of which code holds
 -- none
 abbrev pub streaming : Cursor → List Cell → Local → Local
-streaming w cells l = with_cursor ListFrom w (record l { gathered = cells })
+streaming w cells l = with_cursor (Activity.Read Read.Link) w (record l { gathered = cells })
 
 -- nothing is remembered of the row's entries, and another row comes after it, which begins in the
 -- range up to this key

@@ -2,7 +2,7 @@
 use Rattle.std.specs.Prelude.{◌≡◌, ◌⊎◌, ℕ, ◌+◌, ◌*◌, ◌-◌, ◌<◌, true, Option}
 use Rattle.kw_model.specs.declared.call.Call.{Call}
 use Rattle.kw_world.specs.declared.activity.Activity.{Activity}
-use Rattle.kw_world.specs.declared.activity.Activity.TheVariants.{Start, Head, GuessMin, Walk, WalkMin}
+use Rattle.kw_world.specs.declared.activity.walk.Walk.TheVariants as Walk
 use Rattle.kw_world.specs.declared.local.Local.{Local}
 use Rattle.kw_core.specs.Stages.{is_walking}
 use Rattle.kw_table.specs.declared.pass.Pass.{Pass}
@@ -26,11 +26,11 @@ pub record WalksOn (l m : Local) : Type 0 where
 -- how many events a walk has yet to make at most, by the least key that it knows and the key that
 -- it wants
 abbrev pub walk_ahead : Activity → ℕ → ℕ → ℕ
-walk_ahead Start lower want = 2 * (want + 1) + 5
-walk_ahead GuessMin lower want = 2 * (want + 1) + 4
-walk_ahead Head lower want = 2 * (want + 1) + 3
-walk_ahead Walk lower want = 2 * (want + 1 - lower) + 2
-walk_ahead WalkMin lower want = 2 * (want + 1 - lower) + 1
+walk_ahead (Activity.Walk Walk.Start) lower want = 2 * (want + 1) + 5
+walk_ahead (Activity.Walk Walk.GuessedLeast) lower want = 2 * (want + 1) + 4
+walk_ahead (Activity.Walk Walk.First) lower want = 2 * (want + 1) + 3
+walk_ahead (Activity.Walk Walk.Next) lower want = 2 * (want + 1 - lower) + 2
+walk_ahead (Activity.Walk Walk.NextLeast) lower want = 2 * (want + 1 - lower) + 1
 walk_ahead _ lower want = 0
 
 -- the same, of what code knows

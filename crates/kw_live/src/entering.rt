@@ -17,6 +17,8 @@ use kw_follow::{begin, clear, end, go, go_along, go_draw};
 use kw_model::call::{Call, Reply};
 use kw_table::{Pass, Shared};
 use kw_world::activity::Activity;
+use kw_world::activity::draw::Draw;
+use kw_world::activity::walk::Walk;
 use kw_world::answer::Answer;
 use kw_world::event::Choice;
 use kw_world::local::Local;
@@ -44,7 +46,7 @@ pub fn enter(shared: &Shared, pass: &mut Pass, local: &mut Local, call: Call)
 {
     begin(shared, pass, local, call);
     go_along(shared, pass, local);
-    if let Activity::ScanClock = local.activity {
+    if let Activity::Draw(_) = local.activity {
         draw(shared, pass, local);
     }
 }
@@ -55,11 +57,11 @@ pub fn enter(shared: &Shared, pass: &mut Pass, local: &mut Local, call: Call)
 /// It is the same call: what the pass has seen has no new one. Takes no memory.
 pub fn enter_anew(shared: &Shared, pass: &mut Pass, local: &mut Local)
     requires follows { Follows shared.now pass.old local.old }
-    requires again { local.old.activity ≡ Activity.Again }
+    requires again { local.old.activity ≡ Activity.Retry }
     requires update { is_put local.old.call ≡ true }
     ensures goes { GoesTo shared.now pass.old pass.new }
     ensures follows { Follows shared.now pass.new local.new }
-    ensures starts { local.new.activity ≡ Activity.Start }
+    ensures starts { local.new.activity ≡ Activity.Walk Walk.Start }
     ensures call { local.new.call ≡ local.old.call }
     ensures calls { KeepsCalls pass.old pass.new }
     ensures held { held pass.new ≡ held pass.old }
@@ -72,7 +74,7 @@ pub fn enter_anew(shared: &Shared, pass: &mut Pass, local: &mut Local)
 // A scan gets its version.
 fn draw(shared: &Shared, pass: &mut Pass, local: &mut Local)
     requires follows { Follows shared.now pass.old local.old }
-    requires activity { local.old.activity ≡ Activity.ScanClock }
+    requires activity { local.old.activity ≡ Activity.Draw Draw.Clock }
     requires scan { is_scan local.old.call ≡ true }
     ensures goes { GoesTo shared.now pass.old pass.new }
     ensures follows { Follows shared.now pass.new local.new }
@@ -85,7 +87,7 @@ fn draw(shared: &Shared, pass: &mut Pass, local: &mut Local)
         × ((local.new.activity ≡ Activity.Leave Answer.Spent) ↔ (SPENT ≤ clock)) }
 {
     go_draw(shared, pass, local);
-    if let Activity::ScanWait = local.activity {
+    if let Activity::Draw(_) = local.activity {
         go_draw(shared, pass, local);
         go_draw(shared, pass, local);
         go_draw(shared, pass, local);
@@ -95,12 +97,12 @@ fn draw(shared: &Shared, pass: &mut Pass, local: &mut Local)
 /// Ends a scan that has all its pairs: it is then about to leave with them.
 pub fn end_scan(shared: &Shared, pass: &mut Pass, local: &mut Local)
     requires follows { Follows shared.now pass.old local.old }
-    requires over { (answer : Answer) × (local.old.activity ≡ Activity.ClearScan answer) }
+    requires over { (answer : Answer) × (local.old.activity ≡ Activity.EndScan answer) }
     ensures goes { GoesTo shared.now pass.old pass.new }
     ensures follows { Follows shared.now pass.new local.new }
-    ensures leaves { (answer : Answer) → activity_in pass.old ≡ Activity.ClearScan answer →
+    ensures leaves { (answer : Answer) → activity_in pass.old ≡ Activity.EndScan answer →
         activity_in pass.new ≡ Activity.Leave answer }
-    ensures activity { (answer : Answer) → local.old.activity ≡ Activity.ClearScan answer →
+    ensures activity { (answer : Answer) → local.old.activity ≡ Activity.EndScan answer →
         local.new.activity ≡ Activity.Leave answer }
     ensures calls { KeepsCalls pass.old pass.new }
     ensures held { held pass.new ≡ held pass.old }
@@ -112,15 +114,15 @@ pub fn end_scan(shared: &Shared, pass: &mut Pass, local: &mut Local)
 pub fn stop_scan(shared: &Shared, pass: &mut Pass, local: &mut Local)
     requires follows { Follows shared.now pass.old local.old }
     requires scan { is_scan local.old.call ≡ true }
-    requires stage { ((local.old.activity ≡ Activity.Walk) × (local.old.has_read ≡ true))
-        ⊎ ((answer : Answer) × (local.old.activity ≡ Activity.ClearScan answer)) }
+    requires stage { ((local.old.activity ≡ Activity.Walk Walk.Next) × (local.old.has_read ≡ true))
+        ⊎ ((answer : Answer) × (local.old.activity ≡ Activity.EndScan answer)) }
     ensures goes { GoesTo shared.now pass.old pass.new }
     ensures follows { Follows shared.now pass.new local.new }
     ensures leaves { activity_in pass.new ≡ Activity.Leave Answer.Stopped }
     ensures activity { local.new.activity ≡ Activity.Leave Answer.Stopped }
     ensures calls { KeepsCalls pass.old pass.new }
 {
-    if let Activity::ClearScan(_) = local.activity {
+    if let Activity::EndScan(_) = local.activity {
         clear(shared, pass, local, Choice::Stop);
     } else {
         go(shared, pass, local, Choice::Stop);

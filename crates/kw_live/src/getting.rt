@@ -31,6 +31,9 @@ use kw_words::plain::unpack_key;
 use kw_words::sizes::SEAT_COUNT;
 use kw_words::state::State;
 use kw_world::activity::Activity;
+use kw_world::activity::look::Look;
+use kw_world::activity::read::Read;
+use kw_world::activity::walk::Walk;
 use kw_world::local::Local;
 
 /// The value of a key, if it has one: a whole call of an idle pass.
@@ -54,7 +57,7 @@ pub fn get(
 {
     let way = Way::enter(shared, pass, key);
     let place = set_out(shared, pass, way, guess);
-    if let Activity::Look(_) = place.activity {
+    if let Activity::Look(Look::Entry(_)) = place.activity {
         return get_there(shared, pass, local, place.way);
     }
     place.way.write(local, place.activity);
@@ -73,7 +76,7 @@ struct Place {
 // row, or is still on its way.
 #[inline(always)]
 fn set_out(shared: &Shared, pass: &mut Pass, way: Way, guess: Option<u32>) -> Place
-    requires { Follows shared.now pass.old (on_way Activity.Start way) }
+    requires { Follows shared.now pass.old (on_way (Activity.Walk Walk.Start) way) }
     ensures gets { Reaches shared.now pass.old pass.new (on_way result.activity result.way) }
     ensures key { result.way.key ≡ way.key }
     ensures under_way { IsUnderWay (Some (Call.Get way.key)) result.activity }
@@ -81,7 +84,7 @@ fn set_out(shared: &Shared, pass: &mut Pass, way: Way, guess: Option<u32>) -> Pl
     match guess {
         Some(row) if row < shared.rows() => try_row(shared, pass, way, row),
         _ => Place {
-            activity: Activity::Start,
+            activity: Activity::Walk(Walk::Start),
             way,
         },
     }
@@ -90,7 +93,7 @@ fn set_out(shared: &Shared, pass: &mut Pass, way: Way, guess: Option<u32>) -> Pl
 // The walk that begins at this row of the table.
 #[inline(always)]
 fn try_row(shared: &Shared, pass: &mut Pass, way: Way, row: u32) -> Place
-    requires follows { Follows shared.now pass.old (on_way Activity.Start way) }
+    requires follows { Follows shared.now pass.old (on_way (Activity.Walk Walk.Start) way) }
     requires in_range { row < shared.now.opening.rows }
     ensures gets { Reaches shared.now pass.old pass.new (on_way result.activity result.way) }
     ensures key { result.way.key ≡ way.key }
@@ -100,7 +103,7 @@ fn try_row(shared: &Shared, pass: &mut Pass, way: Way, row: u32) -> Place
     let state = way.load_state(shared, pass, row);
     if !is_normal(state) {
         return Place {
-            activity: Activity::Head,
+            activity: Activity::Walk(Walk::First),
             way,
         };
     }
@@ -109,7 +112,7 @@ fn try_row(shared: &Shared, pass: &mut Pass, way: Way, row: u32) -> Place
     let least = unpack_key(tried.load_least(shared, pass));
     if least > way.key {
         return Place {
-            activity: Activity::Head,
+            activity: Activity::Walk(Walk::First),
             way: tried,
         };
     }
@@ -121,7 +124,7 @@ fn try_row(shared: &Shared, pass: &mut Pass, way: Way, row: u32) -> Place
 // row's least key is above it.
 #[inline(always)]
 fn step_on(shared: &Shared, pass: &mut Pass, way: Way) -> Place
-    requires { Follows shared.now pass.old (on_way Activity.Walk way) }
+    requires { Follows shared.now pass.old (on_way (Activity.Walk Walk.Next) way) }
     ensures gets { Reaches shared.now pass.old pass.new (on_way result.activity result.way) }
     ensures key { result.way.key ≡ way.key }
     ensures under_way { IsUnderWay (Some (Call.Get way.key)) result.activity }
@@ -131,7 +134,7 @@ fn step_on(shared: &Shared, pass: &mut Pass, way: Way) -> Place
         next.next = None;
         next.upper = 0;
         return Place {
-            activity: Activity::Look(0),
+            activity: Activity::Look(Look::Entry(0)),
             way: next,
         };
     };
@@ -141,14 +144,14 @@ fn step_on(shared: &Shared, pass: &mut Pass, way: Way) -> Place
         next.row = row;
         next.lower = least;
         return Place {
-            activity: Activity::Walk,
+            activity: Activity::Walk(Walk::Next),
             way: next,
         };
     }
     next.next = Some(row);
     next.upper = least;
     Place {
-        activity: Activity::Look(0),
+        activity: Activity::Look(Look::Entry(0)),
         way: next,
     }
 }
@@ -164,7 +167,7 @@ fn is_normal(state: u64) -> bool
 // The get at its row.
 #[inline(always)]
 fn get_there(shared: &Shared, pass: &mut Pass, local: &mut Local, way: Way) -> Option<u64>
-    requires follows { Follows shared.now pass.old (on_way (Activity.Look 0) way) }
+    requires follows { Follows shared.now pass.old (on_way ((Activity.Look (Look.Entry 0))) way) }
     requires rested { local.old ≡ resting 0 }
     ensures { HasGot shared.now pass.old pass.new result local.new }
 {
@@ -174,7 +177,7 @@ fn get_there(shared: &Shared, pass: &mut Pass, local: &mut Local, way: Way) -> O
         end_resting(shared, pass);
         return value;
     }
-    way.write(local, Activity::Look(seen.entry));
+    way.write(local, Activity::Look(Look::Entry(seen.entry)));
     meet_entry(local, seen.entry, seen.found);
     get_slowly(shared, pass, local, way.key)
 }
@@ -182,7 +185,7 @@ fn get_there(shared: &Shared, pass: &mut Pass, local: &mut Local, way: Way) -> O
 // The rest of a get of this key that has come to its row, by its local.
 fn get_slowly(shared: &Shared, pass: &mut Pass, local: &mut Local, key: u32) -> Option<u64>
     requires follows { Follows shared.now pass.old local.old }
-    requires stage { is_looking local.old.activity ≡ false → local.old.activity ≡ Activity.ListFrom }
+    requires stage { is_looking local.old.activity ≡ false → local.old.activity ≡ Activity.Read Read.Link }
     requires call { local.old.call ≡ Some (Call.Get key) }
     ensures { HasGot shared.now pass.old pass.new result local.new }
 {

@@ -11,6 +11,7 @@ use kw_follow::{Cursor, meet_insert_key, meet_insert_link};
 use kw_table::{Pass, Shared};
 use kw_words::plain::{unpack_cell_link, unpack_key};
 use kw_world::activity::Activity;
+use kw_world::activity::insert::Insert;
 use kw_world::calls::first_key;
 use kw_world::local::Local;
 
@@ -18,7 +19,7 @@ use kw_world::local::Local;
 /// the first other cell or the end of the list, and on to what the put does there. Takes no memory.
 pub(crate) fn pass_lesser(shared: &Shared, pass: &mut Pass, local: &mut Local)
     requires follows { Follows shared.now pass.old local.old }
-    requires activity { local.old.activity ≡ Activity.InsFrom }
+    requires activity { local.old.activity ≡ Activity.Insert Insert.Link }
     ensures { InsertsFurther shared.now pass.old local.old pass.new local.new }
 {
     let own = first_key(local.call);
@@ -26,7 +27,7 @@ pub(crate) fn pass_lesser(shared: &Shared, pass: &mut Pass, local: &mut Local)
     loop {
         let link = cursor.load_insert_link(shared, pass);
         let Some(cell) = unpack_cell_link(link) else {
-            cursor.write(local, Activity::InsFrom);
+            cursor.write(local, Activity::Insert(Insert::Link));
             meet_insert_link(local, link);
             return;
         };
@@ -35,7 +36,7 @@ pub(crate) fn pass_lesser(shared: &Shared, pass: &mut Pass, local: &mut Local)
         if unpack_key(word) < own {
             cursor = met.past();
         } else {
-            met.write(local, Activity::InsKey);
+            met.write(local, Activity::Insert(Insert::Key));
             meet_insert_key(local, word);
             return;
         }

@@ -13,6 +13,7 @@ use kw_follow::{Cursor, go_to_rest};
 use kw_table::{Pass, Shared};
 use kw_words::plain::{unpack_cell_link, unpack_key};
 use kw_world::activity::Activity;
+use kw_world::activity::read::Read;
 use kw_world::calls::{first_key, last_key};
 use kw_world::local::Local;
 
@@ -21,7 +22,7 @@ use kw_world::local::Local;
 /// more. Takes no memory.
 pub(crate) fn read_listed(shared: &Shared, pass: &mut Pass, local: &mut Local)
     requires follows { Follows shared.now pass.old local.old }
-    requires activity { local.old.activity ≡ Activity.ListFrom }
+    requires activity { local.old.activity ≡ Activity.Read Read.Link }
     ensures reads { ReadsOn shared.now pass.old local.old pass.new local.new }
     ensures over { is_listing local.new.activity ≡ false }
 {
@@ -31,7 +32,7 @@ pub(crate) fn read_listed(shared: &Shared, pass: &mut Pass, local: &mut Local)
     loop {
         let link = cursor.load_link(shared, pass);
         let Some(cell) = unpack_cell_link(link) else {
-            cursor.write(local, Activity::ListFrom);
+            cursor.write(local, Activity::Read(Read::Link));
             go_to_rest(local);
             return;
         };
@@ -45,7 +46,7 @@ pub(crate) fn read_listed(shared: &Shared, pass: &mut Pass, local: &mut Local)
             let ranged = met.with_key(key);
             cursor = gather_cell(shared, pass, local, ranged);
         } else {
-            met.write(local, Activity::ListKey);
+            met.write(local, Activity::Read(Read::Key));
             go_to_rest(local);
             return;
         }
@@ -56,9 +57,9 @@ pub(crate) fn read_listed(shared: &Shared, pass: &mut Pass, local: &mut Local)
 // the link after it.
 #[inline(always)]
 fn gather_cell(shared: &Shared, pass: &mut Pass, local: &mut Local, cursor: Cursor) -> Cursor
-    requires { Follows shared.now pass.old (with_cursor Activity.ListVer cursor local.old) }
-    ensures { ReadsOn shared.now pass.old (with_cursor Activity.ListVer cursor local.old)
-        pass.new (with_cursor Activity.ListFrom result local.new) }
+    requires { Follows shared.now pass.old (with_cursor (Activity.Read Read.Version) cursor local.old) }
+    ensures { ReadsOn shared.now pass.old (with_cursor (Activity.Read Read.Version) cursor local.old)
+        pass.new (with_cursor (Activity.Read Read.Link) result local.new) }
 {
     let version = cursor.load_version(shared, pass);
     let read = cursor.with_version(version);

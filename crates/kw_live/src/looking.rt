@@ -16,17 +16,19 @@ use kw_table::{Pass, Shared};
 use kw_words::pend::Pend;
 use kw_words::sizes::SEAT_COUNT;
 use kw_world::activity::Activity;
+use kw_world::activity::look::Look;
+use kw_world::activity::read::Read;
 use kw_world::local::Local;
 
 /// Looks at all entries that the reader has yet to look at, and helps the puts that it meets there.
 /// The reader then stands at the first link of the row's list. Takes no memory.
 pub(crate) fn look_at_entries(shared: &Shared, pass: &mut Pass, local: &mut Local)
     requires follows { Follows shared.now pass.old local.old }
-    requires stage { is_looking local.old.activity ≡ false → local.old.activity ≡ Activity.ListFrom }
+    requires stage { is_looking local.old.activity ≡ false → local.old.activity ≡ Activity.Read Read.Link }
     ensures goes { GoesTo shared.now pass.old pass.new }
     ensures follows { Follows shared.now pass.new local.new }
     ensures looks { LooksOn local.old local.new }
-    ensures activity { local.new.activity ≡ Activity.ListFrom }
+    ensures activity { local.new.activity ≡ Activity.Read Read.Link }
     ensures calls { KeepsCalls pass.old pass.new }
     ensures held { held pass.new ≡ held pass.old }
 {
@@ -43,7 +45,7 @@ fn look_on(shared: &Shared, pass: &mut Pass, local: &mut Local)
     ensures { LooksFurther shared.now pass.old local.old pass.new local.new }
 {
     match local.activity {
-        Activity::Look(entry) => look_from(shared, pass, local, entry),
+        Activity::Look(Look::Entry(entry)) => look_from(shared, pass, local, entry),
         _ => {
             go_along(shared, pass, local);
         }
@@ -55,11 +57,11 @@ fn look_on(shared: &Shared, pass: &mut Pass, local: &mut Local)
 #[inline(always)]
 fn look_from(shared: &Shared, pass: &mut Pass, local: &mut Local, entry: u32)
     requires follows { Follows shared.now pass.old local.old }
-    requires activity { local.old.activity ≡ Activity.Look entry }
+    requires activity { local.old.activity ≡ Activity.Look (Look.Entry entry) }
     ensures { LooksFurther shared.now pass.old local.old pass.new local.new }
 {
     let seen = look_along(shared, pass, local.row, entry);
-    local.activity = Activity::Look(seen.entry);
+    local.activity = Activity::Look(Look::Entry(seen.entry));
     meet_entry(local, seen.entry, seen.found);
 }
 
@@ -107,7 +109,7 @@ fn is_looking(activity: &Activity) -> bool
     ensures { result ≡ is_looking activity.now }
 {
     match activity {
-        Activity::Look(_) | Activity::LookKey | Activity::LookClock | Activity::LookHelp => true,
+        Activity::Look(_) => true,
         _ => false,
     }
 }

@@ -14,13 +14,14 @@ use kw_follow::{Cursor, Way};
 use kw_table::{Pass, Shared};
 use kw_words::plain::{unpack_cell_link, unpack_key};
 use kw_world::activity::Activity;
+use kw_world::activity::read::Read;
 
 /// Goes along the list of the row of a get that has looked at its entries and remembers nothing of
 /// them, to the end of the list or to the first key above its own. The answer is what the newest
 /// cell of its key shows. Takes no memory.
 #[inline(always)]
 pub(crate) fn read_newest(shared: &Shared, pass: &mut Pass, way: Way) -> Option<u64>
-    requires { Follows shared.now pass.old (on_way Activity.ListFrom way) }
+    requires { Follows shared.now pass.old (on_way (Activity.Read Read.Link) way) }
     ensures { HasFound shared.now pass.old pass.new result }
 {
     let mut newest: Option<Cell> = None;

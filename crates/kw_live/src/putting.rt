@@ -13,6 +13,8 @@ use crate::inserting::pass_lesser;
 use kw_follow::go_put;
 use kw_table::{Pass, Shared};
 use kw_world::activity::Activity;
+use kw_world::activity::insert::Insert;
+use kw_world::activity::put::Put;
 use kw_world::local::Local;
 
 /// How a put or a delete ended at its row.
@@ -32,7 +34,7 @@ pub enum TryPut {
 /// that is done does not tidy its row. Takes no memory.
 pub fn try_put(shared: &Shared, pass: &mut Pass, local: &mut Local) -> TryPut
     requires follows { Follows shared.now pass.old local.old }
-    requires activity { local.old.activity ≡ Activity.PutCount }
+    requires activity { local.old.activity ≡ Activity.Put Put.Count }
     ensures goes { GoesTo shared.now pass.old pass.new }
     ensures follows { Follows shared.now pass.new local.new }
     ensures stands { local.new.activity ≡ stands_after result }
@@ -45,7 +47,7 @@ pub fn try_put(shared: &Shared, pass: &mut Pass, local: &mut Local) -> TryPut
     let row = local.row;
     while is_putting(&local.activity) {
         match local.activity {
-            Activity::InsFrom => pass_lesser(shared, pass, local),
+            Activity::Insert(Insert::Link) => pass_lesser(shared, pass, local),
             _ => {
                 go_put(shared, pass, local);
             }
@@ -63,20 +65,7 @@ fn is_putting(activity: &Activity) -> bool
     ensures { result ≡ is_putting activity.now }
 {
     match activity {
-        Activity::PutCount
-        | Activity::PutAdd
-        | Activity::PutKey
-        | Activity::PutValue
-        | Activity::Announce
-        | Activity::PutClock
-        | Activity::Stamp
-        | Activity::PutVersion
-        | Activity::InsFrom
-        | Activity::InsKey
-        | Activity::InsVer
-        | Activity::InsSet
-        | Activity::Insert
-        | Activity::PutClear => true,
+        Activity::Put(_) | Activity::Insert(_) => true,
         _ => false,
     }
 }

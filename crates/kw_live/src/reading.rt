@@ -10,6 +10,7 @@ use crate::looking::look_at_entries;
 use kw_follow::go_remembered;
 use kw_table::{Pass, Shared};
 use kw_world::activity::Activity;
+use kw_world::activity::read::Read;
 use kw_world::local::Local;
 
 /// Reads the row that the call stands at: its entries first, helping the puts that it meets there,
@@ -25,7 +26,7 @@ use kw_world::local::Local;
 /// next row.
 pub fn read_row(shared: &Shared, pass: &mut Pass, local: &mut Local)
     requires follows { Follows shared.now pass.old local.old }
-    requires stage { is_looking local.old.activity ≡ false → local.old.activity ≡ Activity.ListFrom }
+    requires stage { is_looking local.old.activity ≡ false → local.old.activity ≡ Activity.Read Read.Link }
     ensures goes { GoesTo shared.now pass.old pass.new }
     ensures follows { Follows shared.now pass.new local.new }
     ensures call { local.new.call ≡ local.old.call }
@@ -42,11 +43,11 @@ pub fn read_row(shared: &Shared, pass: &mut Pass, local: &mut Local)
 /// about to go along the row's list. Takes no memory.
 pub fn look_at_row(shared: &Shared, pass: &mut Pass, local: &mut Local)
     requires follows { Follows shared.now pass.old local.old }
-    requires stage { is_looking local.old.activity ≡ false → local.old.activity ≡ Activity.ListFrom }
+    requires stage { is_looking local.old.activity ≡ false → local.old.activity ≡ Activity.Read Read.Link }
     ensures goes { GoesTo shared.now pass.old pass.new }
     ensures follows { Follows shared.now pass.new local.new }
     ensures looks { LooksOn local.old local.new }
-    ensures activity { local.new.activity ≡ Activity.ListFrom }
+    ensures activity { local.new.activity ≡ Activity.Read Read.Link }
     ensures calls { KeepsCalls pass.old pass.new }
     ensures held { held pass.new ≡ held pass.old }
 {
@@ -61,7 +62,7 @@ pub fn look_at_row(shared: &Shared, pass: &mut Pass, local: &mut Local)
 /// of them, to the end of the row, as `read_row` does. Takes no memory.
 pub fn read_list(shared: &Shared, pass: &mut Pass, local: &mut Local)
     requires follows { Follows shared.now pass.old local.old }
-    requires activity { local.old.activity ≡ Activity.ListFrom }
+    requires activity { local.old.activity ≡ Activity.Read Read.Link }
     ensures goes { GoesTo shared.now pass.old pass.new }
     ensures follows { Follows shared.now pass.new local.new }
     ensures call { local.new.call ≡ local.old.call }
@@ -94,7 +95,7 @@ fn is_at_remembered(activity: &Activity) -> bool
     ensures { result ≡ is_at_remembered activity.now }
 {
     match activity {
-        Activity::RestKey | Activity::RestVal => true,
+        Activity::Read(Read::LeftOverKey) | Activity::Read(Read::LeftOverValue) => true,
         _ => false,
     }
 }

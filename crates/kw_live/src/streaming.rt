@@ -16,6 +16,7 @@ use kw_model::call::Call;
 use kw_table::{Pass, Shared};
 use kw_words::plain::{unpack_cell_link, unpack_key};
 use kw_world::activity::Activity;
+use kw_world::activity::read::Read;
 use kw_world::local::Local;
 
 /// Whether the cells of the row at whose list a scan up to this key stands may be handed on one by
@@ -61,7 +62,7 @@ pub fn next_cell(
     loop {
         let link = cursor.load_link(shared, pass);
         let Some(cell) = unpack_cell_link(link) else {
-            cursor.write(local, Activity::ListFrom);
+            cursor.write(local, Activity::Read(Read::Link));
             go_to_rest(local);
             return None;
         };
@@ -77,7 +78,7 @@ pub fn next_cell(
             let value = read.load_value(shared, pass);
             return Some((read.cell(value), read.past()));
         } else {
-            met.write(local, Activity::ListKey);
+            met.write(local, Activity::Read(Read::Key));
             go_to_rest(local);
             return None;
         }

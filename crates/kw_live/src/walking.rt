@@ -18,6 +18,8 @@ use kw_table::{Pass, Shared};
 use kw_words::link::Link;
 use kw_words::plain::unpack_key;
 use kw_world::activity::Activity;
+use kw_world::activity::look::Look;
+use kw_world::activity::walk::Walk;
 use kw_world::local::Local;
 
 /// Walks to the row whose range holds the key that the call wants.
@@ -38,12 +40,12 @@ pub fn locate(shared: &Shared, pass: &mut Pass, local: &mut Local, guess: Option
     ensures want { local.new.want ≡ local.old.want }
     ensures version { local.new.version ≡ local.old.version }
     ensures has_read { local.new.has_read ≡ local.old.has_read }
-    ensures guess { local.old.activity ≡ Activity.Start →
+    ensures guess { local.old.activity ≡ Activity.Walk Walk.Start →
         BeginsWith pass.old pass.new (guessing guess) }
     ensures calls { KeepsCalls pass.old pass.new }
     ensures held { held pass.new ≡ held pass.old }
 {
-    if let Activity::Start = local.activity {
+    if let Activity::Walk(Walk::Start) = local.activity {
         set_out(shared, pass, local, guess);
     }
     walk(shared, pass, local);
@@ -52,7 +54,7 @@ pub fn locate(shared: &Shared, pass: &mut Pass, local: &mut Local, guess: Option
 // The first event of a walk.
 fn set_out(shared: &Shared, pass: &mut Pass, local: &mut Local, guess: Option<u32>)
     requires follows { Follows shared.now pass.old local.old }
-    requires start { local.old.activity ≡ Activity.Start }
+    requires start { local.old.activity ≡ Activity.Walk Walk.Start }
     ensures goes { GoesTo shared.now pass.old pass.new }
     ensures follows { Follows shared.now pass.new local.new }
     ensures walks { WalksOn local.old local.new }
@@ -96,8 +98,8 @@ fn walk_on(shared: &Shared, pass: &mut Pass, local: &mut Local)
     ensures { WalksFurther shared.now pass.old local.old pass.new local.new }
 {
     match local.activity {
-        Activity::Walk => pass_rows(shared, pass, local),
-        Activity::GuessMin => {
+        Activity::Walk(Walk::Next) => pass_rows(shared, pass, local),
+        Activity::Walk(Walk::GuessedLeast) => {
             go_guess_min(shared, pass, local);
         }
         _ => {
@@ -115,16 +117,16 @@ fn walk_on(shared: &Shared, pass: &mut Pass, local: &mut Local)
 pub fn pass_rows(shared: &Shared, pass: &mut Pass, local: &mut Local)
     requires follows { (cells : List Cell)
         × Follows shared.now pass.old (record local.old { gathered = cells }) }
-    requires forgets { (arrived local.old.call ≡ Activity.Look 0)
+    requires forgets { (arrived local.old.call ≡ Activity.Look (Look.Entry 0))
         ⊎ Follows shared.now pass.old local.old }
-    requires activity { local.old.activity ≡ Activity.Walk }
+    requires activity { local.old.activity ≡ Activity.Walk Walk.Next }
     ensures walks { WalksFurther shared.now pass.old local.old pass.new local.new }
     ensures arrived { local.new.activity ≡ arrived local.old.call }
 {
     loop {
         let link = load_row_link(shared, pass, local.row);
         let Some(row) = linked(link) else {
-            local.activity = Activity::Walk;
+            local.activity = Activity::Walk(Walk::Next);
             meet_row_link(local, link);
             return;
         };
@@ -135,7 +137,7 @@ pub fn pass_rows(shared: &Shared, pass: &mut Pass, local: &mut Local)
             local.row = row;
             local.lower = key;
         } else {
-            local.activity = Activity::WalkMin;
+            local.activity = Activity::Walk(Walk::NextLeast);
             meet_row_least(local, least);
             return;
         }
@@ -160,11 +162,7 @@ fn is_walking(activity: &Activity) -> bool
     ensures { result ≡ is_walking activity.now }
 {
     match activity {
-        Activity::Start
-        | Activity::Head
-        | Activity::GuessMin
-        | Activity::Walk
-        | Activity::WalkMin => true,
+        Activity::Walk(_) => true,
         _ => false,
     }
 }

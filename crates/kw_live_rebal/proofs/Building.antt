@@ -1,7 +1,7 @@
 -- A rebalance that gathers the full row or writes a new one goes on by each event.
 use Rattle.std.proofs.Common.{◌≡◌, ℕ, ◌∙◌, subst}
 use Rattle.kw_world.specs.declared.activity.Activity.{Activity}
-use Rattle.kw_world.specs.declared.activity.Activity.TheVariants.{TakeFrom, TakeKey, TakeVersion, TakeValue, TakeRestKey, TakeRestValue, WriteCount, WriteMin, WriteNext, WriteFirst, WritePend, WriteKey, WriteValue, WriteVersion, WriteAfter}
+use Rattle.kw_world.specs.declared.activity.rebalance.Rebalance.TheVariants as Rebalance
 use Rattle.kw_world.specs.declared.event.Choice.TheVariants.{Go}
 use Rattle.kw_world.specs.declared.event.StepDone.TheVariants.{Moved}
 use Rattle.kw_world.specs.declared.local.Local.{Local}
@@ -20,21 +20,8 @@ use Rattle.kw_live_rebal.proofs.Stages.{keeps_met, stays_untidied}
 
 -- each of its events is one in the middle of a call
 pub building_within : (a : Activity) → IsBuilding a → IsWithinCall a
-building_within TakeFrom h = tt
-building_within TakeKey h = tt
-building_within TakeVersion h = tt
-building_within TakeValue h = tt
-building_within TakeRestKey h = tt
-building_within TakeRestValue h = tt
-building_within WriteCount h = tt
-building_within WriteMin h = tt
-building_within WriteNext h = tt
-building_within WriteFirst h = tt
-building_within (WritePend i) h = tt
-building_within (WriteKey j) h = tt
-building_within (WriteValue j) h = tt
-building_within (WriteVersion j) h = tt
-building_within (WriteAfter j) h = tt
+building_within (Activity.Rebalance (Rebalance.Gather _)) h = tt
+building_within (Activity.Rebalance (Rebalance.Write _)) h = tt
 building_within _ h = absurd h
 
 -- one event goes on

@@ -1,7 +1,8 @@
 -- The end of a rebalance that won: its new rows are made normal, and its row is retired.
 use Rattle.std.proofs.Common.{◌≡◌, ℕ, ◌+◌, Bool, true, false, refl, sym, ◌∙◌, ap, subst, if◌then◌else◌}
 use Rattle.kw_world.specs.declared.activity.Activity.{Activity}
-use Rattle.kw_world.specs.declared.activity.Activity.TheVariants.{Again, Leave, Normalise, Number, Retire}
+use Rattle.kw_world.specs.declared.activity.rebalance.Rebalance.TheVariants as Rebalance
+use Rattle.kw_world.specs.declared.activity.rebalance.replace.Replace.TheVariants as Replace
 use Rattle.kw_world.specs.declared.answer.Answer.TheVariants.{Done}
 use Rattle.kw_world.specs.declared.event.Choice.TheVariants.{Go}
 use Rattle.kw_world.specs.declared.event.StepDone.TheVariants.{Moved}
@@ -20,10 +21,10 @@ use Rattle.kw_follow.proofs.Untidied.{IsAtWork, keeps}
 
 -- where it stands
 abbrev pub IsFinishing : Activity → Type 0
-IsFinishing Normalise = Unit {0}
-IsFinishing Number = Unit {0}
-IsFinishing Retire = Unit {0}
-IsFinishing Again = Unit {0}
+IsFinishing (Activity.Rebalance (Rebalance.Replace Replace.Normalise)) = Unit {0}
+IsFinishing (Activity.Rebalance (Rebalance.Replace Replace.Number)) = Unit {0}
+IsFinishing (Activity.Rebalance (Rebalance.Replace Replace.Retire)) = Unit {0}
+IsFinishing Activity.Retry = Unit {0}
 IsFinishing _ = ⊥
 
 -- what stays through its events
@@ -37,10 +38,10 @@ pub record Finishes (s : Shared) (o p : Pass) (l : Local) : Type 0 where
 
 -- each is one in the middle of a call
 pub finishing_within : (a : Activity) → IsFinishing a → IsWithinCall a
-finishing_within Normalise h = tt
-finishing_within Number h = tt
-finishing_within Retire h = tt
-finishing_within Again h = tt
+finishing_within (Activity.Rebalance (Rebalance.Replace Replace.Normalise)) h = tt
+finishing_within (Activity.Rebalance (Rebalance.Replace Replace.Number)) h = tt
+finishing_within (Activity.Rebalance (Rebalance.Replace Replace.Retire)) h = tt
+finishing_within Activity.Retry h = tt
 finishing_within _ h = absurd h
 
 module _ (rows : ℕ) (l m : Local) (told : ℕ) (line : outcome m Moved ≡ next_of product rows Go l told) (undone : l.tidies ≡ false) where
@@ -49,34 +50,34 @@ module _ (rows : ℕ) (l m : Local) (told : ℕ) (line : outcome m Moved ≡ nex
   activity_is a is = ap (λ (x : Outcome). x.local.activity) (line ∙ ap (λ b. (transition product b 0 Go l).next rows told) is)
 
   -- the next of the new rows is made normal, or its row gets its number
-  normalises : (b : Bool) → IsFinishing (let x : Outcome = if b then to Normalise (at_infant (l.rebalance.at + 1) l) else to Number l in x).local.activity
+  normalises : (b : Bool) → IsFinishing (let x : Outcome = if b then to (Activity.Rebalance (Rebalance.Replace Replace.Normalise)) (at_infant (l.rebalance.at + 1) l) else to (Activity.Rebalance (Rebalance.Replace Replace.Number)) l in x).local.activity
   normalises true = tt
   normalises false = tt
 
   -- a put that is not done tries again
-  ends : (b : Bool) → b ≡ false → IsFinishing (if b then Leave Done else Again)
+  ends : (b : Bool) → b ≡ false → IsFinishing (if b then (Activity.Leave Done) else Activity.Retry)
   ends true e = let x : true ≡ false = e in absurd (cc)
   ends false e = tt
 
-  event : (a : Activity) → l.activity ≡ a → IsFinishing a → (a ≡ Again → ⊥) → IsFinishing m.activity
-  event Normalise is h n = subst IsFinishing (sym (activity_is Normalise is)) (normalises (has_more l))
-  event Number is h n = subst IsFinishing (sym (activity_is Number is)) tt
-  event Retire is h n = subst IsFinishing (sym (activity_is Retire is)) (ends l.tidies undone)
-  event Again is h n = absurd (n refl)
+  event : (a : Activity) → l.activity ≡ a → IsFinishing a → (a ≡ Activity.Retry → ⊥) → IsFinishing m.activity
+  event (Activity.Rebalance (Rebalance.Replace Replace.Normalise)) is h n = subst IsFinishing (sym (activity_is (Activity.Rebalance (Rebalance.Replace Replace.Normalise)) is)) (normalises (has_more l))
+  event (Activity.Rebalance (Rebalance.Replace Replace.Number)) is h n = subst IsFinishing (sym (activity_is (Activity.Rebalance (Rebalance.Replace Replace.Number)) is)) tt
+  event (Activity.Rebalance (Rebalance.Replace Replace.Retire)) is h n = subst IsFinishing (sym (activity_is (Activity.Rebalance (Rebalance.Replace Replace.Retire)) is)) (ends l.tidies undone)
+  event Activity.Retry is h n = absurd (n refl)
   event _ is h n = absurd h
 
   -- an event goes on to where the end still stands
-  pub finishes_on : IsFinishing l.activity → (l.activity ≡ Again → ⊥) → IsFinishing m.activity
+  pub finishes_on : IsFinishing l.activity → (l.activity ≡ Activity.Retry → ⊥) → IsFinishing m.activity
   finishes_on = event l.activity refl
 
   -- and leaves the put as little done as before
-  works : (a : Activity) → IsFinishing a → (a ≡ Again → ⊥) → IsAtWork a
-  works Normalise h n = tt
-  works Number h n = tt
-  works Retire h n = tt
-  works Again h n = absurd (n refl)
+  works : (a : Activity) → IsFinishing a → (a ≡ Activity.Retry → ⊥) → IsAtWork a
+  works (Activity.Rebalance (Rebalance.Replace Replace.Normalise)) h n = tt
+  works (Activity.Rebalance (Rebalance.Replace Replace.Number)) h n = tt
+  works (Activity.Rebalance (Rebalance.Replace Replace.Retire)) h n = tt
+  works Activity.Retry h n = absurd (n refl)
   works _ h n = absurd h
 
-  pub finishes_untidied : IsFinishing l.activity → (l.activity ≡ Again → ⊥) → m.tidies ≡ false
+  pub finishes_untidied : IsFinishing l.activity → (l.activity ≡ Activity.Retry → ⊥) → m.tidies ≡ false
   unfolding transition_of
   finishes_untidied h n = ap (λ (x : Outcome). x.local.tidies) line ∙ keeps product l.activity 0 Go l rows told (works l.activity h n) ∙ undone

@@ -5,7 +5,8 @@ use mathlib.Core.Logic.{⊎_elim}
 use Rattle.kw_world.specs.declared.answer.Answer.{Answer}
 use Rattle.kw_world.specs.declared.answer.Answer.TheVariants as answer
 use Rattle.kw_world.specs.declared.activity.Activity.{Activity}
-use Rattle.kw_world.specs.declared.activity.Activity.TheVariants.{Idle, ListFrom, ListKey, ListVer, ListVal, RestKey, RestVal, ClearScan, Leave, SeekFirst}
+use Rattle.kw_world.specs.declared.activity.rebalance.Rebalance.TheVariants as Rebalance
+use Rattle.kw_world.specs.declared.activity.rebalance.seek.Seek.TheVariants as Seek
 use Rattle.kw_world.specs.declared.local.Local.{Local}
 use Rattle.kw_world.specs.Sizes.{product}
 use Rattle.kw_core.specs.Events.{event}
@@ -28,16 +29,11 @@ use Rattle.kw_live_rebal.specs.Rebalancing.{HasEnded, MetNoRows, MetReplaced, Me
 use Rattle.kw_live_rebal.specs.Standing.{HasMet, MetSearch}
 
 -- an event of a rebalance that is not over is one in the middle of a call
-pub within : (o p : Pass) (l : Local) (a : Activity) → HasMet o p a l → ((x : Answer) → a ≡ Leave x → ⊥) → IsWithinCall a
-within o p l (Leave x) h n = absurd (n x refl)
-within o p l Idle h n = absurd h
-within o p l ListFrom h n = absurd h
-within o p l ListKey h n = absurd h
-within o p l ListVer h n = absurd h
-within o p l ListVal h n = absurd h
-within o p l RestKey h n = absurd h
-within o p l RestVal h n = absurd h
-within o p l (ClearScan answer) h n = absurd h
+pub within : (o p : Pass) (l : Local) (a : Activity) → HasMet o p a l → ((x : Answer) → a ≡ Activity.Leave x → ⊥) → IsWithinCall a
+within o p l (Activity.Leave x) h n = absurd (n x refl)
+within o p l Activity.Idle h n = absurd h
+within o p l (Activity.Read _) h n = absurd h
+within o p l (Activity.EndScan answer) h n = absurd h
 within o p l _ h n = tt
 
 -- What was met earlier is met.
@@ -83,7 +79,7 @@ module _ {s : Shared} (o : Pass) {p q : Pass} (goes : GoesTo s p q) where
 
 -- a pass that began a search since, and is about to leave for want of rows, asked for each row in a
 -- search since
-pub no_rows_from : {s : Shared} {o p : Pass} {l : Local} → GoesTo s o p → Follows s p l → l.activity ≡ Leave answer.NoRows → MetSearch o p → MetNoRows o p
+pub no_rows_from : {s : Shared} {o p : Pass} {l : Local} → GoesTo s o p → Follows s p l → l.activity ≡ Activity.Leave answer.NoRows → MetSearch o p → MetNoRows o p
 no_rows_from {s} {o} {p} {l} goes f is m =
     let why = standing_holds product (view p).opening p.known.opens (view p).seen p.known.valid (view p).number (local_in (view p)) (world-local product (view p).opening (view p).seen (view p).number (seat_within p)) (same_activity s p l f ∙ is) in
     let asked : AskedAll product (view p).opening (view p).seen (view p).number (view p).opening.rows why.0 (now_in p) = why.1 in
@@ -93,7 +89,7 @@ no_rows_from {s} {o} {p} {l} goes f is m =
       first = why.0;
       asked = asked;
       since = ⊎_elim
-          (λ (before : asked.begun < now_in o). absurd (asked.alone (length m.met.front) _ _ (omega (arith, before, began)) front (acts_of_met s o p SeekFirst m.choice m.told goes m.met)))
+          (λ (before : asked.begun < now_in o). absurd (asked.alone (length m.met.front) _ _ (omega (arith, before, began)) front (acts_of_met s o p (Activity.Rebalance (Rebalance.Seek Seek.First)) m.choice m.told goes m.met)))
           (λ (since : now_in o ≤ asked.begun). since)
           (cases_lt asked.begun (now_in o));
     }
@@ -106,7 +102,7 @@ pub record Ends (o p : Pass) (a : Activity) (r : Rebalanced) : Type 0 where
   pub cause : HasEnded o p r
 
 -- for want of rows, or as spent, as its answer says
-pub ends_refused : {s : Shared} {o p : Pass} {l : Local} → GoesTo s o p → Follows s p l → (x : Answer) → l.activity ≡ Leave x → HasMet o p (Leave x) l → (r : Rebalanced) → (x ≡ answer.NoRows → r ≡ NoRows) → (x ≢ answer.NoRows → r ≡ Spent) → Ends o p l.activity r
+pub ends_refused : {s : Shared} {o p : Pass} {l : Local} → GoesTo s o p → Follows s p l → (x : Answer) → l.activity ≡ Activity.Leave x → HasMet o p (Activity.Leave x) l → (r : Rebalanced) → (x ≡ answer.NoRows → r ≡ NoRows) → (x ≢ answer.NoRows → r ≡ Spent) → Ends o p l.activity r
 ends_refused {s} {o} {p} {l} goes f answer.NoRows is h r rows spent = subst (Ends o p l.activity) (sym (rows refl)) (record { stands = is; cause = no_rows_from goes f is h })
 ends_refused {s} {o} {p} {l} goes f answer.Spent is h r rows spent = subst (Ends o p l.activity) (sym (spent (λ e. let x : answer.Spent ≡ answer.NoRows = e in cc))) (record { stands = is; cause = h })
 ends_refused {s} {o} {p} {l} goes f _ is h r rows spent = absurd h

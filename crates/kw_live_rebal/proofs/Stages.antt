@@ -19,7 +19,15 @@ use Rattle.kw_words.specs.Scan.{scan_of}
 use Rattle.kw_words.specs.State.{state_of, state_word}
 use Rattle.kw_world.specs.declared.answer.Answer.{Answer}
 use Rattle.kw_world.specs.declared.activity.Activity.{Activity}
-use Rattle.kw_world.specs.declared.activity.Activity.TheVariants.{Leave, Again, BalClock, BalEpoch, BalState, BalNormal, Engage, MarkLink, Decide, FreezeCount, FreezeLook, Freeze, ScanLook, HelpDraw, HelpSettle, TakeFrom, TakeKey, TakeVersion, TakeValue, TakeRestKey, TakeRestValue, SeekFirst, Seek, SeekPass, Reclaim, TakeRow, GiveBack, WriteCount, WriteMin, WriteNext, WriteFirst, WritePend, WriteKey, WriteValue, WriteVersion, WriteAfter, Before, BeforeGuess, BeforeHead, BeforeLink, BeforeMin, Replace, Normalise, Number, Retire}
+use Rattle.kw_world.specs.declared.activity.rebalance.engage.Engage.TheVariants as Engage
+use Rattle.kw_world.specs.declared.activity.rebalance.freeze.Freeze.TheVariants as Freeze
+use Rattle.kw_world.specs.declared.activity.rebalance.gather.Gather.TheVariants as Gather
+use Rattle.kw_world.specs.declared.activity.rebalance.Rebalance.TheVariants as Rebalance
+use Rattle.kw_world.specs.declared.activity.rebalance.replace.Replace.TheVariants as Replace
+use Rattle.kw_world.specs.declared.activity.rebalance.seek.Seek.TheVariants as Seek
+use Rattle.kw_world.specs.declared.activity.rebalance.write.Write.TheVariants as Write
+use Rattle.kw_world.specs.declared.activity.look.Look.TheVariants as Look
+use Rattle.kw_world.specs.declared.activity.put.Put.TheVariants as Put
 use Rattle.kw_world.specs.declared.event.Choice.{Choice}
 use Rattle.kw_world.specs.declared.event.Choice.TheVariants.{Begin, Go, Guess, Stop}
 use Rattle.kw_world.specs.declared.event.Event.{Event}
@@ -115,11 +123,11 @@ module _ (s : Shared) (o p q : Pass) (l m : Local) (c : Choice) (rows told : ℕ
 
   -- The causes.
 
-  spent_here : (a : Activity) → l.activity ≡ a → (a ≡ BalClock) ⊎ (a ≡ BalEpoch) → SPENT ≤ told → MetSpent o q
+  spent_here : (a : Activity) → l.activity ≡ a → (a ≡ Activity.Rebalance (Rebalance.Engage Engage.Clock)) ⊎ (a ≡ Activity.Rebalance (Rebalance.Engage Engage.Epoch)) → SPENT ≤ told → MetSpent o q
   spent_here a is at more = record { activity = a; at = at; choice = c; told = told; met = since a is; spent = more }
 
-  searches_here : l.activity ≡ SeekFirst → MetSearch o q
-  searches_here is = record { choice = c; told = told; met = since SeekFirst is }
+  searches_here : l.activity ≡ Activity.Rebalance (Rebalance.Seek Seek.First) → MetSearch o q
+  searches_here is = record { choice = c; told = told; met = since (Activity.Rebalance (Rebalance.Seek Seek.First)) is }
 
   -- a row that is met in the world before the event, as the pass knew it at first, is met in the
   -- world of its laws
@@ -137,9 +145,9 @@ module _ (s : Shared) (o p q : Pass) (l m : Local) (c : Choice) (rows told : ℕ
   unfolding since
   replaced_here a is found gone = record { activity = a; choice = c; told = told; met = since a is; replaced = found; unlinked = gone }
 
-  won_here : (is : l.activity ≡ Replace) → link_of told ≡ Some (unmarked_link (Some l.row)) → MetWon o q
+  won_here : (is : l.activity ≡ Activity.Rebalance (Rebalance.Replace Replace.Exchange)) → link_of told ≡ Some (unmarked_link (Some l.row)) → MetWon o q
   unfolding since
-  won_here is e = record { choice = c; told = told; met = since Replace is; leads = ap row_linked e ∙ ap Some (sym knew_row); unmarked = ap has_mark e }
+  won_here is e = record { choice = c; told = told; met = since (Activity.Rebalance (Rebalance.Replace Replace.Exchange)) is; leads = ap row_linked e ∙ ap Some (sym knew_row); unmarked = ap has_mark e }
 
   -- What the laws say of what was found.
 
@@ -152,18 +160,18 @@ module _ (s : Shared) (o p q : Pass) (l m : Local) (c : Choice) (rows told : ℕ
 
   -- where the walk to the row before the full one meets the end of the list, the full row is in it
   -- no more
-  walk_ends_here : (is : l.activity ≡ BeforeLink) → row_linked (link_of told) ≡ None → IsUnlinked BeforeLink
+  walk_ends_here : (is : l.activity ≡ Activity.Rebalance (Rebalance.Replace Replace.Next)) → row_linked (link_of told) ≡ None → IsUnlinked (Activity.Rebalance (Rebalance.Replace Replace.Next))
   unfolding here
   walk_ends_here is none = λ u x.
-      (met_laws s p q BeforeLink c told goes (here BeforeLink is)).ends_before (view p).number (local_at p met.met.front) (met_local p q BeforeLink c told (here BeforeLink is)) (met.met.activity ∙ is)
-      (ap (λ w. row_linked (link_of w)) (sym (met_told p q BeforeLink c told (here BeforeLink is) _ refl)) ∙ none) (met_there x)
+      (met_laws s p q (Activity.Rebalance (Rebalance.Replace Replace.Next)) c told goes (here (Activity.Rebalance (Rebalance.Replace Replace.Next)) is)).ends_before (view p).number (local_at p met.met.front) (met_local p q (Activity.Rebalance (Rebalance.Replace Replace.Next)) c told (here (Activity.Rebalance (Rebalance.Replace Replace.Next)) is)) (met.met.activity ∙ is)
+      (ap (λ w. row_linked (link_of w)) (sym (met_told p q (Activity.Rebalance (Rebalance.Replace Replace.Next)) c told (here (Activity.Rebalance (Rebalance.Replace Replace.Next)) is) _ refl)) ∙ none) (met_there x)
 
   -- nor is it where the walk passes it
-  walk_passes_here : (is : l.activity ≡ BeforeMin) → l.lower ≤ key_of_word told → IsUnlinked BeforeMin
+  walk_passes_here : (is : l.activity ≡ Activity.Rebalance (Rebalance.Replace Replace.NextLeast)) → l.lower ≤ key_of_word told → IsUnlinked (Activity.Rebalance (Rebalance.Replace Replace.NextLeast))
   unfolding here
   walk_passes_here is more = λ u x.
-      (met_laws s p q BeforeMin c told goes (here BeforeMin is)).passes_full (view p).number (local_at p met.met.front) (met_local p q BeforeMin c told (here BeforeMin is)) (met.met.activity ∙ is)
-      (subst (λ w. (local_at p met.met.front).lower ≤ key_of_word w) (met_told p q BeforeMin c told (here BeforeMin is) _ refl) (subst (λ n. n ≤ key_of_word told) (sym (ap (λ (k : Local). k.lower) met.knew)) more)) (met_there x)
+      (met_laws s p q (Activity.Rebalance (Rebalance.Replace Replace.NextLeast)) c told goes (here (Activity.Rebalance (Rebalance.Replace Replace.NextLeast)) is)).passes_full (view p).number (local_at p met.met.front) (met_local p q (Activity.Rebalance (Rebalance.Replace Replace.NextLeast)) c told (here (Activity.Rebalance (Rebalance.Replace Replace.NextLeast)) is)) (met.met.activity ∙ is)
+      (subst (λ w. (local_at p met.met.front).lower ≤ key_of_word w) (met_told p q (Activity.Rebalance (Rebalance.Replace Replace.NextLeast)) c told (here (Activity.Rebalance (Rebalance.Replace Replace.NextLeast)) is) _ refl) (subst (λ n. n ≤ key_of_word told) (sym (ap (λ (k : Local). k.lower) met.knew)) more)) (met_there x)
 
   -- What follows without an event of its own.
 
@@ -171,12 +179,12 @@ module _ (s : Shared) (o p q : Pass) (l m : Local) (c : Choice) (rows told : ℕ
   begins_anew : (k : Local) → k.tidies ≡ false → MetReplaced o q → Then (again k)
   begins_anew k t h = undone_by k.tidies t
     where
-      undone_by : (b : Bool) → b ≡ false → Then (to (if b then Leave Done else Again) (without_rows (without_rebalance k)))
+      undone_by : (b : Bool) → b ≡ false → Then (to (if b then (Activity.Leave Done) else Activity.Retry) (without_rows (without_rebalance k)))
       undone_by true e = let x : true ≡ false = e in absurd (cc)
       undone_by false e = record { met = h }
 
   -- or is refused
-  is_refused : (x : Answer) (k : Local) → k.tidies ≡ false → HasMet o q (Leave x) (leave x (without_rebalance k)).local → Then (refuse x k)
+  is_refused : (x : Answer) (k : Local) → k.tidies ≡ false → HasMet o q (Activity.Leave x) (leave x (without_rebalance k)).local → Then (refuse x k)
   is_refused x k t h = undone_by k.tidies t
     where
       undone_by : (b : Bool) → b ≡ false → Then (leave (if b then Done else x) (without_rebalance k))
@@ -303,120 +311,123 @@ module _ (s : Shared) (o p q : Pass) (l m : Local) (c : Choice) (rows told : ℕ
 
   -- What the row's state and the list tell.
 
-  states : (x : Option State) → state_of told ≡ x → l.activity ≡ BalState → IsMetState BalState x → Then (state_met x l)
+  states : (x : Option State) → state_of told ≡ x → l.activity ≡ Activity.Rebalance (Rebalance.Engage Engage.State) → IsMetState (Activity.Rebalance (Rebalance.Engage Engage.State)) x → Then (state_met x l)
   states (Some Free) f is y = absurd y
   states (Some (Infant seat)) f is y = record { met = tt }
   states (Some Normal) f is y = record { met = tt }
   states (Some (Leader count)) f is y = both (is_alone count) _ _ (λ e. record { met = tt }) (λ e. absurd (let few : count ≤ 1 = y in let many : nat_le count 1 ≡ false = e in grind (arith, nat_tests)))
   states (Some (Follower leader)) f is y = absurd y
-  states (Some (Retired number)) f is y = begins_anew l undone (replaced_here BalState is (subst IsRetired (sym f) tt) (λ u. absurd u))
+  states (Some (Retired number)) f is y = begins_anew l undone (replaced_here (Activity.Rebalance (Rebalance.Engage Engage.State)) is (subst IsRetired (sym f) tt) (λ u. absurd u))
   states None f is y = absurd y
 
-  decides : (n : ℕ) (x : Option State) → state_of told ≡ x → l.activity ≡ Decide n → IsMetState (Decide n) x → Then (decided x l)
+  decides : (n : ℕ) (x : Option State) → state_of told ≡ x → l.activity ≡ Activity.Rebalance (Rebalance.Engage (Engage.Decide n)) → IsMetState (Activity.Rebalance (Rebalance.Engage (Engage.Decide n))) x → Then (decided x l)
   decides n (Some Free) f is y = absurd y
   decides n (Some (Infant seat)) f is y = absurd y
   decides n (Some Normal) f is y = absurd y
   decides n (Some (Leader count)) f is y = both (is_alone count) _ _ (λ e. record { met = tt }) (λ e. absurd (let few : count ≤ 1 = y in let many : nat_le count 1 ≡ false = e in grind (arith, nat_tests)))
   decides n (Some (Follower leader)) f is y = absurd y
-  decides n (Some (Retired number)) f is y = begins_anew l undone (replaced_here (Decide n) is (subst IsRetired (sym f) tt) (λ u. absurd u))
+  decides n (Some (Retired number)) f is y = begins_anew l undone (replaced_here (Activity.Rebalance (Rebalance.Engage (Engage.Decide n))) is (subst IsRetired (sym f) tt) (λ u. absurd u))
   decides n None f is y = absurd y
 
   -- the list ends before the full row
-  ends : l.activity ≡ BeforeLink → row_linked (link_of told) ≡ None → Then (give_back TryAgain l)
-  ends is none = tries_again (replaced_here BeforeLink is none (walk_ends_here is none))
+  ends : l.activity ≡ Activity.Rebalance (Rebalance.Replace Replace.Next) → row_linked (link_of told) ≡ None → Then (give_back TryAgain l)
+  ends is none = tries_again (replaced_here (Activity.Rebalance (Rebalance.Replace Replace.Next)) is none (walk_ends_here is none))
 
-  links : (r : Option ℕ) (marked : Bool) → row_linked (link_of told) ≡ r → l.activity ≡ BeforeLink → Then (row_before r marked l)
+  links : (r : Option ℕ) (marked : Bool) → row_linked (link_of told) ≡ r → l.activity ≡ Activity.Rebalance (Rebalance.Replace Replace.Next) → Then (row_before r marked l)
   links (Some r) marked f is = both (r == l.row) _ _ (λ e. both marked _ _ (λ g. moves_left l) (λ g. record { met = tt })) (λ e. record { met = tt })
   links None marked f is = ends is f
 
-  link : (x : Option Link) → link_of told ≡ x → l.activity ≡ BeforeLink → Then (link_before x l)
+  link : (x : Option Link) → link_of told ≡ x → l.activity ≡ Activity.Rebalance (Rebalance.Replace Replace.Next) → Then (link_before x l)
   link (Some k) f is = links k.row k.marked (ap row_linked f) is
   link None f is = ends is (ap row_linked f)
 
   -- the exchange is lost
-  loses : l.activity ≡ Replace → row_linked (link_of told) ≢ Some l.row → Then (give_back TryAgain l)
-  loses is other = tries_again (replaced_here Replace is (subst (λ n. row_linked (link_of told) ≢ Some n) (sym knew_row) other) (λ u. absurd u))
+  loses : l.activity ≡ Activity.Rebalance (Rebalance.Replace Replace.Exchange) → row_linked (link_of told) ≢ Some l.row → Then (give_back TryAgain l)
+  loses is other = tries_again (replaced_here (Activity.Rebalance (Rebalance.Replace Replace.Exchange)) is (subst (λ n. row_linked (link_of told) ≢ Some n) (sym knew_row) other) (λ u. absurd u))
 
-  replaces_row : (r : Option ℕ) (marked : Bool) → link_of told ≡ Some (record { row = r; marked = marked }) → l.activity ≡ Replace → Then (row_replaced r marked l)
+  replaces_row : (r : Option ℕ) (marked : Bool) → link_of told ≡ Some (record { row = r; marked = marked }) → l.activity ≡ Activity.Rebalance (Rebalance.Replace Replace.Exchange) → Then (row_replaced r marked l)
   replaces_row (Some r) true f is = both (r == l.row) _ _ (λ e. moves_left l) (λ e. loses is (λ g. true_false (eq-eqb r l.row (same_Some r l.row (sym (ap row_linked f) ∙ g))) e))
   replaces_row (Some r) false f is = both (r == l.row) _ _ (λ e. record { met = won_here is (f ∙ ap (λ n. Some (unmarked_link (Some n))) (eqb-true r l.row e)) }) (λ e. loses is (λ g. true_false (eq-eqb r l.row (same_Some r l.row (sym (ap row_linked f) ∙ g))) e))
   replaces_row None marked f is = loses is (λ g. let x : None ≡ Some l.row = sym (ap row_linked f) ∙ g in absurd (cc))
 
-  replaces : (x : Option Link) → link_of told ≡ x → l.activity ≡ Replace → Then (replaced x l)
+  replaces : (x : Option Link) → link_of told ≡ x → l.activity ≡ Activity.Rebalance (Rebalance.Replace Replace.Exchange) → Then (replaced x l)
   replaces (Some k) f is = replaces_row k.row k.marked f is
   replaces None f is = loses is (λ g. let x : None ≡ Some l.row = sym (ap row_linked f) ∙ g in absurd (cc))
 
   -- Each event.
 
-  event_at : (a : Activity) → l.activity ≡ a → HasMet o p a l → (a ≡ Normalise → ⊥) → (a ≡ Again → ⊥) → ((x : Answer) → a ≡ Leave x → ⊥) → HasMet o q m.activity m
+  event_at : (a : Activity) → l.activity ≡ a → HasMet o p a l → (a ≡ Activity.Rebalance (Rebalance.Replace Replace.Normalise) → ⊥) → (a ≡ Activity.Retry → ⊥) → ((x : Answer) → a ≡ Activity.Leave x → ⊥) → HasMet o q m.activity m
   unfolding here
-  event_at BalClock is h n g e = so _ (next_is BalClock is) (both (nat_le SPENT told) _ _ (λ f. is_refused Spent l undone (spent_here BalClock is (inl refl) (let full : nat_le SPENT told ≡ true = f in grind (arith, nat_tests)))) (λ f. record { met = tt }))
-  event_at BalEpoch is h n g e = so _ (next_is BalEpoch is) (both (nat_le SPENT told) _ _ (λ f. is_refused Spent l undone (spent_here BalEpoch is (inr refl) (let full : nat_le SPENT told ≡ true = f in grind (arith, nat_tests)))) (λ f. record { met = tt }))
-  event_at BalState is h n g e = so _ (next_is BalState is) (states (state_of told) refl is (stated_here BalState is tt (met_told p q BalState c told (here BalState is) _ refl)))
-  event_at (BalNormal seat) is h n g e = so _ (next_is (BalNormal seat) is) record { met = tt }
-  event_at Engage is h n g e = so _ (next_is Engage is) (engages (told == state_word Normal))
-  event_at (MarkLink count) is h n g e = so _ (next_is (MarkLink count) is) (both (count == 0) _ _ (λ f. record { met = tt }) (λ f. record { met = tt }))
-  event_at (Decide count) is h n g e = so _ (next_is (Decide count) is) (decides count (state_of told) refl is (stated_here (Decide count) is tt (met_told p q (Decide count) c told (here (Decide count) is) _ refl)))
-  event_at FreezeCount is h n g e = so _ (next_is FreezeCount is) record { met = tt }
-  event_at (FreezeLook i) is h n g e = so _ (next_is (FreezeLook i) is) (freezes i (pend_of told))
-  event_at (Freeze i) is h n g e = so _ (next_is (Freeze i) is) (tries_entry i (told == pend_word l.rebalance.entry))
-  event_at (ScanLook i) is h n g e = so _ (next_is (ScanLook i) is) (scans i (scan_of told))
-  event_at (HelpDraw i) is h n g e = so _ (next_is (HelpDraw i) is) record { met = tt }
-  event_at (HelpSettle i) is h n g e = so _ (next_is (HelpSettle i) is) (helps i (scan_of told))
-  event_at TakeFrom is h n g e = so _ (next_is TakeFrom is) (takes_cell (cell_of_link_word told))
-  event_at TakeKey is h n g e = so _ (next_is TakeKey is) record { met = tt }
-  event_at TakeVersion is h n g e = so _ (next_is TakeVersion is) record { met = tt }
-  event_at TakeValue is h n g e = so _ (next_is TakeValue is) record { met = tt }
-  event_at TakeRestKey is h n g e = so _ (next_is TakeRestKey is) record { met = tt }
-  event_at TakeRestValue is h n g e = so _ (next_is TakeRestValue is) (left (least_mark l.rebalance.marks) (keeping product (value_of_word told) l))
-  event_at SeekFirst is h n g e = so _ (next_is SeekFirst is) (first_seeks (offered rows c) (searches_here is))
-  event_at Seek is h n g e = so _ (next_is Seek is) (seeks (state_of told) (seeking l.rebalance.sought l) undone (search_on o goes h))
-  event_at (SeekPass i) is h n g e = so _ (next_is (SeekPass i) is) (passes i (pass_of_word told) (search_on o goes h))
-  event_at Reclaim is h n g e = so _ (next_is Reclaim is) (record { met = search_on o goes h })
-  event_at TakeRow is h n g e = so _ (next_is TakeRow is) (takes (told == state_word Free) (search_on o goes h))
-  event_at GiveBack is h n g e =
+  event_at (Activity.Rebalance (Rebalance.Engage Engage.Clock)) is h n g e = so _ (next_is (Activity.Rebalance (Rebalance.Engage Engage.Clock)) is) (both (nat_le SPENT told) _ _ (λ f. is_refused Spent l undone (spent_here (Activity.Rebalance (Rebalance.Engage Engage.Clock)) is (inl refl) (let full : nat_le SPENT told ≡ true = f in grind (arith, nat_tests)))) (λ f. record { met = tt }))
+  event_at (Activity.Rebalance (Rebalance.Engage Engage.Epoch)) is h n g e = so _ (next_is (Activity.Rebalance (Rebalance.Engage Engage.Epoch)) is) (both (nat_le SPENT told) _ _ (λ f. is_refused Spent l undone (spent_here (Activity.Rebalance (Rebalance.Engage Engage.Epoch)) is (inr refl) (let full : nat_le SPENT told ≡ true = f in grind (arith, nat_tests)))) (λ f. record { met = tt }))
+  event_at (Activity.Rebalance (Rebalance.Engage Engage.State)) is h n g e = so _ (next_is (Activity.Rebalance (Rebalance.Engage Engage.State)) is) (states (state_of told) refl is (stated_here (Activity.Rebalance (Rebalance.Engage Engage.State)) is tt (met_told p q (Activity.Rebalance (Rebalance.Engage Engage.State)) c told (here (Activity.Rebalance (Rebalance.Engage Engage.State)) is) _ refl)))
+  event_at (Activity.Rebalance (Rebalance.Engage (Engage.Normal seat))) is h n g e = so _ (next_is (Activity.Rebalance (Rebalance.Engage (Engage.Normal seat))) is) record { met = tt }
+  event_at (Activity.Rebalance (Rebalance.Engage Engage.Lead)) is h n g e = so _ (next_is (Activity.Rebalance (Rebalance.Engage Engage.Lead)) is) (engages (told == state_word Normal))
+  event_at (Activity.Rebalance (Rebalance.Engage (Engage.MarkLink count))) is h n g e = so _ (next_is (Activity.Rebalance (Rebalance.Engage (Engage.MarkLink count))) is) (both (count == 0) _ _ (λ f. record { met = tt }) (λ f. record { met = tt }))
+  event_at (Activity.Rebalance (Rebalance.Engage (Engage.Decide count))) is h n g e = so _ (next_is (Activity.Rebalance (Rebalance.Engage (Engage.Decide count))) is) (decides count (state_of told) refl is (stated_here (Activity.Rebalance (Rebalance.Engage (Engage.Decide count))) is tt (met_told p q (Activity.Rebalance (Rebalance.Engage (Engage.Decide count))) c told (here (Activity.Rebalance (Rebalance.Engage (Engage.Decide count))) is) _ refl)))
+  event_at (Activity.Rebalance (Rebalance.Freeze Freeze.Count)) is h n g e = so _ (next_is (Activity.Rebalance (Rebalance.Freeze Freeze.Count)) is) record { met = tt }
+  event_at (Activity.Rebalance (Rebalance.Freeze (Freeze.Look i))) is h n g e = so _ (next_is (Activity.Rebalance (Rebalance.Freeze (Freeze.Look i))) is) (freezes i (pend_of told))
+  event_at (Activity.Rebalance (Rebalance.Freeze (Freeze.Entry i))) is h n g e = so _ (next_is (Activity.Rebalance (Rebalance.Freeze (Freeze.Entry i))) is) (tries_entry i (told == pend_word l.rebalance.entry))
+  event_at (Activity.Rebalance (Rebalance.Freeze (Freeze.Scan i))) is h n g e = so _ (next_is (Activity.Rebalance (Rebalance.Freeze (Freeze.Scan i))) is) (scans i (scan_of told))
+  event_at (Activity.Rebalance (Rebalance.Freeze (Freeze.Draw i))) is h n g e = so _ (next_is (Activity.Rebalance (Rebalance.Freeze (Freeze.Draw i))) is) record { met = tt }
+  event_at (Activity.Rebalance (Rebalance.Freeze (Freeze.Settle i))) is h n g e = so _ (next_is (Activity.Rebalance (Rebalance.Freeze (Freeze.Settle i))) is) (helps i (scan_of told))
+  event_at (Activity.Rebalance (Rebalance.Gather Gather.Link)) is h n g e = so _ (next_is (Activity.Rebalance (Rebalance.Gather Gather.Link)) is) (takes_cell (cell_of_link_word told))
+  event_at (Activity.Rebalance (Rebalance.Gather Gather.Key)) is h n g e = so _ (next_is (Activity.Rebalance (Rebalance.Gather Gather.Key)) is) record { met = tt }
+  event_at (Activity.Rebalance (Rebalance.Gather Gather.Version)) is h n g e = so _ (next_is (Activity.Rebalance (Rebalance.Gather Gather.Version)) is) record { met = tt }
+  event_at (Activity.Rebalance (Rebalance.Gather Gather.Value)) is h n g e = so _ (next_is (Activity.Rebalance (Rebalance.Gather Gather.Value)) is) record { met = tt }
+  event_at (Activity.Rebalance (Rebalance.Gather Gather.LeftOverKey)) is h n g e = so _ (next_is (Activity.Rebalance (Rebalance.Gather Gather.LeftOverKey)) is) record { met = tt }
+  event_at (Activity.Rebalance (Rebalance.Gather Gather.LeftOverValue)) is h n g e = so _ (next_is (Activity.Rebalance (Rebalance.Gather Gather.LeftOverValue)) is) (left (least_mark l.rebalance.marks) (keeping product (value_of_word told) l))
+  event_at (Activity.Rebalance (Rebalance.Seek Seek.First)) is h n g e = so _ (next_is (Activity.Rebalance (Rebalance.Seek Seek.First)) is) (first_seeks (offered rows c) (searches_here is))
+  event_at (Activity.Rebalance (Rebalance.Seek Seek.Next)) is h n g e = so _ (next_is (Activity.Rebalance (Rebalance.Seek Seek.Next)) is) (seeks (state_of told) (seeking l.rebalance.sought l) undone (search_on o goes h))
+  event_at (Activity.Rebalance (Rebalance.Seek (Seek.Pass i))) is h n g e = so _ (next_is (Activity.Rebalance (Rebalance.Seek (Seek.Pass i))) is) (passes i (pass_of_word told) (search_on o goes h))
+  event_at (Activity.Rebalance (Rebalance.Seek Seek.Reclaim)) is h n g e = so _ (next_is (Activity.Rebalance (Rebalance.Seek Seek.Reclaim)) is) (record { met = search_on o goes h })
+  event_at (Activity.Rebalance (Rebalance.Seek Seek.Take)) is h n g e = so _ (next_is (Activity.Rebalance (Rebalance.Seek Seek.Take)) is) (takes (told == state_word Free) (search_on o goes h))
+  event_at (Activity.Rebalance (Rebalance.Seek Seek.GiveBack)) is h n g e =
       let kept : (l.rebalance.afterwards ≡ Refuse → MetSearch o q) × (l.rebalance.afterwards ≡ TryAgain → MetReplaced o q) = (λ f. search_on o goes (h.0 f), λ f. replaced_on o goes (h.1 f)) in
-      so _ (next_is GiveBack is) (both (has_more l) _ _ (λ f. record { met = kept }) (λ f. gives_on l.rebalance.afterwards kept))
-  event_at WriteCount is h n g e = so _ (next_is WriteCount is) record { met = tt }
-  event_at WriteMin is h n g e = so _ (next_is WriteMin is) record { met = tt }
-  event_at WriteNext is h n g e = so _ (next_is WriteNext is) record { met = tt }
-  event_at WriteFirst is h n g e = so _ (next_is WriteFirst is) (writes_entry 0 l)
-  event_at (WritePend i) is h n g e = so _ (next_is (WritePend i) is) (writes_entry (i + 1) l)
-  event_at (WriteKey j) is h n g e = so _ (next_is (WriteKey j) is) record { met = tt }
-  event_at (WriteValue j) is h n g e = so _ (next_is (WriteValue j) is) record { met = tt }
-  event_at (WriteVersion j) is h n g e = so _ (next_is (WriteVersion j) is) record { met = tt }
-  event_at (WriteAfter j) is h n g e = so _ (next_is (WriteAfter j) is) (writes_cell (j + 1) l)
-  event_at Before is h n g e = so _ (next_is Before is) (befores (offered rows c))
-  event_at BeforeGuess is h n g e = so _ (next_is BeforeGuess is) (both (nat_lt (key_of_word told) l.lower) _ _ (λ f. record { met = tt }) (λ f. record { met = tt }))
-  event_at BeforeHead is h n g e = so _ (next_is BeforeHead is) (firsts (row_or_first (row_linked (link_of told))))
-  event_at BeforeLink is h n g e = so _ (next_is BeforeLink is) (link (link_of told) refl is)
-  event_at BeforeMin is h n g e = so _ (next_is BeforeMin is)
+      so _ (next_is (Activity.Rebalance (Rebalance.Seek Seek.GiveBack)) is) (both (has_more l) _ _ (λ f. record { met = kept }) (λ f. gives_on l.rebalance.afterwards kept))
+  event_at (Activity.Rebalance (Rebalance.Write Write.Count)) is h n g e = so _ (next_is (Activity.Rebalance (Rebalance.Write Write.Count)) is) record { met = tt }
+  event_at (Activity.Rebalance (Rebalance.Write Write.Least)) is h n g e = so _ (next_is (Activity.Rebalance (Rebalance.Write Write.Least)) is) record { met = tt }
+  event_at (Activity.Rebalance (Rebalance.Write Write.Next)) is h n g e = so _ (next_is (Activity.Rebalance (Rebalance.Write Write.Next)) is) record { met = tt }
+  event_at (Activity.Rebalance (Rebalance.Write Write.First)) is h n g e = so _ (next_is (Activity.Rebalance (Rebalance.Write Write.First)) is) (writes_entry 0 l)
+  event_at (Activity.Rebalance (Rebalance.Write (Write.Entry i))) is h n g e = so _ (next_is (Activity.Rebalance (Rebalance.Write (Write.Entry i))) is) (writes_entry (i + 1) l)
+  event_at (Activity.Rebalance (Rebalance.Write (Write.Key j))) is h n g e = so _ (next_is (Activity.Rebalance (Rebalance.Write (Write.Key j))) is) record { met = tt }
+  event_at (Activity.Rebalance (Rebalance.Write (Write.Value j))) is h n g e = so _ (next_is (Activity.Rebalance (Rebalance.Write (Write.Value j))) is) record { met = tt }
+  event_at (Activity.Rebalance (Rebalance.Write (Write.Version j))) is h n g e = so _ (next_is (Activity.Rebalance (Rebalance.Write (Write.Version j))) is) record { met = tt }
+  event_at (Activity.Rebalance (Rebalance.Write (Write.After j))) is h n g e = so _ (next_is (Activity.Rebalance (Rebalance.Write (Write.After j))) is) (writes_cell (j + 1) l)
+  event_at (Activity.Rebalance (Rebalance.Replace Replace.Start)) is h n g e = so _ (next_is (Activity.Rebalance (Rebalance.Replace Replace.Start)) is) (befores (offered rows c))
+  event_at (Activity.Rebalance (Rebalance.Replace Replace.GuessedLeast)) is h n g e = so _ (next_is (Activity.Rebalance (Rebalance.Replace Replace.GuessedLeast)) is) (both (nat_lt (key_of_word told) l.lower) _ _ (λ f. record { met = tt }) (λ f. record { met = tt }))
+  event_at (Activity.Rebalance (Rebalance.Replace Replace.First)) is h n g e = so _ (next_is (Activity.Rebalance (Rebalance.Replace Replace.First)) is) (firsts (row_or_first (row_linked (link_of told))))
+  event_at (Activity.Rebalance (Rebalance.Replace Replace.Next)) is h n g e = so _ (next_is (Activity.Rebalance (Rebalance.Replace Replace.Next)) is) (link (link_of told) refl is)
+  event_at (Activity.Rebalance (Rebalance.Replace Replace.NextLeast)) is h n g e = so _ (next_is (Activity.Rebalance (Rebalance.Replace Replace.NextLeast)) is)
       (both (nat_lt (key_of_word told) l.lower) _ _ (λ f. record { met = tt }) (λ f.
       let past : nat_lt (key_of_word told) l.lower ≡ false = f in
       let more : l.lower ≤ key_of_word told = grind (arith, nat_tests) in
-      tries_again (replaced_here BeforeMin is (subst (λ n. n ≤ key_of_word told) (sym knew_lower) more) (walk_passes_here is more))))
-  event_at Replace is h n g e = so _ (next_is Replace is) (replaces (link_of told) refl is)
-  event_at Normalise is h n g e = absurd (n refl)
-  event_at Again is h n g e = absurd (g refl)
-  event_at (Leave x) is h n g e = absurd (e x refl)
+      tries_again (replaced_here (Activity.Rebalance (Rebalance.Replace Replace.NextLeast)) is (subst (λ n. n ≤ key_of_word told) (sym knew_lower) more) (walk_passes_here is more))))
+  event_at (Activity.Rebalance (Rebalance.Replace Replace.Exchange)) is h n g e = so _ (next_is (Activity.Rebalance (Rebalance.Replace Replace.Exchange)) is) (replaces (link_of told) refl is)
+  event_at (Activity.Rebalance (Rebalance.Replace Replace.Normalise)) is h n g e = absurd (n refl)
+  event_at Activity.Retry is h n g e = absurd (g refl)
+  event_at (Activity.Leave x) is h n g e = absurd (e x refl)
+  event_at (Activity.Look Look.Key) is h n g e = absurd h
   event_at _ is h n g e = absurd h
 
   -- an event of a rebalance that is not over, and has not won, keeps what it has met
-  pub keeps_met : HasMet o p l.activity l → (l.activity ≡ Normalise → ⊥) → (l.activity ≡ Again → ⊥) → ((x : Answer) → l.activity ≡ Leave x → ⊥) → HasMet o q m.activity m
+  pub keeps_met : HasMet o p l.activity l → (l.activity ≡ Activity.Rebalance (Rebalance.Replace Replace.Normalise) → ⊥) → (l.activity ≡ Activity.Retry → ⊥) → ((x : Answer) → l.activity ≡ Activity.Leave x → ⊥) → HasMet o q m.activity m
   keeps_met = event_at l.activity refl
 
 -- it is at work there
-works : (o p : Pass) (l : Local) (a : Activity) → HasMet o p a l → (a ≡ Again → ⊥) → ((x : Answer) → a ≡ Leave x → ⊥) → IsAtWork a
-works o p l (Leave x) h g e = absurd (e x refl)
-works o p l Again h g e = absurd (g refl)
-works o p l Seek h g e = tt
-works o p l (SeekPass i) h g e = tt
-works o p l Reclaim h g e = tt
-works o p l TakeRow h g e = tt
-works o p l GiveBack h g e = tt
-works o p l Normalise h g e = tt
-works o p l Number h g e = absurd h
-works o p l Retire h g e = absurd h
+works : (o p : Pass) (l : Local) (a : Activity) → HasMet o p a l → (a ≡ Activity.Retry → ⊥) → ((x : Answer) → a ≡ Activity.Leave x → ⊥) → IsAtWork a
+works o p l (Activity.Leave x) h g e = absurd (e x refl)
+works o p l Activity.Retry h g e = absurd (g refl)
+works o p l (Activity.Rebalance (Rebalance.Seek Seek.Next)) h g e = tt
+works o p l (Activity.Rebalance (Rebalance.Seek (Seek.Pass i))) h g e = tt
+works o p l (Activity.Rebalance (Rebalance.Seek Seek.Reclaim)) h g e = tt
+works o p l (Activity.Rebalance (Rebalance.Seek Seek.Take)) h g e = tt
+works o p l (Activity.Rebalance (Rebalance.Seek Seek.GiveBack)) h g e = tt
+works o p l (Activity.Rebalance (Rebalance.Replace Replace.Normalise)) h g e = tt
+works o p l (Activity.Rebalance (Rebalance.Replace Replace.Number)) h g e = absurd h
+works o p l (Activity.Rebalance (Rebalance.Replace Replace.Retire)) h g e = absurd h
+works o p l (Activity.Look Look.Key) h g e = balancing_works (Activity.Look Look.Key) h
+works o p l (Activity.Put Put.Count) h g e = balancing_works (Activity.Put Put.Count) h
 works o p l a h g e = balancing_works a h
 
 -- the put of a seat that is at work is no more done by the event than before
@@ -424,5 +435,5 @@ pub work_on : (l m : Local) (c : Choice) (rows told : ℕ) → outcome m Moved �
 unfolding transition_of
 work_on l m c rows told line work = ap (λ (x : Outcome). x.local.tidies) line ∙ keeps product l.activity 0 (offered rows c) l rows told work
 
-pub stays_untidied : (o p : Pass) (l m : Local) (c : Choice) (rows told : ℕ) → outcome m Moved ≡ next_of product rows (offered rows c) l told → HasMet o p l.activity l → (l.activity ≡ Again → ⊥) → ((x : Answer) → l.activity ≡ Leave x → ⊥) → l.tidies ≡ false → m.tidies ≡ false
+pub stays_untidied : (o p : Pass) (l m : Local) (c : Choice) (rows told : ℕ) → outcome m Moved ≡ next_of product rows (offered rows c) l told → HasMet o p l.activity l → (l.activity ≡ Activity.Retry → ⊥) → ((x : Answer) → l.activity ≡ Activity.Leave x → ⊥) → l.tidies ≡ false → m.tidies ≡ false
 stays_untidied o p l m c rows told line h g e undone = work_on l m c rows told line (works o p l l.activity h g e) ∙ undone

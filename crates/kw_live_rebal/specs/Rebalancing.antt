@@ -11,8 +11,9 @@ use Rattle.kw_words.specs.Plain.{key_of_word}
 use Rattle.kw_words.specs.State.{state_of}
 use Rattle.kw_world.specs.declared.answer.Answer.TheVariants as answer
 use Rattle.kw_world.specs.declared.activity.Activity.{Activity}
-use Rattle.kw_world.specs.declared.activity.Activity.TheVariants as activity
-use Rattle.kw_world.specs.declared.activity.Activity.TheVariants.{BalClock, BalEpoch, BalState, Decide, SeekFirst, BeforeLink, BeforeMin, Replace}
+use Rattle.kw_world.specs.declared.activity.rebalance.engage.Engage.TheVariants as Engage
+use Rattle.kw_world.specs.declared.activity.rebalance.Rebalance.TheVariants as Rebalance
+use Rattle.kw_world.specs.declared.activity.rebalance.replace.Replace.TheVariants as Replace
 use Rattle.kw_world.specs.declared.event.Choice.{Choice}
 use Rattle.kw_world.specs.declared.event.Event.{Event}
 use Rattle.kw_world.specs.declared.local.Local.{Local}
@@ -33,15 +34,15 @@ use Rattle.kw_live_rebal.specs.declared.rebalancing.Rebalanced.TheVariants.{Done
 
 -- where the call stands after a rebalance that ended so
 abbrev pub stands_after : Rebalanced → Activity
-stands_after Done = activity.Again
-stands_after Again = activity.Again
-stands_after NoRows = activity.Leave answer.NoRows
-stands_after Spent = activity.Leave answer.Spent
+stands_after Done = Activity.Retry
+stands_after Again = Activity.Retry
+stands_after NoRows = Activity.Leave answer.NoRows
+stands_after Spent = Activity.Leave answer.Spent
 
 -- the pass found the clock or the epoch at its bound
 pub record MetSpent (p q : Pass) : Type 0 where
   pub activity : Activity
-  pub at : (activity ≡ BalClock) ⊎ (activity ≡ BalEpoch)
+  pub at : (activity ≡ Activity.Rebalance (Rebalance.Engage Engage.Clock)) ⊎ (activity ≡ Activity.Rebalance (Rebalance.Engage Engage.Epoch))
   pub choice : Choice
   pub told : ℕ
   pub met : Met p q activity choice told
@@ -52,7 +53,7 @@ pub record MetSpent (p q : Pass) : Type 0 where
 pub record WonIn (o : Opening) (n : ℕ) (old new : List Event) : Type 0 where
   pub choice : Choice
   pub told : ℕ
-  pub met : MetIn o n old new Replace choice told
+  pub met : MetIn o n old new (Activity.Rebalance (Rebalance.Replace Replace.Exchange)) choice told
   pub leads : row_linked (link_of told) ≡ Some (local_of (world product o met.front) n).row
   pub unmarked : has_mark (link_of told) ≡ false
 
@@ -68,17 +69,17 @@ IsRetired _ = ⊥
 -- the state is that of a retired row; the list of rows ended before the row, or went on behind it;
 -- or the link led to another row by the time that it was exchanged
 abbrev pub TellsReplaced : Activity → ℕ → Local → Type 0
-TellsReplaced BalState told l = IsRetired (state_of told)
-TellsReplaced (Decide count) told l = IsRetired (state_of told)
-TellsReplaced BeforeLink told l = row_linked (link_of told) ≡ None
-TellsReplaced BeforeMin told l = l.lower ≤ key_of_word told
-TellsReplaced Replace told l = row_linked (link_of told) ≢ Some l.row
+TellsReplaced (Activity.Rebalance (Rebalance.Engage Engage.State)) told l = IsRetired (state_of told)
+TellsReplaced (Activity.Rebalance (Rebalance.Engage (Engage.Decide count))) told l = IsRetired (state_of told)
+TellsReplaced (Activity.Rebalance (Rebalance.Replace Replace.Next)) told l = row_linked (link_of told) ≡ None
+TellsReplaced (Activity.Rebalance (Rebalance.Replace Replace.NextLeast)) told l = l.lower ≤ key_of_word told
+TellsReplaced (Activity.Rebalance (Rebalance.Replace Replace.Exchange)) told l = row_linked (link_of told) ≢ Some l.row
 TellsReplaced _ told l = ⊥
 
 -- the walk to the row before the full one ends at this activity
 abbrev pub IsWalkEnd : Activity → Type 0
-IsWalkEnd BeforeLink = Unit {0}
-IsWalkEnd BeforeMin = Unit {0}
+IsWalkEnd (Activity.Rebalance (Rebalance.Replace Replace.Next)) = Unit {0}
+IsWalkEnd (Activity.Rebalance (Rebalance.Replace Replace.NextLeast)) = Unit {0}
 IsWalkEnd _ = ⊥
 
 -- the seat found its row replaced; where a walk ended so, the row was in the list no more, as one

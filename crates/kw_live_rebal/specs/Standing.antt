@@ -2,7 +2,9 @@
 use Rattle.std.specs.Prelude.{◌≡◌, ℕ, false}
 use Rattle.kw_world.specs.declared.answer.Answer.TheVariants as answer
 use Rattle.kw_world.specs.declared.activity.Activity.{Activity}
-use Rattle.kw_world.specs.declared.activity.Activity.TheVariants.{Leave, Again, SeekFirst, Seek, SeekPass, Reclaim, TakeRow, GiveBack, Normalise, Number, Retire, TakeFrom, TakeKey, TakeVersion, TakeValue, TakeRestKey, TakeRestValue, WriteCount, WriteMin, WriteNext, WriteFirst, WritePend, WriteKey, WriteValue, WriteVersion, WriteAfter}
+use Rattle.kw_world.specs.declared.activity.rebalance.Rebalance.TheVariants as Rebalance
+use Rattle.kw_world.specs.declared.activity.rebalance.replace.Replace.TheVariants as Replace
+use Rattle.kw_world.specs.declared.activity.rebalance.seek.Seek.TheVariants as Seek
 use Rattle.kw_world.specs.declared.event.Choice.{Choice}
 use Rattle.kw_world.specs.declared.local.Local.{Local}
 use Rattle.kw_world.specs.declared.rebalance.Afterwards.TheVariants.{Refuse, TryAgain}
@@ -18,22 +20,22 @@ use Rattle.kw_live_rebal.specs.Rebalancing.{MetReplaced, MetSpent, MetWon}
 pub record MetSearch (p q : Pass) : Type 0 where
   pub choice : Choice
   pub told : ℕ
-  pub met : Met p q SeekFirst choice told
+  pub met : Met p q (Activity.Rebalance (Rebalance.Seek Seek.First)) choice told
 
 -- what it has met where it stands. It stands at no activity but these, and those of a rebalance:
 -- whoever makes its events sees to it that it does not come to the end of one that won
 abbrev pub HasMet : Pass → Pass → Activity → Local → Type 0
-HasMet o p (Leave answer.Spent) l = MetSpent o p
-HasMet o p (Leave answer.NoRows) l = MetSearch o p
-HasMet o p Again l = MetReplaced o p
-HasMet o p Seek l = MetSearch o p
-HasMet o p (SeekPass i) l = MetSearch o p
-HasMet o p Reclaim l = MetSearch o p
-HasMet o p TakeRow l = MetSearch o p
-HasMet o p GiveBack l = (l.rebalance.afterwards ≡ Refuse → MetSearch o p) × (l.rebalance.afterwards ≡ TryAgain → MetReplaced o p)
-HasMet o p Normalise l = MetWon o p
-HasMet o p Number l = ⊥
-HasMet o p Retire l = ⊥
+HasMet o p (Activity.Leave answer.Spent) l = MetSpent o p
+HasMet o p (Activity.Leave answer.NoRows) l = MetSearch o p
+HasMet o p Activity.Retry l = MetReplaced o p
+HasMet o p (Activity.Rebalance (Rebalance.Seek Seek.Next)) l = MetSearch o p
+HasMet o p (Activity.Rebalance (Rebalance.Seek (Seek.Pass i))) l = MetSearch o p
+HasMet o p (Activity.Rebalance (Rebalance.Seek Seek.Reclaim)) l = MetSearch o p
+HasMet o p (Activity.Rebalance (Rebalance.Seek Seek.Take)) l = MetSearch o p
+HasMet o p (Activity.Rebalance (Rebalance.Seek Seek.GiveBack)) l = (l.rebalance.afterwards ≡ Refuse → MetSearch o p) × (l.rebalance.afterwards ≡ TryAgain → MetReplaced o p)
+HasMet o p (Activity.Rebalance (Rebalance.Replace Replace.Normalise)) l = MetWon o p
+HasMet o p (Activity.Rebalance (Rebalance.Replace Replace.Number)) l = ⊥
+HasMet o p (Activity.Rebalance (Rebalance.Replace Replace.Retire)) l = ⊥
 HasMet o p a l = IsBalancing a
 
 -- what stays through all events of a rebalance
@@ -52,19 +54,6 @@ GoesOn s p l q m = (o : Pass) → Rebalances s o p l → Rebalances s o q m
 
 -- it gathers the cells of the full row, or writes a new one
 abbrev pub IsBuilding : Activity → Type 0
-IsBuilding TakeFrom = Unit {0}
-IsBuilding TakeKey = Unit {0}
-IsBuilding TakeVersion = Unit {0}
-IsBuilding TakeValue = Unit {0}
-IsBuilding TakeRestKey = Unit {0}
-IsBuilding TakeRestValue = Unit {0}
-IsBuilding WriteCount = Unit {0}
-IsBuilding WriteMin = Unit {0}
-IsBuilding WriteNext = Unit {0}
-IsBuilding WriteFirst = Unit {0}
-IsBuilding (WritePend i) = Unit {0}
-IsBuilding (WriteKey j) = Unit {0}
-IsBuilding (WriteValue j) = Unit {0}
-IsBuilding (WriteVersion j) = Unit {0}
-IsBuilding (WriteAfter j) = Unit {0}
+IsBuilding (Activity.Rebalance (Rebalance.Gather _)) = Unit {0}
+IsBuilding (Activity.Rebalance (Rebalance.Write _)) = Unit {0}
 IsBuilding _ = ⊥

@@ -6,9 +6,11 @@
 //! seat forgets them, which it does as it retires the full one.
 use kw_index::change::Change;
 use kw_index::entries::Entry;
+use kw_index::hints::Hints;
 use kw_index::index::Index;
-use kw_table::Hints;
 use kw_world::activity::Activity;
+use kw_world::activity::rebalance::Rebalance;
+use kw_world::activity::rebalance::replace::Replace;
 use kw_world::local::Local;
 
 /// Tells the index of a rebalance that won, where its new rows are normal and the full one is not
@@ -16,28 +18,12 @@ use kw_world::local::Local;
 ///
 /// The full row is gone then, and each new row has its least key. The hints have other entries
 /// afterwards, and the pass searches behind the last new row next. Where others publish again and
-/// again just then, or there are no hints, the index is not told: its guesses in this range lead to
-/// the first row, until a rebalance there is published. Takes no memory.
-pub(crate) fn tell_index(index: &Index, hints: &mut Option<Box<Hints>>, local: &Local) {
-    let Activity::Number = local.activity else {
+/// again just then, the change waits with the hints, and is published with the next one of this
+/// caller. Takes no memory.
+pub(crate) fn tell_index(index: &Index, hints: &mut Hints, local: &Local) {
+    let Activity::Rebalance(Rebalance::Replace(Replace::Number)) = local.activity else {
         return;
     };
-    if let Some(hints) = hints {
-        publish_by(index, hints, local);
-    }
-}
-
-/// The row at which a search for free rows begins: that of the hints, and else the one behind the
-/// full row.
-pub(crate) fn search_start(hints: &Option<Box<Hints>>, local: &Local) -> u32 {
-    match hints {
-        Some(hints) => hints.window.start(),
-        None => local.row.saturating_add(1),
-    }
-}
-
-// Publishes the rows by these hints.
-fn publish_by(index: &Index, hints: &mut Hints, local: &Local) {
     let taken = local.rebalance.taken.as_slice();
     if let Some(row) = taken.last() {
         hints.window.took(*row, taken.len() as u32);

@@ -4,7 +4,7 @@
 //! links them in place of the full row, and retires that: one event after the other, as the table
 //! says. Where an exchange is lost the seat looks once more, so a rebalance may go on as long as
 //! others go on to win.
-ghost use Rattle.std.specs.Prelude.{◌≡◌, ◌≢◌, false};
+ghost use Rattle.std.specs.Prelude.{◌≡◌, ◌≢◌, true, false};
 ghost use Rattle.kw_world.specs.Sizes.{product};
 ghost use Rattle.kw_world.specs.Step.{next_of};
 ghost use Rattle.kw_world.specs.Transition.{outcome};
@@ -17,12 +17,20 @@ ghost use Rattle.kw_follow.specs.OwnEvents.{MetAs};
 ghost use Rattle.kw_follow.specs.Within.{IsWithinCall};
 ghost use Rattle.kw_live_rebal.specs.Rebalancing.{HasEnded, stands_after};
 
-use crate::publishing::{search_start, tell_index};
+use crate::guessing::guess;
+use crate::publishing::tell_index;
 use crate::stretches::{gather_row, write_row};
 use kw_follow::{go, go_build};
+use kw_index::hints::Hints;
 use kw_index::index::Index;
-use kw_table::{Hints, Pass, Shared};
+use kw_table::{Pass, Shared};
 use kw_world::activity::Activity;
+use kw_world::activity::rebalance::Rebalance;
+use kw_world::activity::rebalance::engage::Engage;
+use kw_world::activity::rebalance::gather::Gather;
+use kw_world::activity::rebalance::replace::Replace;
+use kw_world::activity::rebalance::seek::Seek;
+use kw_world::activity::rebalance::write::Write;
 use kw_world::answer::Answer;
 use kw_world::event::Choice;
 use kw_world::local::Local;
@@ -59,12 +67,12 @@ pub fn rebalance<R: Wait>(
     rt: &R,
     shared: &Shared,
     index: &Index,
-    hints: &mut Option<Box<Hints>>,
+    hints: &mut Hints,
     pass: &mut Pass,
     local: &mut Local,
 ) -> Rebalanced
     requires follows { Follows shared.now pass.old local.old }
-    requires activity { local.old.activity ≡ Activity.BalClock }
+    requires activity { local.old.activity ≡ Activity.Rebalance (Rebalance.Engage Engage.Clock) }
     requires untidied { local.old.tidies ≡ false }
     ensures goes { GoesTo shared.now pass.old pass.new }
     ensures follows { Follows shared.now pass.new local.new }
@@ -76,24 +84,60 @@ pub fn rebalance<R: Wait>(
 {
     for _ in rt.forever() {
         match local.activity {
-            Activity::Again => return Rebalanced::Again,
+            Activity::Retry => return Rebalanced::Again,
             Activity::Leave(answer) => return refused(answer),
-            Activity::Normalise => {
-                finish(rt, shared, index, hints, pass, local);
-                return Rebalanced::Done;
-            }
-            Activity::TakeFrom => gather_row(rt, shared, pass, local),
-            Activity::WriteCount => {
-                warm_new_row(shared, local);
-                write_row(rt, shared, pass, local);
-            }
             _ => {
-                let choice = choice_at(shared, local, index, hints);
-                go_on(shared, pass, local, choice);
+                if has_won(&local.activity) {
+                    finish(rt, shared, index, hints, pass, local);
+                    return Rebalanced::Done;
+                }
+                if begins_gathering(&local.activity) {
+                    gather_row(rt, shared, pass, local);
+                } else if begins_row(&local.activity) {
+                    warm_new_row(shared, local);
+                    write_row(rt, shared, pass, local);
+                } else {
+                    let choice = choice_at(shared, local, index, hints);
+                    go_on(shared, pass, local, choice);
+                }
             }
         }
     }
     unreachable!()
+}
+
+// Whether the new rows are linked, and are made normal next.
+#[inline(always)]
+fn has_won(activity: &Activity) -> bool
+    ensures won { result ≡ true → activity.now ≡ Activity.Rebalance (Rebalance.Replace Replace.Normalise) }
+    ensures other { result ≡ false → activity.now ≢ Activity.Rebalance (Rebalance.Replace Replace.Normalise) }
+{
+    match activity {
+        Activity::Rebalance(Rebalance::Replace(Replace::Normalise)) => true,
+        _ => false,
+    }
+}
+
+// Whether the next event is the first of those that gather the full row.
+#[inline(always)]
+fn begins_gathering(activity: &Activity) -> bool
+    ensures { result ≡ true → activity.now ≡ Activity.Rebalance (Rebalance.Gather Gather.Link) }
+{
+    match activity {
+        Activity::Rebalance(Rebalance::Gather(Gather::Link)) => true,
+        _ => false,
+    }
+}
+
+// Whether the next event is the first of those that write a new row.
+#[inline(always)]
+fn begins_row(activity: &Activity) -> bool
+    ensures { result ≡ true → activity.now ≡ Activity.Rebalance (Rebalance.Write Write.Count) }
+{
+    match activity {
+        Activity::Rebalance(Rebalance::Write(Write::Count)) => true,
+        _ => false,
+    }
 }
 
 // Makes the next event with this choice. Where that is `Go`, the frequent events are made by steps
@@ -142,21 +186,21 @@ fn finish<R: Wait>(
     rt: &R,
     shared: &Shared,
     index: &Index,
-    hints: &mut Option<Box<Hints>>,
+    hints: &mut Hints,
     pass: &mut Pass,
     local: &mut Local,
 )
     requires follows { Follows shared.now pass.old local.old }
-    requires won { local.old.activity ≡ Activity.Normalise }
+    requires won { local.old.activity ≡ Activity.Rebalance (Rebalance.Replace Replace.Normalise) }
     requires untidied { local.old.tidies ≡ false }
     ensures goes { GoesTo shared.now pass.old pass.new }
     ensures follows { Follows shared.now pass.new local.new }
-    ensures again { local.new.activity ≡ Activity.Again }
+    ensures again { local.new.activity ≡ Activity.Retry }
     ensures calls { KeepsCalls pass.old pass.new }
     ensures held { held pass.new ≡ held pass.old }
 {
     for _ in rt.forever() {
-        if let Activity::Again = local.activity {
+        if let Activity::Retry = local.activity {
             return;
         }
         tell_index(index, hints, local);
@@ -166,17 +210,14 @@ fn finish<R: Wait>(
 }
 
 // The choice with which the next event is made.
-fn choice_at(
-    shared: &Shared,
-    local: &Local,
-    index: &Index,
-    hints: &mut Option<Box<Hints>>,
-) -> Choice
+fn choice_at(shared: &Shared, local: &Local, index: &Index, hints: &mut Hints) -> Choice
     ensures { is_stop result ≡ false }
 {
     match local.activity {
-        Activity::SeekFirst => Choice::Guess(search_start(hints, local)),
-        Activity::Before => match guess_before(shared, local, index, hints) {
+        Activity::Rebalance(Rebalance::Seek(Seek::First)) => Choice::Guess(hints.window.start()),
+        Activity::Rebalance(Rebalance::Replace(Replace::Start)) => match guess_before(
+            shared, local, index, hints,
+        ) {
             Some(row) => Choice::Guess(row),
             None => Choice::Go,
         },
@@ -185,12 +226,7 @@ fn choice_at(
 }
 
 // A row to begin at for the key below the least key of the full row.
-fn guess_before(
-    shared: &Shared,
-    local: &Local,
-    index: &Index,
-    hints: &mut Option<Box<Hints>>,
-) -> Option<u32> {
+fn guess_before(shared: &Shared, local: &Local, index: &Index, hints: &mut Hints) -> Option<u32> {
     let key = local.lower.checked_sub(1)?;
-    shared.guess(hints, index, key)
+    guess(shared, index, hints, key)
 }

@@ -11,6 +11,9 @@ ghost use Rattle.kw_live_rebal.specs.Standing.{GoesOn, IsBuilding};
 use kw_follow::go_build;
 use kw_table::{Pass, Shared};
 use kw_world::activity::Activity;
+use kw_world::activity::rebalance::Rebalance;
+use kw_world::activity::rebalance::gather::Gather;
+use kw_world::activity::rebalance::write::Write;
 use kw_world::local::Local;
 use std::sync::Wait;
 
@@ -18,7 +21,7 @@ use std::sync::Wait;
 /// first event that does not. Takes no memory.
 pub(crate) fn gather_row<R: Wait>(rt: &R, shared: &Shared, pass: &mut Pass, local: &mut Local)
     requires follows { Follows shared.now pass.old local.old }
-    requires activity { local.old.activity ≡ Activity.TakeFrom }
+    requires activity { local.old.activity ≡ Activity.Rebalance (Rebalance.Gather Gather.Link) }
     ensures follows { Follows shared.now pass.new local.new }
     ensures on { GoesOn shared.now pass.old local.old pass.new local.new }
 {
@@ -35,7 +38,7 @@ pub(crate) fn gather_row<R: Wait>(rt: &R, shared: &Shared, pass: &mut Pass, loca
 /// memory.
 pub(crate) fn write_row<R: Wait>(rt: &R, shared: &Shared, pass: &mut Pass, local: &mut Local)
     requires follows { Follows shared.now pass.old local.old }
-    requires activity { local.old.activity ≡ Activity.WriteCount }
+    requires activity { local.old.activity ≡ Activity.Rebalance (Rebalance.Write Write.Count) }
     ensures follows { Follows shared.now pass.new local.new }
     ensures on { GoesOn shared.now pass.old local.old pass.new local.new }
 {
@@ -54,12 +57,7 @@ fn is_gathering(activity: &Activity) -> bool
     ensures { result ≡ true → IsBuilding activity.now }
 {
     match activity {
-        Activity::TakeFrom
-        | Activity::TakeKey
-        | Activity::TakeVersion
-        | Activity::TakeValue
-        | Activity::TakeRestKey
-        | Activity::TakeRestValue => true,
+        Activity::Rebalance(Rebalance::Gather(_)) => true,
         _ => false,
     }
 }
@@ -71,14 +69,14 @@ fn is_in_row(activity: &Activity) -> bool
     ensures { result ≡ true → IsBuilding activity.now }
 {
     match activity {
-        Activity::WriteMin
-        | Activity::WriteNext
-        | Activity::WriteFirst
-        | Activity::WritePend(_)
-        | Activity::WriteKey(_)
-        | Activity::WriteValue(_)
-        | Activity::WriteVersion(_)
-        | Activity::WriteAfter(_) => true,
+        Activity::Rebalance(Rebalance::Write(Write::Least))
+        | Activity::Rebalance(Rebalance::Write(Write::Next))
+        | Activity::Rebalance(Rebalance::Write(Write::First))
+        | Activity::Rebalance(Rebalance::Write(Write::Entry(_)))
+        | Activity::Rebalance(Rebalance::Write(Write::Key(_)))
+        | Activity::Rebalance(Rebalance::Write(Write::Value(_)))
+        | Activity::Rebalance(Rebalance::Write(Write::Version(_)))
+        | Activity::Rebalance(Rebalance::Write(Write::After(_))) => true,
         _ => false,
     }
 }

@@ -6,7 +6,6 @@ use Rattle.kw_model.specs.declared.call.Call.{Call}
 use Rattle.kw_model.specs.declared.call.Call.TheVariants.{Put, Del, Get, Scan}
 use Rattle.kw_world.specs.declared.event.Event.{Event}
 use Rattle.kw_world.specs.declared.activity.Activity.{Activity}
-use Rattle.kw_world.specs.declared.activity.Activity.TheVariants.{Idle}
 use Rattle.kw_world.specs.declared.event.Choice.{Choice}
 use Rattle.kw_world.specs.declared.event.Choice.TheVariants.{Begin}
 use Rattle.kw_world.specs.declared.event.StepDone.{StepDone}
@@ -87,7 +86,7 @@ begins : (choice : Choice) (l : Local) → CanBegin choice l → may_begin l.act
 begins choice l h = which l.activity choice h
   where
     which : (a : Activity) (c : Choice) → CanBeginAt a c l → may_begin a c ≡ true
-    which Idle (Begin call) g = in_range call g.0
+    which Activity.Idle (Begin call) g = in_range call g.0
     which _ c g = refl
 
 -- the trace with one more event that was made

@@ -7,7 +7,7 @@ use Rattle.kw_words.specs.declared.layout.Name.TheVariants as name
 use Rattle.kw_words.specs.Count.{count_of}
 use Rattle.kw_words.specs.Plain.{key_of_word, value_of_word}
 use Rattle.kw_world.specs.declared.activity.Activity.{Activity}
-use Rattle.kw_world.specs.declared.activity.Activity.TheVariants.{Announce, PutAdd, PutVersion}
+use Rattle.kw_world.specs.declared.activity.put.Put.TheVariants as Put
 use Rattle.kw_world.specs.declared.local.Local.{Local}
 use Rattle.kw_world.specs.declared.event.Choice.{Choice}
 use Rattle.kw_world.specs.Sizes.{Sizes}
@@ -111,7 +111,7 @@ module _ (z : Sizes) (r r' : Run) (s : ℕ) (choice : Choice) (l : Local) (a : A
   grows q k = linked_given a h i.shape q k
 
   -- a seat that asks for a cell adds one to the count of its row
-  taken_given : a ≡ PutAdd → given_in (word z r'.world) l.row ≡ given_in (word z r.world) l.row + 1
+  taken_given : a ≡ Activity.Put Put.Add → given_in (word z r'.world) l.row ≡ given_in (word z r.world) l.row + 1
   taken_given e = given_more _ _ (subst (λ x. Happens z r r' s choice l l' x) e h).changed.same (i.shape.sane.each (name.Count l.row) (i.shape.sane.locals s l h.knows).below.row)
 
   -- an attempt that is added now is added after its row was linked
@@ -190,14 +190,14 @@ module _ (z : Sizes) (r r' : Run) (s : ℕ) (choice : Choice) (l : Local) (a : A
         stays (inr f) = inr (freeze_lasts f)
 
         -- the row is asked for the cell: it gives it, or is frozen
-        asked : a ≡ PutAdd → q ≡ l.row → c ≡ given_in (word z r.world) l.row → (b : Bool) → has_room z (count_of (word z r.world (name.Count l.row))) ≡ b → ((p : ℕ) × (r'.origin q c ≡ Some p)) ⊎ IsFrozen (word z r'.world) q
+        asked : a ≡ Activity.Put Put.Add → q ≡ l.row → c ≡ given_in (word z r.world) l.row → (b : Bool) → has_room z (count_of (word z r.world (name.Count l.row))) ≡ b → ((p : ℕ) × (r'.origin q c ≡ Some p)) ⊎ IsFrozen (word z r'.world) q
         asked e f u true m = inl (length r.history.attempts, rw (f, u) (origin_new (subst (λ k. Happens z r r' s choice l l' k) e h) m))
         asked e f u false m =
             let below = (i.shape.sane.locals s l h.knows).below.row in
             let less : given_in (word z r.world) l.row < z.cells = omega (arith, u, o) in
             inr (freeze_lasts (rw f (no_room_frozen z (count_of (word z r.world (name.Count l.row))) (i.shape.sane.each (name.Count l.row) below) m less)))
 
-        which : (c < given_in (word z r.world) q) ⊎ (given_in (word z r.world) q ≤ c) → (given_in (word z r'.world) q ≡ given_in (word z r.world) q) ⊎ (a ≡ PutAdd) × (q ≡ l.row) → ((p : ℕ) × (r'.origin q c ≡ Some p)) ⊎ IsFrozen (word z r'.world) q
+        which : (c < given_in (word z r.world) q) ⊎ (given_in (word z r.world) q ≤ c) → (given_in (word z r'.world) q ≡ given_in (word z r.world) q) ⊎ (a ≡ Activity.Put Put.Add) × (q ≡ l.row) → ((p : ℕ) × (r'.origin q c ≡ Some p)) ⊎ IsFrozen (word z r'.world) q
         which (inl x) y = stays (i.puts.places.given q c k o x)
         which (inr x) (inl y) = absurd (omega (arith, x, g, y))
         which (inr x) (inr y) =
@@ -345,27 +345,27 @@ module _ (z : Sizes) (r r' : Run) (s : ℕ) (choice : Choice) (l : Local) (a : A
   body_value y = ap value_of_word (linked_value a h i.shape (attempt r.history p).row (attempt r.history p).cell x.linked (i.puts.placed p w).cell (λ n e f. fresh_apart (value_puts a n) y e f)) ∙ (i.puts.body p w x).value y
 
 -- and in the cell of the attempt that is announced now
-module _ (z : Sizes) (r r' : Run) (s : ℕ) (choice : Choice) (l : Local) (l' : Local) (h : Happens z r r' s choice l l' Announce) (i : Below z r) where
+module _ (z : Sizes) (r r' : Run) (s : ℕ) (choice : Choice) (l : Local) (l' : Local) (h : Happens z r r' s choice l l' (Activity.Put Put.Announce)) (i : Below z r) where
   own : OwnsAttempt (word z r.world) r.history s l.activity l (r.seats s)
-  own = acting_own z r r' s choice l Announce l' h i tt
+  own = acting_own z r r' s choice l (Activity.Put Put.Announce) l' h i tt
 
   announced_key : key_in (word z r'.world) (attempt r.history (r.seats s).own).row (attempt r.history (r.seats s).own).cell ≡ (attempt r.history (r.seats s).own).key
   announced_key =
       let k = i.shape.sane.locals s l h.knows in
-      rw (own.row, own.cell) (ap key_of_word (key_stays Announce h l.row l.cell k.below.row k.ranges.cell (λ x. x)) ∙ own.has_key (subst HasKey (sym h.activity) tt))
+      rw (own.row, own.cell) (ap key_of_word (key_stays (Activity.Put Put.Announce) h l.row l.cell k.below.row k.ranges.cell (λ x. x)) ∙ own.has_key (subst HasKey (sym h.activity) tt))
 
   announced_value : value_in (word z r'.world) (attempt r.history (r.seats s).own).row (attempt r.history (r.seats s).own).cell ≡ (attempt r.history (r.seats s).own).value
   announced_value =
       let k = i.shape.sane.locals s l h.knows in
-      rw (own.row, own.cell) (ap value_of_word (value_stays Announce h l.row l.cell k.below.row k.ranges.cell (λ x. x)) ∙ own.has_value (subst IsAnnounce (sym h.activity) tt))
+      rw (own.row, own.cell) (ap value_of_word (value_stays (Activity.Put Put.Announce) h l.row l.cell k.below.row k.ranges.cell (λ x. x)) ∙ own.has_value (subst IsAnnounce (sym h.activity) tt))
 
 -- a version that is stored is that of the seat's own attempt, which is stamped
 stored_now : (z : Sizes) (r r' : Run) (s : ℕ) (choice : Choice) (l : Local) (a : Activity) (l' : Local) → Happens z r r' s choice l l' a → Below z r → (p : ℕ) → p < length r.history.attempts → IsHere r.ledger.rows r.history p → word z r.world (name.Version (attempt r.history p).row (attempt r.history p).cell) ≡ 0 → word z r'.world (name.Version (attempt r.history p).row (attempt r.history p).cell) ≢ 0 →
     ((attempt r.history p).is_stamped ≡ true) × (word z r'.world (name.Version (attempt r.history p).row (attempt r.history p).cell) ≡ (attempt r.history p).version)
-stored_now z r r' s choice l PutVersion l' h i p w x e n = which (cases_eq (attempt r.history p).row l.row) (cases_eq (attempt r.history p).cell l.cell)
+stored_now z r r' s choice l (Activity.Put Put.Version) l' h i p w x e n = which (cases_eq (attempt r.history p).row l.row) (cases_eq (attempt r.history p).cell l.cell)
   where
     own : OwnsAttempt (word z r.world) r.history s l.activity l (r.seats s)
-    own = acting_own z r r' s choice l PutVersion l' h i tt
+    own = acting_own z r r' s choice l (Activity.Put Put.Version) l' h i tt
 
     which : ((attempt r.history p).row ≡ l.row) ⊎ ((attempt r.history p).row ≡ l.row → ⊥) → ((attempt r.history p).cell ≡ l.cell) ⊎ ((attempt r.history p).cell ≡ l.cell → ⊥) → ((attempt r.history p).is_stamped ≡ true) × (word z r'.world (name.Version (attempt r.history p).row (attempt r.history p).cell) ≡ (attempt r.history p).version)
     which (inl f) (inl g) =
@@ -373,8 +373,8 @@ stored_now z r r' s choice l PutVersion l' h i p w x e n = which (cases_eq (atte
           subst (λ q. (attempt r.history q).is_stamped ≡ true) (sym same) (own.stamped (subst IsStamped (sym h.activity) tt)),
           rw (f, g) (h.changed.same ∙ sym (own.version (subst IsStamped (sym h.activity) tt)) ∙ ap (λ q. (attempt r.history q).version) (sym same)),
         )
-    which (inr d) g = absurd (n (linked_version PutVersion h i.shape (attempt r.history p).row (attempt r.history p).cell x.linked (i.puts.placed p w).cell (λ m f j. d f) ∙ e))
-    which (inl f) (inr d) = absurd (n (linked_version PutVersion h i.shape (attempt r.history p).row (attempt r.history p).cell x.linked (i.puts.placed p w).cell (λ m j g. d g) ∙ e))
+    which (inr d) g = absurd (n (linked_version (Activity.Put Put.Version) h i.shape (attempt r.history p).row (attempt r.history p).cell x.linked (i.puts.placed p w).cell (λ m f j. d f) ∙ e))
+    which (inl f) (inr d) = absurd (n (linked_version (Activity.Put Put.Version) h i.shape (attempt r.history p).row (attempt r.history p).cell x.linked (i.puts.placed p w).cell (λ m j g. d g) ∙ e))
 stored_now z r r' s choice l a l' h i p w x e n = absurd (n (linked_version a h i.shape (attempt r.history p).row (attempt r.history p).cell x.linked (i.puts.placed p w).cell (λ m f g. m) ∙ e))
 
 -- a version that stands in a cell is that of its attempt, which is stamped
@@ -403,11 +403,11 @@ body_stays z r r' s choice l a l' h i st p w u = record {
     same : SameAttempt r.history r'.history p
     same = goes.attempts p w
 
-    has_key : ((attempt r.history p).is_announced ≡ true) ⊎ (a ≡ Announce) × (p ≡ (r.seats s).own) → key_in (word z r'.world) (attempt r.history p).row (attempt r.history p).cell ≡ (attempt r.history p).key
+    has_key : ((attempt r.history p).is_announced ≡ true) ⊎ (a ≡ Activity.Put Put.Announce) × (p ≡ (r.seats s).own) → key_in (word z r'.world) (attempt r.history p).row (attempt r.history p).cell ≡ (attempt r.history p).key
     has_key (inl x) = body_key z r r' s choice l a l' h i p w u x
     has_key (inr x) = rw x.1 (announced_key z r r' s choice l l' (subst (λ k. Happens z r r' s choice l l' k) x.0 h) i)
 
-    has_value : ((attempt r.history p).is_announced ≡ true) ⊎ (a ≡ Announce) × (p ≡ (r.seats s).own) → value_in (word z r'.world) (attempt r.history p).row (attempt r.history p).cell ≡ (attempt r.history p).value
+    has_value : ((attempt r.history p).is_announced ≡ true) ⊎ (a ≡ Activity.Put Put.Announce) × (p ≡ (r.seats s).own) → value_in (word z r'.world) (attempt r.history p).row (attempt r.history p).cell ≡ (attempt r.history p).value
     has_value (inl x) = body_value z r r' s choice l a l' h i p w u x
     has_value (inr x) = rw x.1 (announced_value z r r' s choice l l' (subst (λ k. Happens z r r' s choice l l' k) x.0 h) i)
 
@@ -428,7 +428,7 @@ body_keeps z r r' s choice l a l' b h i st p o u = which (attempt_was a h p o)
         let linked = row_linked z r i.shape s l h.knows (subst IsAtRow (sym taking.activity) tt) in
         let cell = room_below z (count_of (word z r.world (name.Count l.row))) n.gives.room in
         subst (λ (x : Attempt). word z r'.world (name.Version x.row x.cell) ≡ 0) (sym n.is)
-        (linked_version PutAdd taking i.shape l.row (given_in (word z r.world) l.row) linked cell (λ x e f. x) ∙ i.puts.places.unstored l.row (given_in (word z r.world) l.row) linked cell (i.puts.places.nobody l.row (given_in (word z r.world) l.row) linked cell (omega arith)))
+        (linked_version (Activity.Put Put.Add) taking i.shape l.row (given_in (word z r.world) l.row) linked cell (λ x e f. x) ∙ i.puts.places.unstored l.row (given_in (word z r.world) l.row) linked cell (i.puts.places.nobody l.row (given_in (word z r.world) l.row) linked cell (omega arith)))
 
     which : (p < length r.history.attempts) ⊎ IsNew z r r' s l a p → HasBody (word z r'.world) r'.history p
     which (inl w) = body_stays z r r' s choice l a l' h i st p w (here_was a h i st p w u)

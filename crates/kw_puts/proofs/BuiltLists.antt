@@ -19,7 +19,9 @@ use Rattle.kw_lists.specs.Built.{IsFirstFrom, LeadsFrom, IsBuilt}
 use Rattle.kw_lists.specs.Rows.{IsSound, Row}
 use Rattle.kw_lists.specs.Words.{row_in}
 use Rattle.kw_lists.proofs.Building.{built_list}
-use Rattle.kw_world.specs.declared.activity.Activity.TheVariants.{Before}
+use Rattle.kw_world.specs.declared.activity.Activity.TheVariants as Activity
+use Rattle.kw_world.specs.declared.activity.rebalance.Rebalance.TheVariants as Rebalance
+use Rattle.kw_world.specs.declared.activity.rebalance.replace.Replace.TheVariants as Replace
 use Rattle.kw_world.specs.declared.local.Local.{Local}
 use Rattle.kw_world.specs.Sane.{IsCopy}
 use Rattle.kw_world.specs.Sizes.{Sizes}
@@ -178,7 +180,7 @@ behind_fits cells j most None e short few = tt
 
 -- The words of a new row.
 
-module _ (z : Sizes) (v : Words) (k : Local) (q : ℕ) (w : Written z v Before k q) (few : z.cells ≤ MOST_CELLS) (short : length (infant_cells k) ≤ z.cells) (sound : All IsCopy (infant_cells k)) where
+module _ (z : Sizes) (v : Words) (k : Local) (q : ℕ) (w : Written z v (Activity.Rebalance (Rebalance.Replace Replace.Start)) k q) (few : z.cells ≤ MOST_CELLS) (short : length (infant_cells k) ≤ z.cells) (sound : All IsCopy (infant_cells k)) where
   cell_at : ℕ → Cell
   cell_at j = get_or (infant_cells k) j any_cell
 

@@ -6,7 +6,20 @@ use Rattle.kw_words.specs.declared.layout.Name.TheVariants as name
 use Rattle.kw_model.specs.declared.call.Call.{Call}
 use Rattle.kw_model.specs.declared.call.Call.TheVariants.{Put, Del, Get, Scan}
 use Rattle.kw_world.specs.declared.activity.Activity.{Activity}
-use Rattle.kw_world.specs.declared.activity.Activity.TheVariants.{Idle, Enter, ScanSettle, Look, LookHelp, ListFrom, ListKey, RestKey, RestVal, PutAdd, Stamp, PutClear, Leave}
+use Rattle.kw_world.specs.declared.activity.draw.Draw.TheVariants as Draw
+use Rattle.kw_world.specs.declared.activity.enter.Enter.TheVariants as Enter
+use Rattle.kw_world.specs.declared.activity.look.Look.TheVariants as Look
+use Rattle.kw_world.specs.declared.activity.put.Put.TheVariants as Put
+use Rattle.kw_world.specs.declared.activity.read.Read.TheVariants as Read
+use Rattle.kw_world.specs.declared.activity.rebalance.engage.Engage.TheVariants as Engage
+use Rattle.kw_world.specs.declared.activity.rebalance.freeze.Freeze.TheVariants as Freeze
+use Rattle.kw_world.specs.declared.activity.rebalance.gather.Gather.TheVariants as Gather
+use Rattle.kw_world.specs.declared.activity.insert.Insert.TheVariants as Insert
+use Rattle.kw_world.specs.declared.activity.rebalance.Rebalance.TheVariants as Rebalance
+use Rattle.kw_world.specs.declared.activity.rebalance.replace.Replace.TheVariants as Replace
+use Rattle.kw_world.specs.declared.activity.rebalance.seek.Seek.TheVariants as Seek
+use Rattle.kw_world.specs.declared.activity.walk.Walk.TheVariants as Walk
+use Rattle.kw_world.specs.declared.activity.rebalance.write.Write.TheVariants as Write
 use Rattle.kw_world.specs.declared.local.Local.{Local}
 use Rattle.kw_world.specs.declared.event.Choice.{Choice}
 use Rattle.kw_world.specs.declared.event.Choice.TheVariants.{Begin}
@@ -45,27 +58,27 @@ use Rattle.kw_shape.proofs.NextCalls.{arrow_call, arrow_published, arrow_done, a
 
 -- a seat in a call is busy
 underway_busy : (a : Activity) → IsUnderway a → IsBusy a
-underway_busy Idle u = u
+underway_busy Activity.Idle u = u
 underway_busy _ u = tt
 
 -- a put that is done is about to end
 done_ends : (a : Activity) → IsDone a → IsUnderway a → ⊥
-done_ends (Leave answer) d u = u
+done_ends (Activity.Leave answer) d u = u
 done_ends _ d u = d
 
 -- a put that is to stamp has announced its cell
 stamp_published : (a : Activity) → IsStamp a → IsPublished a
-stamp_published Stamp x = tt
+stamp_published (Activity.Put Put.Stamp) x = tt
 stamp_published _ x = absurd x
 
 -- a put that is to clear its entry has a cell and is stamped
 clear_published : (a : Activity) → IsPutClear a → IsPutting a × IsStamped a
-clear_published PutClear x = (tt, tt)
+clear_published (Activity.Put Put.Clear) x = (tt, tt)
 clear_published _ x = absurd x
 
 -- only a get or a scan helps
 met_reads : (a : Activity) (l : Local) → IsHelp a → IsKind a l → IsReadCall l.call
-met_reads LookHelp l x k = k
+met_reads (Activity.Look Look.Help) l x k = k
 met_reads _ l x k = absurd x
 
 -- a get or a scan puts nothing
@@ -105,20 +118,29 @@ put_after h h' e z v s choice l g o a c (makes_end answer) n w f r p q = inl (ap
 
 -- a seat that rebalances keeps its own attempt
 own_balancing : (z : Sizes) (choice : Choice) (l : Local) (found : ℕ) (next : Activity) (g : SeatLog) (o : Origins) (h : History) (settled : ℕ) (a : Activity) → IsBalancing a → (seat_after z a choice l found next g o h settled).own ≡ g.own
-own_balancing z choice l found next g o h settled Idle u = absurd u
-own_balancing z choice l found next g o h settled ScanSettle u = absurd u
-own_balancing z choice l found next g o h settled (Look i) u = absurd u
-own_balancing z choice l found next g o h settled ListFrom u = absurd u
-own_balancing z choice l found next g o h settled ListKey u = absurd u
-own_balancing z choice l found next g o h settled RestKey u = absurd u
-own_balancing z choice l found next g o h settled RestVal u = absurd u
-own_balancing z choice l found next g o h settled PutAdd u = absurd u
+own_balancing z choice l found next g o h settled Activity.Idle u = absurd u
+own_balancing z choice l found next g o h settled (Activity.Draw Draw.Settle) u = absurd u
+own_balancing z choice l found next g o h settled (Activity.Look (Look.Entry i)) u = absurd u
+own_balancing z choice l found next g o h settled (Activity.Read Read.Link) u = absurd u
+own_balancing z choice l found next g o h settled (Activity.Read Read.Key) u = absurd u
+own_balancing z choice l found next g o h settled (Activity.Read Read.LeftOverKey) u = absurd u
+own_balancing z choice l found next g o h settled (Activity.Read Read.LeftOverValue) u = absurd u
+own_balancing z choice l found next g o h settled (Activity.Put Put.Add) u = absurd u
+own_balancing z choice l found next g o h settled (Activity.Enter Enter.Announce) u = refl
+own_balancing z choice l found next g o h settled (Activity.Walk Walk.First) u = refl
+own_balancing z choice l found next g o h settled (Activity.Insert Insert.Link) u = refl
+own_balancing z choice l found next g o h settled (Activity.Rebalance (Rebalance.Engage Engage.Clock)) u = refl
+own_balancing z choice l found next g o h settled (Activity.Rebalance (Rebalance.Freeze Freeze.Count)) u = refl
+own_balancing z choice l found next g o h settled (Activity.Rebalance (Rebalance.Gather Gather.Link)) u = refl
+own_balancing z choice l found next g o h settled (Activity.Rebalance (Rebalance.Seek Seek.Next)) u = refl
+own_balancing z choice l found next g o h settled (Activity.Rebalance (Rebalance.Write Write.Count)) u = refl
+own_balancing z choice l found next g o h settled (Activity.Rebalance (Rebalance.Replace Replace.First)) u = refl
 own_balancing z choice l found next g o h settled _ u = refl
 
 -- The call after the event.
 
 -- a call that begins
-pub calling_begins : (z : Sizes) (r r' : Run) (s : ℕ) (choice : Choice) (l l' : Local) (call : Call) → choice ≡ Begin call → l'.call ≡ Some call → l'.number ≡ l.number + 1 → l'.activity ≡ Enter → (l'.tidies ≡ true → ⊥) → Happens z r r' s choice l l' Idle → Calling r'.history s l'.activity l' (r'.seats s)
+pub calling_begins : (z : Sizes) (r r' : Run) (s : ℕ) (choice : Choice) (l l' : Local) (call : Call) → choice ≡ Begin call → l'.call ≡ Some call → l'.number ≡ l.number + 1 → l'.activity ≡ Activity.Enter Enter.Announce → (l'.tidies ≡ true → ⊥) → Happens z r r' s choice l l' Activity.Idle → Calling r'.history s l'.activity l' (r'.seats s)
 calling_begins z r r' s choice l l' call c f m a rests h = subst (λ q. Calling r'.history s l'.activity l' q) (sym log) (record {
   within = omega (arith, ap length calls, length-append r.history.calls (new ∷ []));
   seat = ap (λ (q : CallLog). q.seat) is_new;
@@ -131,7 +153,7 @@ calling_begins z r r' s choice l l' call c f m a rests h = subst (λ q. Calling 
 })
   where
     not_yet : IsDone l'.activity ⊎ (l'.tidies ≡ true) → ⊥
-    not_yet (inl d) = let x : IsDone Enter = subst IsDone a d in x
+    not_yet (inl d) = let x : IsDone (Activity.Enter Enter.Announce) = subst IsDone a d in x
     not_yet (inr d) = rests d
 
     new : CallLog
@@ -141,7 +163,7 @@ calling_begins z r r' s choice l l' call c f m a rests h = subst (λ q. Calling 
     log = h.log ∙ ap (λ q. log_begun q (length r.history.calls) (r.seats s)) c
 
     calls : r'.history.calls ≡ r.history.calls ++ new ∷ []
-    calls = ap (λ (q : History). q.calls) (h.history ∙ ap (λ q. noted r.history (log_entry z r Idle s choice l) (beginning q s l)) c)
+    calls = ap (λ (q : History). q.calls) (h.history ∙ ap (λ q. noted r.history (log_entry z r Activity.Idle s choice l) (beginning q s l)) c)
 
     is_new : called r'.history (length r.history.calls) ≡ new
     is_new = called_push_new r.history r'.history (length r.history.calls) new calls refl
@@ -181,7 +203,7 @@ module _ (z : Sizes) (r r' : Run) (s : ℕ) (choice : Choice) (l : Local) (a : A
       (λ y. (i.puts.owns s l h.knows (subst IsPutting (sym h.activity) (stamp_puts a y))).call) reads_none
     where
       stamp_puts : (c : Activity) → IsStamp c → IsPutting c
-      stamp_puts Stamp y = tt
+      stamp_puts (Activity.Put Put.Stamp) y = tt
       stamp_puts _ y = absurd y
 
   -- a seat that tidies rebalances its row
@@ -209,7 +231,7 @@ module _ (z : Sizes) (r r' : Run) (s : ℕ) (choice : Choice) (l : Local) (a : A
 
   -- an attempt that is the put of the call was not lost, so its seat finds its entry its own where
   -- it is about to stamp
-  not_lost : (p : ℕ) → (called r'.history (r.seats s).call).put ≡ Some p → (r.seats s).own ≡ p → a ≡ Stamp → IsNotOwn l.cell (word z r.world (name.Pend l.row s)) → ⊥
+  not_lost : (p : ℕ) → (called r'.history (r.seats s).call).put ≡ Some p → (r.seats s).own ≡ p → a ≡ Activity.Put Put.Stamp → IsNotOwn l.cell (word z r.world (name.Pend l.row s)) → ⊥
   not_lost p q e stamp n =
       let own = i.puts.owns s l h.knows (subst IsPutting (sym (h.activity ∙ stamp)) tt) in
       let lost = lost_entry z r s l i own h.knows (h.activity ∙ stamp) n in
@@ -225,7 +247,7 @@ module _ (z : Sizes) (r r' : Run) (s : ℕ) (choice : Choice) (l : Local) (a : A
       (old_call r.history r'.history _ st (r.seats s).call x.within).put (r.seats s).own (subst (λ y. (called r.history y).put ≡ Some (r.seats s).own) own.call put)
 
   -- it goes on so, is done, or tidies
-  goes : (IsNotOwn l.cell (word z r.world (name.Pend l.row s)) → a ≡ Stamp → ⊥) → IsPublished a ⊎ IsBalancing a × (l.tidies ≡ true) → IsPublished l'.activity ⊎ IsDone l'.activity ⊎ (l'.tidies ≡ true)
+  goes : (IsNotOwn l.cell (word z r.world (name.Pend l.row s)) → a ≡ Activity.Put Put.Stamp → ⊥) → IsPublished a ⊎ IsBalancing a × (l.tidies ≡ true) → IsPublished l'.activity ⊎ IsDone l'.activity ⊎ (l'.tidies ≡ true)
   goes f (inl y) = which (arrow_published z (word z r.world) s choice l a l' b f y)
     where
       which : IsPublished l'.activity ⊎ IsDone l'.activity ⊎ IsBalancing l'.activity × (l'.tidies ≡ true) → IsPublished l'.activity ⊎ IsDone l'.activity ⊎ (l'.tidies ≡ true)

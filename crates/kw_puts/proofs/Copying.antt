@@ -16,7 +16,13 @@ use Rattle.kw_lists.specs.Words.{row_in}
 use Rattle.kw_rows.specs.Ledger.{Ledger}
 use Rattle.kw_rows.specs.Rows.{WasLinked}
 use Rattle.kw_world.specs.declared.activity.Activity.{Activity}
-use Rattle.kw_world.specs.declared.activity.Activity.TheVariants.{Again, BalClock, Before, BeforeGuess, BeforeHead, BeforeLink, BeforeMin, GiveBack, Insert, Leave, Normalise, Number, PutAdd, Reclaim, Replace, Retire, Seek, SeekPass, TakeRow, WriteAfter, WriteCount, WriteFirst, WriteKey, WriteMin, WriteNext, WritePend, WriteValue, WriteVersion}
+use Rattle.kw_world.specs.declared.activity.rebalance.engage.Engage.TheVariants as Engage
+use Rattle.kw_world.specs.declared.activity.insert.Insert.TheVariants as Insert
+use Rattle.kw_world.specs.declared.activity.put.Put.TheVariants as Put
+use Rattle.kw_world.specs.declared.activity.rebalance.Rebalance.TheVariants as Rebalance
+use Rattle.kw_world.specs.declared.activity.rebalance.replace.Replace.TheVariants as Replace
+use Rattle.kw_world.specs.declared.activity.rebalance.seek.Seek.TheVariants as Seek
+use Rattle.kw_world.specs.declared.activity.rebalance.write.Write.TheVariants as Write
 use Rattle.kw_world.specs.declared.event.Choice.{Choice}
 use Rattle.kw_world.specs.declared.local.Local.{Local}
 use Rattle.kw_world.specs.declared.rebalance.Afterwards.{Afterwards}
@@ -88,26 +94,26 @@ copied_like z h o f a b l k q same row version after count x = record {
 }
 
 -- nothing is known of a row before its first word is written
-pub copied_none : (z : Sizes) (h : History) (o : Origins) (f : Listed) (k : Local) (q : ℕ) → Copied z h o f WriteCount k q
+pub copied_none : (z : Sizes) (h : History) (o : Origins) (f : Listed) (k : Local) (q : ℕ) → Copied z h o f (Activity.Rebalance (Rebalance.Write Write.Count)) k q
 copied_none z h o f k q = record { origin = λ j c u m g. absurd m; gathered = λ j c u m g. absurd m; rest = λ j u m g. absurd m; listed = λ j u m. absurd m; unlisted = λ n j m. absurd n }
 
 -- all entries are written, and no cell
-copied_entries : (z : Sizes) (h : History) (o : Origins) (f : Listed) (l : Local) (q i : ℕ) → Copied z h o f (WritePend i) l q → Copied z h o f (WriteKey 0) l q
-copied_entries z h o f l q i x = copied_like z h o f (WritePend i) (WriteKey 0) l l q refl refl (λ j u m. absurd (omega (arith, m))) (λ j u m. absurd (omega (arith, m))) (λ n. (tt, λ j m. absurd m)) x
+copied_entries : (z : Sizes) (h : History) (o : Origins) (f : Listed) (l : Local) (q i : ℕ) → Copied z h o f (Activity.Rebalance (Rebalance.Write (Write.Entry i))) l q → Copied z h o f (Activity.Rebalance (Rebalance.Write (Write.Key 0))) l q
+copied_entries z h o f l q i x = copied_like z h o f (Activity.Rebalance (Rebalance.Write (Write.Entry i))) (Activity.Rebalance (Rebalance.Write (Write.Key 0))) l l q refl refl (λ j u m. absurd (omega (arith, m))) (λ j u m. absurd (omega (arith, m))) (λ n. (tt, λ j m. absurd m)) x
 
 -- a place beyond the row's cells
-copied_beyond : (z : Sizes) (h : History) (o : Origins) (f : Listed) (l : Local) (q i : ℕ) → Copied z h o f (WriteKey i) l q → Copied z h o f (WriteVersion i) l q
-copied_beyond z h o f l q i x = copied_like z h o f (WriteKey i) (WriteVersion i) l l q refl refl (λ j u m. m) (λ j u m. m) (λ n. (tt, λ j m. m)) x
+copied_beyond : (z : Sizes) (h : History) (o : Origins) (f : Listed) (l : Local) (q i : ℕ) → Copied z h o f (Activity.Rebalance (Rebalance.Write (Write.Key i))) l q → Copied z h o f (Activity.Rebalance (Rebalance.Write (Write.Version i))) l q
+copied_beyond z h o f l q i x = copied_like z h o f (Activity.Rebalance (Rebalance.Write (Write.Key i))) (Activity.Rebalance (Rebalance.Write (Write.Version i))) l l q refl refl (λ j u m. m) (λ j u m. m) (λ n. (tt, λ j m. m)) x
 
 -- all cells are written
-copied_whole : (z : Sizes) (h : History) (o : Origins) (f : Listed) (l k : Local) (q i : ℕ) → infant_cells k ≡ infant_cells l → k.row ≡ l.row → z.cells ≤ i → length (infant_cells l) ≤ z.cells → Copied z h o f (WriteKey i) l q → Copied z h o f Before k q
-copied_whole z h o f l k q i same row done short x = copied_like z h o f (WriteKey i) Before l k q same row (λ j u m. omega (arith, u, done)) (λ j u m. omega (arith, u, done, short)) (λ n. (tt, λ j m. tt)) x
+copied_whole : (z : Sizes) (h : History) (o : Origins) (f : Listed) (l k : Local) (q i : ℕ) → infant_cells k ≡ infant_cells l → k.row ≡ l.row → z.cells ≤ i → length (infant_cells l) ≤ z.cells → Copied z h o f (Activity.Rebalance (Rebalance.Write (Write.Key i))) l q → Copied z h o f (Activity.Rebalance (Rebalance.Replace Replace.Start)) k q
+copied_whole z h o f l k q i same row done short x = copied_like z h o f (Activity.Rebalance (Rebalance.Write (Write.Key i))) (Activity.Rebalance (Rebalance.Replace Replace.Start)) l k q same row (λ j u m. omega (arith, u, done)) (λ j u m. omega (arith, u, done, short)) (λ n. (tt, λ j m. tt)) x
 
 -- Of the row at hand, over the events that write its count, a version, and a link behind a cell.
 
 module _ {z : Sizes} {r r' : Run} {s : ℕ} {choice : Choice} {l l' : Local} {e : Logged} (st : Step r.history r'.history e) where
   -- none of its cells is listed
-  pub copies_count : Happens z r r' s choice l l' WriteCount → Copied z r'.history r'.origin r'.listed WriteMin l (infant l)
+  pub copies_count : Happens z r r' s choice l l' (Activity.Rebalance (Rebalance.Write Write.Count)) → Copied z r'.history r'.origin r'.listed (Activity.Rebalance (Rebalance.Write Write.Least)) l (infant l)
   copies_count h = record {
     origin = λ j c u m g. absurd m;
     gathered = λ j c u m g. absurd m;
@@ -118,7 +124,7 @@ module _ {z : Sizes} {r r' : Run} {s : ℕ} {choice : Choice} {l l' : Local} {e 
 
   -- one more copy stands for the attempt of the cell at which it was gathered, or the place for
   -- none
-  pub copies_version : (i : ℕ) → Happens z r r' s choice l l' (WriteVersion i) → (l.row ≡ infant l → ⊥) → All (IsGathered r.history r.origin l.row) (infant_cells l) → Copied z r.history r.origin r.listed (WriteVersion i) l (infant l) → Copied z r'.history r'.origin r'.listed (WriteAfter i) l (infant l)
+  pub copies_version : (i : ℕ) → Happens z r r' s choice l l' (Activity.Rebalance (Rebalance.Write (Write.Version i))) → (l.row ≡ infant l → ⊥) → All (IsGathered r.history r.origin l.row) (infant_cells l) → Copied z r.history r.origin r.listed (Activity.Rebalance (Rebalance.Write (Write.Version i))) l (infant l) → Copied z r'.history r'.origin r'.listed (Activity.Rebalance (Rebalance.Write (Write.After i))) l (infant l)
   copies_version i h apart gathered x = record {
     origin = λ j c u m g. which j c u m g (cases_eq j i);
     gathered = λ j c u m g. of_cell j c u m g (cases_eq j i);
@@ -128,10 +134,10 @@ module _ {z : Sizes} {r r' : Run} {s : ℕ} {choice : Choice} {l l' : Local} {e 
   }
     where
       same : (j : ℕ) → r'.listed (infant l) j ≡ r.listed (infant l) j
-      same j = listed_stays (WriteVersion i) h (infant l) j (λ c. c)
+      same j = listed_stays (Activity.Rebalance (Rebalance.Write (Write.Version i))) h (infant l) j (λ c. c)
 
       other : (j : ℕ) → (j ≡ i → ⊥) → r'.origin (infant l) j ≡ r.origin (infant l) j
-      other j d = origin_stays (WriteVersion i) h (infant l) j (λ c. d c.1)
+      other j d = origin_stays (Activity.Rebalance (Rebalance.Write (Write.Version i))) h (infant l) j (λ c. d c.1)
 
       now : (j : ℕ) (o : Option Cell) → j ≡ i → slice_get (infant_cells l) j ≡ o → r'.origin (infant l) j ≡ copied r.origin l.row o
       now j o d g = ap (r'.origin (infant l)) d ∙ origin_copied i h ∙ ap (λ (y : ℕ). copied r.origin l.row (slice_get (infant_cells l) y)) (sym d) ∙ ap (copied r.origin l.row) g
@@ -143,7 +149,7 @@ module _ {z : Sizes} {r r' : Run} {s : ℕ} {choice : Choice} {l l' : Local} {e 
       which j c u m g (inr d) = let y = x.origin j c u (omega (arith, m, d)) g in (y.0, other j d ∙ y.1, cell_lasts r.history r'.history e st c y.0 y.2)
 
       full : (c : ℕ) → r'.origin l.row c ≡ r.origin l.row c
-      full c = origin_stays (WriteVersion i) h l.row c (λ m. apart m.0)
+      full c = origin_stays (Activity.Rebalance (Rebalance.Write (Write.Version i))) h l.row c (λ m. apart m.0)
 
       of_cell : (j : ℕ) (c : Cell) → j < z.cells → j ≤ i → slice_get (infant_cells l) j ≡ Some c → (j ≡ i) ⊎ (j ≡ i → ⊥) → r'.origin (infant l) j ≡ r'.origin l.row c.place
       of_cell j c u m g (inl d) = now j (Some c) d g ∙ sym (full c.place)
@@ -154,17 +160,17 @@ module _ {z : Sizes} {r r' : Run} {s : ℕ} {choice : Choice} {l l' : Local} {e 
       none j u m g (inr d) = other j d ∙ x.rest j u (omega (arith, m, d)) g
 
   -- one more copy is listed, where the row has a cell for the place
-  pub copies_link : (i : ℕ) → Happens z r r' s choice l l' (WriteAfter i) → Copied z r.history r.origin r.listed (WriteAfter i) l (infant l) → Copied z r'.history r'.origin r'.listed (WriteKey (i + 1)) l (infant l)
+  pub copies_link : (i : ℕ) → Happens z r r' s choice l l' (Activity.Rebalance (Rebalance.Write (Write.After i))) → Copied z r.history r.origin r.listed (Activity.Rebalance (Rebalance.Write (Write.After i))) l (infant l) → Copied z r'.history r'.origin r'.listed (Activity.Rebalance (Rebalance.Write (Write.Key (i + 1)))) l (infant l)
   copies_link i h x = record {
-    origin = λ j c u m g. let y = x.origin j c u (omega (arith, m)) g in (y.0, origin_stays (WriteAfter i) h (infant l) j (λ c. c) ∙ y.1, cell_lasts r.history r'.history e st c y.0 y.2);
-    gathered = λ j c u m g. origin_stays (WriteAfter i) h (infant l) j (λ c. c) ∙ x.gathered j c u (omega (arith, m)) g ∙ sym (origin_stays (WriteAfter i) h l.row c.place (λ c. c));
-    rest = λ j u m g. origin_stays (WriteAfter i) h (infant l) j (λ c. c) ∙ x.rest j u (omega (arith, m)) g;
+    origin = λ j c u m g. let y = x.origin j c u (omega (arith, m)) g in (y.0, origin_stays (Activity.Rebalance (Rebalance.Write (Write.After i))) h (infant l) j (λ c. c) ∙ y.1, cell_lasts r.history r'.history e st c y.0 y.2);
+    gathered = λ j c u m g. origin_stays (Activity.Rebalance (Rebalance.Write (Write.After i))) h (infant l) j (λ c. c) ∙ x.gathered j c u (omega (arith, m)) g ∙ sym (origin_stays (Activity.Rebalance (Rebalance.Write (Write.After i))) h l.row c.place (λ c. c));
+    rest = λ j u m g. origin_stays (Activity.Rebalance (Rebalance.Write (Write.After i))) h (infant l) j (λ c. c) ∙ x.rest j u (omega (arith, m)) g;
     listed = λ j u m. which j u m (cases_eq j i);
     unlisted = λ n j m. back j m (cases_eq j i) (cases_lt i (length (infant_cells l)));
   }
     where
       other : (j : ℕ) → (j ≡ i → ⊥) → r'.listed (infant l) j ≡ r.listed (infant l) j
-      other j d = listed_stays (WriteAfter i) h (infant l) j (λ c. d c.1)
+      other j d = listed_stays (Activity.Rebalance (Rebalance.Write (Write.After i))) h (infant l) j (λ c. d c.1)
 
       which : (j : ℕ) → j < length (infant_cells l) → j < i + 1 → (j ≡ i) ⊎ (j ≡ i → ⊥) → r'.listed (infant l) j ≡ true
       which j u m (inl d) = ap (r'.listed (infant l)) d ∙ copy_listed i h (omega (arith, u, d))
@@ -183,12 +189,12 @@ module _ {z : Sizes} {r r' : Run} {s : ℕ} {choice : Choice} {l l' : Local} {e 
 -- what the cells stand for of those that are written whole, and of the one at hand: two parts of
 -- what a seat that rebalances knows
 pub record Copying (z : Sizes) (h : History) (o : Origins) (f : Listed) (a : Activity) (l : Local) : Type 0 where
-  pub whole : (i q : ℕ) → IsWhole (nursing_of a) l i → slice_get l.rebalance.taken i ≡ Some q → Copied z h o f Before (at_infant i l) q
+  pub whole : (i q : ℕ) → IsWhole (nursing_of a) l i → slice_get l.rebalance.taken i ≡ Some q → Copied z h o f (Activity.Rebalance (Rebalance.Replace Replace.Start)) (at_infant i l) q
   pub words : IsWriting (nursing_of a) → Copied z h o f a l (infant l)
 
 -- of a seat that writes rows: of those before the one at hand, and so much of that one
 record Copies (z : Sizes) (h : History) (o : Origins) (f : Listed) (l : Local) (b : Activity) : Type 0 where
-  whole : (i q : ℕ) → i < l.rebalance.at → slice_get l.rebalance.taken i ≡ Some q → Copied z h o f Before (at_infant i l) q
+  whole : (i q : ℕ) → i < l.rebalance.at → slice_get l.rebalance.taken i ≡ Some q → Copied z h o f (Activity.Rebalance (Rebalance.Replace Replace.Start)) (at_infant i l) q
   words : Copied z h o f b l (infant l)
 
 -- it is what such a seat knows
@@ -203,73 +209,73 @@ module _ (z : Sizes) (h : History) (o : Origins) (f : Listed) where
   -- a row is written
   copies_at : (b : Activity) (l : Local) → nursing_of b ≡ Writes → Copies z h o f l b → Copying z h o f b (record l { activity = b })
   copies_at b l e x = record {
-    whole = λ i q u g. copied_like z h o f Before Before (at_infant i l) (at_infant i (record l { activity = b })) q refl refl (λ j n m. m) (λ j n m. m) (λ n. (tt, λ j m. m)) (x.whole i q (subst (λ n. IsWhole n (record l { activity = b }) i) e u) g);
+    whole = λ i q u g. copied_like z h o f (Activity.Rebalance (Rebalance.Replace Replace.Start)) (Activity.Rebalance (Rebalance.Replace Replace.Start)) (at_infant i l) (at_infant i (record l { activity = b })) q refl refl (λ j n m. m) (λ j n m. m) (λ n. (tt, λ j m. m)) (x.whole i q (subst (λ n. IsWhole n (record l { activity = b }) i) e u) g);
     words = λ n. copied_like z h o f b b l (record l { activity = b }) (infant l) refl refl (λ j n m. m) (λ j n m. m) (λ n. (n, λ j m. m)) x.words;
   }
 
   -- all are
   copies_linking : (b : Activity) (l k : Local) → nursing_of b ≡ Links → k.rebalance.taken ≡ l.rebalance.taken → k.row ≡ l.row → ((i : ℕ) → infant_cells (at_infant i k) ≡ infant_cells (at_infant i l)) →
-      ((i q : ℕ) → slice_get l.rebalance.taken i ≡ Some q → Copied z h o f Before (at_infant i l) q) → Copying z h o f b k
+      ((i q : ℕ) → slice_get l.rebalance.taken i ≡ Some q → Copied z h o f (Activity.Rebalance (Rebalance.Replace Replace.Start)) (at_infant i l) q) → Copying z h o f b k
   copies_linking b l k e t row same x = record {
-    whole = λ i q u g. copied_like z h o f Before Before (at_infant i l) (at_infant i k) q (same i) row (λ j n m. m) (λ j n m. m) (λ n. (tt, λ j m. m)) (x i q (subst (λ (xs : List ℕ). slice_get xs i ≡ Some q) t g));
+    whole = λ i q u g. copied_like z h o f (Activity.Rebalance (Rebalance.Replace Replace.Start)) (Activity.Rebalance (Rebalance.Replace Replace.Start)) (at_infant i l) (at_infant i k) q (same i) row (λ j n m. m) (λ j n m. m) (λ n. (tt, λ j m. m)) (x i q (subst (λ (xs : List ℕ). slice_get xs i ≡ Some q) t g));
     words = λ n. absurd (subst IsWriting e n);
   }
 
   -- What follows where a part has no event of its own.
 
   copies_given : (c : Afterwards) (k next : Local) → GivenBack k c next → Copying z h o f next.activity next
-  copies_given c k next (tries_again nd) = copies_nowhere Again _ (λ i w. w) (λ w. w)
-  copies_given c k next (was_done dn) = copies_nowhere (Leave _) _ (λ i w. w) (λ w. w)
-  copies_given c k next (is_refused_rows nd) = copies_nowhere (Leave _) _ (λ i w. w) (λ w. w)
-  copies_given c k next (was_served dn) = copies_nowhere (Leave _) _ (λ i w. w) (λ w. w)
-  copies_given c k next moves_left = copies_nowhere BalClock _ (λ i w. w) (λ w. w)
+  copies_given c k next (tries_again nd) = copies_nowhere Activity.Retry _ (λ i w. w) (λ w. w)
+  copies_given c k next (was_done dn) = copies_nowhere (Activity.Leave _) _ (λ i w. w) (λ w. w)
+  copies_given c k next (is_refused_rows nd) = copies_nowhere (Activity.Leave _) _ (λ i w. w) (λ w. w)
+  copies_given c k next (was_served dn) = copies_nowhere (Activity.Leave _) _ (λ i w. w) (λ w. w)
+  copies_given c k next moves_left = copies_nowhere (Activity.Rebalance (Rebalance.Engage Engage.Clock)) _ (λ i w. w) (λ w. w)
 
   copies_back : (c : Afterwards) (k next : Local) → NextBack c k next → Copying z h o f next.activity next
-  copies_back c k next (gives_back u) = copies_nowhere GiveBack _ (λ i w. w) (λ w. w)
+  copies_back c k next (gives_back u) = copies_nowhere (Activity.Rebalance (Rebalance.Seek Seek.GiveBack)) _ (λ i w. w) (λ w. w)
   copies_back c k next (has_none m u y) = copies_given c k next y
 
   copies_seek : (rows : ℕ) (k next : Local) → NextSeek rows k next → Copying z h o f next.activity next
-  copies_seek rows k next (asks u) = copies_nowhere Seek _ (λ i w. w) (λ w. w)
+  copies_seek rows k next (asks u) = copies_nowhere (Activity.Rebalance (Rebalance.Seek Seek.Next)) _ (λ i w. w) (λ w. w)
   copies_seek rows k next (has_asked m u y) = copies_back _ k next y
 
   copies_pass : (i : ℕ) (k next : Local) → NextPass z i k next → Copying z h o f next.activity next
-  copies_pass i k next (looks_on u) = copies_nowhere (SeekPass i) _ (λ i w. w) (λ w. w)
-  copies_pass i k next (has_looked u) = copies_nowhere Reclaim _ (λ i w. w) (λ w. w)
+  copies_pass i k next (looks_on u) = copies_nowhere (Activity.Rebalance (Rebalance.Seek (Seek.Pass i))) _ (λ i w. w) (λ w. w)
+  copies_pass i k next (has_looked u) = copies_nowhere (Activity.Rebalance (Rebalance.Seek Seek.Reclaim)) _ (λ i w. w) (λ w. w)
 
   copies_taken : (rows : ℕ) (k next : Local) → NextTaken rows k next → Copying z h o f next.activity next
   copies_taken rows k next (wants_more m u y) = copies_seek rows k next y
   copies_taken rows k next (has_enough u) = record { whole = λ i q w g. absurd (omega (arith, w)); words = λ w. copied_none z h o f _ _ }
 
-  module _ (l : Local) (short : (i : ℕ) → length (infant_cells (at_infant i l)) ≤ z.cells) (n : ℕ) (done : z.cells ≤ n) (x : Copies z h o f l (WriteKey n)) where
+  module _ (l : Local) (short : (i : ℕ) → length (infant_cells (at_infant i l)) ≤ z.cells) (n : ℕ) (done : z.cells ≤ n) (x : Copies z h o f l (Activity.Rebalance (Rebalance.Write (Write.Key n)))) where
     -- a row up to the one at hand, which is whole now
-    copies_up_to : (i q : ℕ) → i ≤ l.rebalance.at → slice_get l.rebalance.taken i ≡ Some q → l.rebalance.at < length l.rebalance.taken → Copied z h o f Before (at_infant i l) q
+    copies_up_to : (i q : ℕ) → i ≤ l.rebalance.at → slice_get l.rebalance.taken i ≡ Some q → l.rebalance.at < length l.rebalance.taken → Copied z h o f (Activity.Rebalance (Rebalance.Replace Replace.Start)) (at_infant i l) q
     copies_up_to i q u g hand = which (cases_eq i l.rebalance.at)
       where
-        which : (i ≡ l.rebalance.at) ⊎ (i ≡ l.rebalance.at → ⊥) → Copied z h o f Before (at_infant i l) q
+        which : (i ≡ l.rebalance.at) ⊎ (i ≡ l.rebalance.at → ⊥) → Copied z h o f (Activity.Rebalance (Rebalance.Replace Replace.Start)) (at_infant i l) q
         which (inl e) =
             let same : infant l ≡ q = same_Some (infant l) q (sym (infant_at l hand) ∙ ap (slice_get l.rebalance.taken) (sym e) ∙ g) in
             let cells : infant_cells (at_infant i l) ≡ infant_cells l = ap (λ (y : ℕ). infant_cells (at_infant y l)) e in
-            subst (Copied z h o f Before (at_infant i l)) same (copied_whole z h o f l (at_infant i l) (infant l) n cells refl done (short l.rebalance.at) x.words)
+            subst (Copied z h o f (Activity.Rebalance (Rebalance.Replace Replace.Start)) (at_infant i l)) same (copied_whole z h o f l (at_infant i l) (infant l) n cells refl done (short l.rebalance.at) x.words)
         which (inr d) = x.whole i q (omega (arith, u, d)) g
 
     -- the next row is at hand, or all are written
     copies_row : (next : Local) → l.rebalance.at < length l.rebalance.taken → NextNewRow l next → Copying z h o f next.activity next
     copies_row next hand (writes_row u) = record {
-      whole = λ i q w g. copied_like z h o f Before Before (at_infant i l) _ q refl refl (λ j n m. m) (λ j n m. m) (λ n. (tt, λ j m. m)) (copies_up_to i q (omega (arith, w)) g hand);
+      whole = λ i q w g. copied_like z h o f (Activity.Rebalance (Rebalance.Replace Replace.Start)) (Activity.Rebalance (Rebalance.Replace Replace.Start)) (at_infant i l) _ q refl refl (λ j n m. m) (λ j n m. m) (λ n. (tt, λ j m. m)) (copies_up_to i q (omega (arith, w)) g hand);
       words = λ w. copied_none z h o f _ _;
     }
-    copies_row next hand (has_written u) = copies_linking Before l _ refl refl refl (λ i. refl) (λ i q g. copies_up_to i q (omega (arith, slice_get_within l.rebalance.taken i q g, u)) g hand)
+    copies_row next hand (has_written u) = copies_linking (Activity.Rebalance (Rebalance.Replace Replace.Start)) l _ refl refl refl (λ i. refl) (λ i q g. copies_up_to i q (omega (arith, slice_get_within l.rebalance.taken i q g, u)) g hand)
 
   module _ (l : Local) (short : (i : ℕ) → length (infant_cells (at_infant i l)) ≤ z.cells) (hand : l.rebalance.at < length l.rebalance.taken) where
     -- the next cell is, or all are
-    copies_cell : (n : ℕ) (next : Local) → NextNewCell z n l next → Copies z h o f l (WriteKey n) → Copying z h o f next.activity next
-    copies_cell n next (fills u w) x = copies_at (WriteKey n) l refl x
-    copies_cell n next (empties u w) x = copies_at (WriteVersion n) l refl (record { whole = x.whole; words = copied_beyond z h o f l (infant l) n x.words })
+    copies_cell : (n : ℕ) (next : Local) → NextNewCell z n l next → Copies z h o f l (Activity.Rebalance (Rebalance.Write (Write.Key n))) → Copying z h o f next.activity next
+    copies_cell n next (fills u w) x = copies_at (Activity.Rebalance (Rebalance.Write (Write.Key n))) l refl x
+    copies_cell n next (empties u w) x = copies_at (Activity.Rebalance (Rebalance.Write (Write.Version n))) l refl (record { whole = x.whole; words = copied_beyond z h o f l (infant l) n x.words })
     copies_cell n next (has_cells m u y) x = copies_row l short n u x m hand y
 
     -- the next entry is, or all are
-    copies_entry : (n : ℕ) (next : Local) → NextNewEntry z n l next → Copies z h o f l (WritePend n) → Copying z h o f next.activity next
-    copies_entry n next (writes_idle u) x = copies_at (WritePend n) l refl x
+    copies_entry : (n : ℕ) (next : Local) → NextNewEntry z n l next → Copies z h o f l (Activity.Rebalance (Rebalance.Write (Write.Entry n))) → Copying z h o f next.activity next
+    copies_entry n next (writes_idle u) x = copies_at (Activity.Rebalance (Rebalance.Write (Write.Entry n))) l refl x
     copies_entry n next (has_entries m u y) x = copies_cell 0 m y (record { whole = x.whole; words = copied_entries z h o f l (infant l) n x.words })
 
 module _ {z : Sizes} {r r' : Run} {s : ℕ} {choice : Choice} {l k : Local} {e : Logged} (st : Step r.history r'.history e) where
@@ -282,7 +288,7 @@ module _ {z : Sizes} {r r' : Run} {s : ℕ} {choice : Choice} {l k : Local} {e :
       record {
         whole = λ i q u g.
             let apart : q ≡ infant l → ⊥ = λ c. (let m : i ≡ l.rebalance.at = n.apart i l.rebalance.at q (nursed i) (nursed l.rebalance.at) g (infant_at l hand ∙ ap Some (sym c)) in omega (arith, u, m)) in
-            copied_goes z r.history r'.history e r.origin r'.origin r.listed r'.listed Before Before (at_infant i l) (at_infant i l) q st refl refl (λ j t m. m) (λ j t m. m) (λ t. (tt, λ j m. m))
+            copied_goes z r.history r'.history e r.origin r'.origin r.listed r'.listed (Activity.Rebalance (Rebalance.Replace Replace.Start)) (Activity.Rebalance (Rebalance.Replace Replace.Start)) (at_infant i l) (at_infant i l) q st refl refl (λ j t m. m) (λ j t m. m) (λ t. (tt, λ j m. m))
             (λ j. origin_stays a h q j (origins q j apart))
             (λ c. origin_stays a h l.row c (origins l.row c row))
             (λ j. listed_stays a h q j (listed q j apart))
@@ -306,7 +312,7 @@ module _ {z : Sizes} {r r' : Run} {s : ℕ} {choice : Choice} {l k : Local} {e :
   copies_link_on : (a b : Activity) (m : Local) → Happens z r r' s choice l k a → nursing_of a ≡ Links → nursing_of b ≡ Links → ((q c : ℕ) → ChangesOrigin a l q c → ⊥) → ((q c : ℕ) → ChangesListed a l q c → ⊥) →
       m.rebalance.taken ≡ l.rebalance.taken → m.row ≡ l.row → ((i : ℕ) → infant_cells (at_infant i m) ≡ infant_cells (at_infant i l)) → Copying z r.history r.origin r.listed a l → Copying z r'.history r'.origin r'.listed b m
   copies_link_on a b m h w u origins listed t row same x = copies_linking z r'.history r'.origin r'.listed b l m u t row same
-      (λ i q g. copied_goes z r.history r'.history e r.origin r'.origin r.listed r'.listed Before Before (at_infant i l) (at_infant i l) q st refl refl (λ j t m. m) (λ j t m. m) (λ t. (tt, λ j m. m))
+      (λ i q g. copied_goes z r.history r'.history e r.origin r'.origin r.listed r'.listed (Activity.Rebalance (Rebalance.Replace Replace.Start)) (Activity.Rebalance (Rebalance.Replace Replace.Start)) (at_infant i l) (at_infant i l) q st refl refl (λ j t m. m) (λ j t m. m) (λ t. (tt, λ j m. m))
       (λ j. origin_stays a h q j (origins q j))
       (λ c. origin_stays a h l.row c (origins l.row c))
       (λ j. listed_stays a h q j (listed q j))
@@ -314,8 +320,8 @@ module _ {z : Sizes} {r r' : Run} {s : ℕ} {choice : Choice} {l k : Local} {e :
 
   -- where the search for the row before begins
   copies_before : (a : Activity) → Happens z r r' s choice l k a → nursing_of a ≡ Links → ((q c : ℕ) → ChangesOrigin a l q c → ⊥) → ((q c : ℕ) → ChangesListed a l q c → ⊥) → (q : ℕ) (next : Local) → NextBefore q l next → Copying z r.history r.origin r.listed a l → Copying z r'.history r'.origin r'.listed next.activity next
-  copies_before a h w origins listed q next (is_first c) x = copies_link_on a Replace _ h w refl origins listed refl refl (λ i. refl) x
-  copies_before a h w origins listed q next (is_behind c) x = copies_link_on a BeforeLink _ h w refl origins listed refl refl (λ i. refl) x
+  copies_before a h w origins listed q next (is_first c) x = copies_link_on a (Activity.Rebalance (Rebalance.Replace Replace.Exchange)) _ h w refl origins listed refl refl (λ i. refl) x
+  copies_before a h w origins listed q next (is_behind c) x = copies_link_on a (Activity.Rebalance (Rebalance.Replace Replace.Next)) _ h w refl origins listed refl refl (λ i. refl) x
 
 -- Each event of the seat that writes rows.
 
@@ -323,48 +329,48 @@ module _ {z : Sizes} {r r' : Run} {s : ℕ} {choice : Choice} {l : Local} {e : L
   -- it keeps what the seat knows of the rows, from what is gathered of the cells that it kept
   pub copies_own : (a : Activity) (k : Local) → Building z (word z r.world) choice l a k → Happens z r r' s choice l k a → Infants z (word z r.world) r.ledger.rows s a l → (HasPlanned (nursing_of a) → All (IsGathered r.history r.origin l.row) l.rebalance.kept) →
       (IsWriting (nursing_of a) → l.row ≡ infant l → ⊥) → Copying z r.history r.origin r.listed a l → Copying z r'.history r'.origin r'.listed k.activity k
-  copies_own a k (first_is_free q c y) h n p w x = copies_nowhere z r'.history r'.origin r'.listed TakeRow _ (λ i w. w) (λ w. w)
+  copies_own a k (first_is_free q c y) h n p w x = copies_nowhere z r'.history r'.origin r'.listed (Activity.Rebalance (Rebalance.Seek Seek.Take)) _ (λ i w. w) (λ w. w)
   copies_own a k (first_is_taken q rows next c m y) h n p w x = copies_seek z r'.history r'.origin r'.listed rows _ next y
-  copies_own a k (sought_is_free y) h n p w x = copies_nowhere z r'.history r'.origin r'.listed TakeRow _ (λ i w. w) (λ w. w)
+  copies_own a k (sought_is_free y) h n p w x = copies_nowhere z r'.history r'.origin r'.listed (Activity.Rebalance (Rebalance.Seek Seek.Take)) _ (λ i w. w) (λ w. w)
   copies_own a k (sought_is_taken rows next m y) h n p w x = copies_seek z r'.history r'.origin r'.listed rows _ next y
-  copies_own a k (first_is_retired q m c y) h n p w x = copies_nowhere z r'.history r'.origin r'.listed (SeekPass 0) _ (λ i w. w) (λ w. w)
-  copies_own a k (sought_is_retired m y) h n p w x = copies_nowhere z r'.history r'.origin r'.listed (SeekPass 0) _ (λ i w. w) (λ w. w)
+  copies_own a k (first_is_retired q m c y) h n p w x = copies_nowhere z r'.history r'.origin r'.listed (Activity.Rebalance (Rebalance.Seek (Seek.Pass 0))) _ (λ i w. w) (λ w. w)
+  copies_own a k (sought_is_retired m y) h n p w x = copies_nowhere z r'.history r'.origin r'.listed (Activity.Rebalance (Rebalance.Seek (Seek.Pass 0))) _ (λ i w. w) (λ w. w)
   copies_own a k (pass_is_old i epoch rows next m o y) h n p w x = copies_seek z r'.history r'.origin r'.listed rows _ next y
   copies_own a k (pass_is_young i next m y) h n p w x = copies_pass z r'.history r'.origin r'.listed (i + 1) _ next y
-  copies_own a k frees_row h n p w x = copies_nowhere z r'.history r'.origin r'.listed TakeRow _ (λ i w. w) (λ w. w)
+  copies_own a k frees_row h n p w x = copies_nowhere z r'.history r'.origin r'.listed (Activity.Rebalance (Rebalance.Seek Seek.Take)) _ (λ i w. w) (λ w. w)
   copies_own a k (takes_row rows next c y) h n p w x = copies_taken z r'.history r'.origin r'.listed rows _ next y
   copies_own a k (loses_row rows next d y) h n p w x = copies_seek z r'.history r'.origin r'.listed rows _ next y
-  copies_own a k (gives_one_back o) h n p w x = copies_nowhere z r'.history r'.origin r'.listed GiveBack _ (λ i w. w) (λ w. w)
+  copies_own a k (gives_one_back o) h n p w x = copies_nowhere z r'.history r'.origin r'.listed (Activity.Rebalance (Rebalance.Seek Seek.GiveBack)) _ (λ i w. w) (λ w. w)
   copies_own a k (gives_last_back next o y) h n p w x = copies_given z r'.history r'.origin r'.listed l.rebalance.afterwards l next y
-  copies_own a k built.writes_count h n p w x = copies_at z r'.history r'.origin r'.listed WriteMin l refl (copies_on st WriteCount WriteMin h refl (λ q c d m. m) (λ q c d m. d m) n (w tt) x (λ m. copies_count st h))
-  copies_own a k built.writes_least h n p w x = copies_at z r'.history r'.origin r'.listed WriteNext l refl (copies_on st WriteMin WriteNext h refl (λ q c d m. m) (λ q c d m. m) n (w tt) x (copies_stay st WriteMin WriteNext h (λ q c m. m) (λ q c m. m) (λ j t m. m) (λ j t m. m) (λ t. (tt, λ j m. m))))
-  copies_own a k writes_link h n p w x = copies_at z r'.history r'.origin r'.listed WriteFirst l refl (copies_on st WriteNext WriteFirst h refl (λ q c d m. m) (λ q c d m. m) n (w tt) x (copies_stay st WriteNext WriteFirst h (λ q c m. m) (λ q c m. m) (λ j t m. m) (λ j t m. m) (λ t. (tt, λ j m. m))))
-  copies_own a k (built.writes_first next y) h n p w x = copies_entry z r'.history r'.origin r'.listed l short (n.hand tt) 0 next y (copies_on st WriteFirst (WritePend 0) h refl (λ q c d m. m) (λ q c d m. m) n (w tt) x (copies_stay st WriteFirst (WritePend 0) h (λ q c m. m) (λ q c m. m) (λ j t m. m) (λ j t m. m) (λ t. (tt, λ j m. m))))
-  copies_own a k (built.writes_entry i next y) h n p w x = copies_entry z r'.history r'.origin r'.listed l short (n.hand tt) (i + 1) next y (copies_on st (WritePend i) (WritePend (i + 1)) h refl (λ q c d m. m) (λ q c d m. m) n (w tt) x (copies_stay st (WritePend i) (WritePend (i + 1)) h (λ q c m. m) (λ q c m. m) (λ j t m. m) (λ j t m. m) (λ t. (tt, λ j m. m))))
-  copies_own a k (built.writes_key i) h n p w x = copies_at z r'.history r'.origin r'.listed (WriteValue i) l refl (copies_on st (WriteKey i) (WriteValue i) h refl (λ q c d m. m) (λ q c d m. m) n (w tt) x (copies_stay st (WriteKey i) (WriteValue i) h (λ q c m. m) (λ q c m. m) (λ j t m. m) (λ j t m. m) (λ t. (tt, λ j m. m))))
-  copies_own a k (built.writes_value i) h n p w x = copies_at z r'.history r'.origin r'.listed (WriteVersion i) l refl (copies_on st (WriteValue i) (WriteVersion i) h refl (λ q c d m. m) (λ q c d m. m) n (w tt) x (copies_stay st (WriteValue i) (WriteVersion i) h (λ q c m. m) (λ q c m. m) (λ j t m. m) (λ j t m. m) (λ t. (tt, λ j m. m))))
-  copies_own a k (built.writes_version i) h n p w x = copies_at z r'.history r'.origin r'.listed (WriteAfter i) l refl (copies_on st (WriteVersion i) (WriteAfter i) h refl (λ q c d m. d m.0) (λ q c d m. m) n (w tt) x (copies_version st i h (w tt) (all_part (IsGathered r.history r.origin l.row) _ _ l.rebalance.kept (p tt))))
-  copies_own a k (built.writes_after i next y) h n p w x = copies_cell z r'.history r'.origin r'.listed l short (n.hand tt) (i + 1) next y (copies_on st (WriteAfter i) (WriteKey (i + 1)) h refl (λ q c d m. m) (λ q c d m. d m.0) n (w tt) x (copies_link st i h))
-  copies_own a k (begins_before next y) h n p w x = copies_before st Before h refl (λ q c m. m) (λ q c m. m) _ next y x
-  copies_own a k (guesses_before q c y) h n p w x = copies_link_on st Before BeforeGuess _ h refl refl (λ q c m. m) (λ q c m. m) refl refl (λ i. refl) x
-  copies_own a k guess_before_fails h n p w x = copies_link_on st Before BeforeHead _ h refl refl (λ q c m. m) (λ q c m. m) refl refl (λ i. refl) x
-  copies_own a k (before_serves o) h n p w x = copies_link_on st BeforeGuess BeforeLink _ h refl refl (λ q c m. m) (λ q c m. m) refl refl (λ i. refl) x
-  copies_own a k (before_is_above o) h n p w x = copies_link_on st BeforeGuess BeforeHead _ h refl refl (λ q c m. m) (λ q c m. m) refl refl (λ i. refl) x
-  copies_own a k (takes_head_before next y) h n p w x = copies_before st BeforeHead h refl (λ q c m. m) (λ q c m. m) _ next y x
-  copies_own a k (leads_to_full y) h n p w x = copies_link_on st BeforeLink Replace _ h refl refl (λ q c m. m) (λ q c m. m) refl refl (λ i. refl) x
+  copies_own a k built.writes_count h n p w x = copies_at z r'.history r'.origin r'.listed (Activity.Rebalance (Rebalance.Write Write.Least)) l refl (copies_on st (Activity.Rebalance (Rebalance.Write Write.Count)) (Activity.Rebalance (Rebalance.Write Write.Least)) h refl (λ q c d m. m) (λ q c d m. d m) n (w tt) x (λ m. copies_count st h))
+  copies_own a k built.writes_least h n p w x = copies_at z r'.history r'.origin r'.listed (Activity.Rebalance (Rebalance.Write Write.Next)) l refl (copies_on st (Activity.Rebalance (Rebalance.Write Write.Least)) (Activity.Rebalance (Rebalance.Write Write.Next)) h refl (λ q c d m. m) (λ q c d m. m) n (w tt) x (copies_stay st (Activity.Rebalance (Rebalance.Write Write.Least)) (Activity.Rebalance (Rebalance.Write Write.Next)) h (λ q c m. m) (λ q c m. m) (λ j t m. m) (λ j t m. m) (λ t. (tt, λ j m. m))))
+  copies_own a k writes_link h n p w x = copies_at z r'.history r'.origin r'.listed (Activity.Rebalance (Rebalance.Write Write.First)) l refl (copies_on st (Activity.Rebalance (Rebalance.Write Write.Next)) (Activity.Rebalance (Rebalance.Write Write.First)) h refl (λ q c d m. m) (λ q c d m. m) n (w tt) x (copies_stay st (Activity.Rebalance (Rebalance.Write Write.Next)) (Activity.Rebalance (Rebalance.Write Write.First)) h (λ q c m. m) (λ q c m. m) (λ j t m. m) (λ j t m. m) (λ t. (tt, λ j m. m))))
+  copies_own a k (built.writes_first next y) h n p w x = copies_entry z r'.history r'.origin r'.listed l short (n.hand tt) 0 next y (copies_on st (Activity.Rebalance (Rebalance.Write Write.First)) (Activity.Rebalance (Rebalance.Write (Write.Entry 0))) h refl (λ q c d m. m) (λ q c d m. m) n (w tt) x (copies_stay st (Activity.Rebalance (Rebalance.Write Write.First)) (Activity.Rebalance (Rebalance.Write (Write.Entry 0))) h (λ q c m. m) (λ q c m. m) (λ j t m. m) (λ j t m. m) (λ t. (tt, λ j m. m))))
+  copies_own a k (built.writes_entry i next y) h n p w x = copies_entry z r'.history r'.origin r'.listed l short (n.hand tt) (i + 1) next y (copies_on st (Activity.Rebalance (Rebalance.Write (Write.Entry i))) (Activity.Rebalance (Rebalance.Write (Write.Entry (i + 1)))) h refl (λ q c d m. m) (λ q c d m. m) n (w tt) x (copies_stay st (Activity.Rebalance (Rebalance.Write (Write.Entry i))) (Activity.Rebalance (Rebalance.Write (Write.Entry (i + 1)))) h (λ q c m. m) (λ q c m. m) (λ j t m. m) (λ j t m. m) (λ t. (tt, λ j m. m))))
+  copies_own a k (built.writes_key i) h n p w x = copies_at z r'.history r'.origin r'.listed (Activity.Rebalance (Rebalance.Write (Write.Value i))) l refl (copies_on st (Activity.Rebalance (Rebalance.Write (Write.Key i))) (Activity.Rebalance (Rebalance.Write (Write.Value i))) h refl (λ q c d m. m) (λ q c d m. m) n (w tt) x (copies_stay st (Activity.Rebalance (Rebalance.Write (Write.Key i))) (Activity.Rebalance (Rebalance.Write (Write.Value i))) h (λ q c m. m) (λ q c m. m) (λ j t m. m) (λ j t m. m) (λ t. (tt, λ j m. m))))
+  copies_own a k (built.writes_value i) h n p w x = copies_at z r'.history r'.origin r'.listed (Activity.Rebalance (Rebalance.Write (Write.Version i))) l refl (copies_on st (Activity.Rebalance (Rebalance.Write (Write.Value i))) (Activity.Rebalance (Rebalance.Write (Write.Version i))) h refl (λ q c d m. m) (λ q c d m. m) n (w tt) x (copies_stay st (Activity.Rebalance (Rebalance.Write (Write.Value i))) (Activity.Rebalance (Rebalance.Write (Write.Version i))) h (λ q c m. m) (λ q c m. m) (λ j t m. m) (λ j t m. m) (λ t. (tt, λ j m. m))))
+  copies_own a k (built.writes_version i) h n p w x = copies_at z r'.history r'.origin r'.listed (Activity.Rebalance (Rebalance.Write (Write.After i))) l refl (copies_on st (Activity.Rebalance (Rebalance.Write (Write.Version i))) (Activity.Rebalance (Rebalance.Write (Write.After i))) h refl (λ q c d m. d m.0) (λ q c d m. m) n (w tt) x (copies_version st i h (w tt) (all_part (IsGathered r.history r.origin l.row) _ _ l.rebalance.kept (p tt))))
+  copies_own a k (built.writes_after i next y) h n p w x = copies_cell z r'.history r'.origin r'.listed l short (n.hand tt) (i + 1) next y (copies_on st (Activity.Rebalance (Rebalance.Write (Write.After i))) (Activity.Rebalance (Rebalance.Write (Write.Key (i + 1)))) h refl (λ q c d m. m) (λ q c d m. d m.0) n (w tt) x (copies_link st i h))
+  copies_own a k (begins_before next y) h n p w x = copies_before st (Activity.Rebalance (Rebalance.Replace Replace.Start)) h refl (λ q c m. m) (λ q c m. m) _ next y x
+  copies_own a k (guesses_before q c y) h n p w x = copies_link_on st (Activity.Rebalance (Rebalance.Replace Replace.Start)) (Activity.Rebalance (Rebalance.Replace Replace.GuessedLeast)) _ h refl refl (λ q c m. m) (λ q c m. m) refl refl (λ i. refl) x
+  copies_own a k guess_before_fails h n p w x = copies_link_on st (Activity.Rebalance (Rebalance.Replace Replace.Start)) (Activity.Rebalance (Rebalance.Replace Replace.First)) _ h refl refl (λ q c m. m) (λ q c m. m) refl refl (λ i. refl) x
+  copies_own a k (before_serves o) h n p w x = copies_link_on st (Activity.Rebalance (Rebalance.Replace Replace.GuessedLeast)) (Activity.Rebalance (Rebalance.Replace Replace.Next)) _ h refl refl (λ q c m. m) (λ q c m. m) refl refl (λ i. refl) x
+  copies_own a k (before_is_above o) h n p w x = copies_link_on st (Activity.Rebalance (Rebalance.Replace Replace.GuessedLeast)) (Activity.Rebalance (Rebalance.Replace Replace.First)) _ h refl refl (λ q c m. m) (λ q c m. m) refl refl (λ i. refl) x
+  copies_own a k (takes_head_before next y) h n p w x = copies_before st (Activity.Rebalance (Rebalance.Replace Replace.First)) h refl (λ q c m. m) (λ q c m. m) _ next y x
+  copies_own a k (leads_to_full y) h n p w x = copies_link_on st (Activity.Rebalance (Rebalance.Replace Replace.Next)) (Activity.Rebalance (Rebalance.Replace Replace.Exchange)) _ h refl refl (λ q c m. m) (λ q c m. m) refl refl (λ i. refl) x
   copies_own a k (leads_on_marked next c y) h n p w x = copies_back z r'.history r'.origin r'.listed _ l next y
-  copies_own a k (leads_to_other q y d) h n p w x = copies_link_on st BeforeLink BeforeMin _ h refl refl (λ q c m. m) (λ q c m. m) refl refl (λ i. refl) x
+  copies_own a k (leads_to_other q y d) h n p w x = copies_link_on st (Activity.Rebalance (Rebalance.Replace Replace.Next)) (Activity.Rebalance (Rebalance.Replace Replace.NextLeast)) _ h refl refl (λ q c m. m) (λ q c m. m) refl refl (λ i. refl) x
   copies_own a k (leads_nowhere next c y) h n p w x = copies_back z r'.history r'.origin r'.listed _ l next y
-  copies_own a k (walks_before o) h n p w x = copies_link_on st BeforeMin BeforeLink _ h refl refl (λ q c m. m) (λ q c m. m) refl refl (λ i. refl) x
+  copies_own a k (walks_before o) h n p w x = copies_link_on st (Activity.Rebalance (Rebalance.Replace Replace.NextLeast)) (Activity.Rebalance (Rebalance.Replace Replace.Next)) _ h refl refl (λ q c m. m) (λ q c m. m) refl refl (λ i. refl) x
   copies_own a k (walks_past next o y) h n p w x = copies_back z r'.history r'.origin r'.listed _ l next y
-  copies_own a k (replaces_row y) h n p w x = copies_nowhere z r'.history r'.origin r'.listed Normalise _ (λ i w. w) (λ w. w)
+  copies_own a k (replaces_row y) h n p w x = copies_nowhere z r'.history r'.origin r'.listed (Activity.Rebalance (Rebalance.Replace Replace.Normalise)) _ (λ i w. w) (λ w. w)
   copies_own a k (is_marked_before next c y) h n p w x = copies_back z r'.history r'.origin r'.listed _ l next y
   copies_own a k (is_replaced next d y) h n p w x = copies_back z r'.history r'.origin r'.listed _ l next y
-  copies_own a k (makes_normal o) h n p w x = copies_nowhere z r'.history r'.origin r'.listed Normalise _ (λ i w. w) (λ w. w)
-  copies_own a k (makes_last_normal o) h n p w x = copies_nowhere z r'.history r'.origin r'.listed Number _ (λ i w. w) (λ w. w)
-  copies_own a k draws_number h n p w x = copies_nowhere z r'.history r'.origin r'.listed Retire _ (λ i w. w) (λ w. w)
-  copies_own a k (retires_row nd) h n p w x = copies_nowhere z r'.history r'.origin r'.listed Again _ (λ i w. w) (λ w. w)
-  copies_own a k (retires_and_leaves dn) h n p w x = copies_nowhere z r'.history r'.origin r'.listed (Leave _) _ (λ i w. w) (λ w. w)
+  copies_own a k (makes_normal o) h n p w x = copies_nowhere z r'.history r'.origin r'.listed (Activity.Rebalance (Rebalance.Replace Replace.Normalise)) _ (λ i w. w) (λ w. w)
+  copies_own a k (makes_last_normal o) h n p w x = copies_nowhere z r'.history r'.origin r'.listed (Activity.Rebalance (Rebalance.Replace Replace.Number)) _ (λ i w. w) (λ w. w)
+  copies_own a k draws_number h n p w x = copies_nowhere z r'.history r'.origin r'.listed (Activity.Rebalance (Rebalance.Replace Replace.Retire)) _ (λ i w. w) (λ w. w)
+  copies_own a k (retires_row nd) h n p w x = copies_nowhere z r'.history r'.origin r'.listed Activity.Retry _ (λ i w. w) (λ w. w)
+  copies_own a k (retires_and_leaves dn) h n p w x = copies_nowhere z r'.history r'.origin r'.listed (Activity.Leave _) _ (λ i w. w) (λ w. w)
 
 -- Events of another seat.
 
@@ -379,15 +385,15 @@ module _ {z : Sizes} {r r' : Run} {s : ℕ} {choice : Choice} {l l' : Local} whe
 
   -- its cells stand for the same attempts
   origin_untouched : (a : Activity) → Happens z r r' s choice l l' a → Shape z r → (t : ℕ) → t ≢ s → (q c : ℕ) → IsInfantOf r.ledger.rows t q → r'.origin q c ≡ r.origin q c
-  origin_untouched PutAdd h i t d q c x = origin_stays PutAdd h q c (λ m. linked_apart PutAdd h i t q x tt m)
-  origin_untouched (WriteVersion j) h i t d q c x = origin_stays (WriteVersion j) h q c (λ m. others_apart (WriteVersion j) h i t d q x tt m.0)
+  origin_untouched (Activity.Put Put.Add) h i t d q c x = origin_stays (Activity.Put Put.Add) h q c (λ m. linked_apart (Activity.Put Put.Add) h i t q x tt m)
+  origin_untouched (Activity.Rebalance (Rebalance.Write (Write.Version j))) h i t d q c x = origin_stays (Activity.Rebalance (Rebalance.Write (Write.Version j))) h q c (λ m. others_apart (Activity.Rebalance (Rebalance.Write (Write.Version j))) h i t d q x tt m.0)
   origin_untouched a h i t d q c x = origin_stays a h q c (λ m. m)
 
   -- and the same of them are listed
   listed_untouched : (a : Activity) → Happens z r r' s choice l l' a → Shape z r → (t : ℕ) → t ≢ s → (q c : ℕ) → IsInfantOf r.ledger.rows t q → r'.listed q c ≡ r.listed q c
-  listed_untouched Insert h i t d q c x = listed_stays Insert h q c (λ m. linked_apart Insert h i t q x tt m.0)
-  listed_untouched WriteCount h i t d q c x = listed_stays WriteCount h q c (λ m. others_apart WriteCount h i t d q x tt m)
-  listed_untouched (WriteAfter j) h i t d q c x = listed_stays (WriteAfter j) h q c (λ m. others_apart (WriteAfter j) h i t d q x tt m.0)
+  listed_untouched (Activity.Insert Insert.Exchange) h i t d q c x = listed_stays (Activity.Insert Insert.Exchange) h q c (λ m. linked_apart (Activity.Insert Insert.Exchange) h i t q x tt m.0)
+  listed_untouched (Activity.Rebalance (Rebalance.Write Write.Count)) h i t d q c x = listed_stays (Activity.Rebalance (Rebalance.Write Write.Count)) h q c (λ m. others_apart (Activity.Rebalance (Rebalance.Write Write.Count)) h i t d q x tt m)
+  listed_untouched (Activity.Rebalance (Rebalance.Write (Write.After j))) h i t d q c x = listed_stays (Activity.Rebalance (Rebalance.Write (Write.After j))) h q c (λ m. others_apart (Activity.Rebalance (Rebalance.Write (Write.After j))) h i t d q x tt m.0)
   listed_untouched a h i t d q c x = listed_stays a h q c (λ m. m)
 
   -- nobody else touches the copies and the list of a row that a seat took
@@ -408,7 +414,7 @@ writing_planned _ w = absurd w
 pub copies_stable : (z : Sizes) (h h' : History) (e : Logged) (o o' : Origins) (f f' : Listed) (g : Ledger) (t : ℕ) (a : Activity) (k : Local) → Step h h' e → ((q c : ℕ) → IsInfantOf g t q → (o' q c ≡ o q c) × (f' q c ≡ f q c)) →
     ((i q : ℕ) → IsNursed (nursing_of a) k i → slice_get k.rebalance.taken i ≡ Some q → IsInfantOf g t q) → (HasAtHand (nursing_of a) → k.rebalance.at < length k.rebalance.taken) → (HasPlanned (nursing_of a) → (c : ℕ) → o' k.row c ≡ o k.row c) → Copying z h o f a k → Copying z h' o' f' a k
 copies_stable z h h' e o o' f f' g t a k st same owned hand full x = record {
-  whole = λ i q w y. let own = owned i q (whole_nursed (nursing_of a) k i w) y in copied_goes z h h' e o o' f f' Before Before (at_infant i k) (at_infant i k) q st refl refl (λ j n m. m) (λ j n m. m) (λ n. (tt, λ j m. m)) (λ j. (same q j own).0) (full (whole_planned (nursing_of a) k i w)) (λ j. (same q j own).1) (x.whole i q w y);
+  whole = λ i q w y. let own = owned i q (whole_nursed (nursing_of a) k i w) y in copied_goes z h h' e o o' f f' (Activity.Rebalance (Rebalance.Replace Replace.Start)) (Activity.Rebalance (Rebalance.Replace Replace.Start)) (at_infant i k) (at_infant i k) q st refl refl (λ j n m. m) (λ j n m. m) (λ n. (tt, λ j m. m)) (λ j. (same q j own).0) (full (whole_planned (nursing_of a) k i w)) (λ j. (same q j own).1) (x.whole i q w y);
   words = λ w.
       let own = owned k.rebalance.at (infant k) (writing_nursed (nursing_of a) k k.rebalance.at w) (infant_at k (hand (writing_hand (nursing_of a) w))) in
       copied_goes z h h' e o o' f f' a a k k (infant k) st refl refl (λ j n m. m) (λ j n m. m) (λ n. (n, λ j m. m)) (λ j. (same (infant k) j own).0) (full (writing_planned (nursing_of a) w)) (λ j. (same (infant k) j own).1) (x.words w);
@@ -479,7 +485,7 @@ module _ (z : Sizes) (r r' : Run) (s : ℕ) (choice : Choice) (l : Local) (a : A
       (λ t k d g. copying_other i st a h t k d g)
 
   -- what the cells stand for of each row that is written whole
-  pub whole_keeps : (t : ℕ) (k : Local) → slice_get r'.world.locals t ≡ Some k → (j q : ℕ) → IsWhole (nursing_of k.activity) k j → slice_get k.rebalance.taken j ≡ Some q → Copied z r'.history r'.origin r'.listed Before (at_infant j k) q
+  pub whole_keeps : (t : ℕ) (k : Local) → slice_get r'.world.locals t ≡ Some k → (j q : ℕ) → IsWhole (nursing_of k.activity) k j → slice_get k.rebalance.taken j ≡ Some q → Copied z r'.history r'.origin r'.listed (Activity.Rebalance (Rebalance.Replace Replace.Start)) (at_infant j k) q
   whole_keeps t k g = (copying_keeps t k g).whole
 
   -- and those of the row that is being written

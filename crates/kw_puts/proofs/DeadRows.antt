@@ -14,7 +14,9 @@ use Rattle.kw_rows.specs.Ledger.{Dead, Fate, Free, Infant, IsDead, Ledger, Live}
 use Rattle.kw_rows.specs.Rows.{WasLinked}
 use Rattle.kw_rows.proofs.Lists.{in_or_not}
 use Rattle.kw_world.specs.declared.activity.Activity.{Activity}
-use Rattle.kw_world.specs.declared.activity.Activity.TheVariants.{GiveBack, Replace, Reclaim, TakeRow}
+use Rattle.kw_world.specs.declared.activity.rebalance.Rebalance.TheVariants as Rebalance
+use Rattle.kw_world.specs.declared.activity.rebalance.replace.Replace.TheVariants as Replace
+use Rattle.kw_world.specs.declared.activity.rebalance.seek.Seek.TheVariants as Seek
 use Rattle.kw_world.specs.declared.event.Choice.{Choice}
 use Rattle.kw_world.specs.declared.local.Local.{Local}
 use Rattle.kw_world.specs.ReplaceTransitions.{replaced_link}
@@ -45,7 +47,7 @@ use Rattle.kw_puts.proofs.Owners.{true_false}
 
 -- the row is the full one that the event replaces: it is dead from this position on
 pub record Buried (g g' : Ledger) (s now : ℕ) (l : Local) (a : Activity) (q : ℕ) : Type 0 where
-  pub replaces : a ≡ Replace
+  pub replaces : a ≡ Activity.Rebalance (Rebalance.Replace Replace.Exchange)
   pub full : q ≡ l.row
   pub fate : g'.fates q ≡ fate_dead s now (g.fates q)
 
@@ -56,39 +58,39 @@ dead_same g g' q e d = ap (λ (f : Fate). f.status) (sym e) ∙ d
 module _ {z : Sizes} {r r' : Run} {s : ℕ} {choice : Choice} {l l' : Local} where
   -- a dead row was dead, or is the one that is replaced now
   pub dead_was : (a : Activity) → Happens z r r' s choice l l' a → (q : ℕ) → IsDead r'.ledger.rows q → IsDead r.ledger.rows q ⊎ Buried r.ledger.rows r'.ledger.rows s (length r.history.log) l a q
-  dead_was Reclaim h q d = which (cases_eq (word z r.world (name.State l.rebalance.sought)) (state_word (state.Retired l.rebalance.number))) (cases_eq q l.rebalance.sought)
+  dead_was (Activity.Rebalance (Rebalance.Seek Seek.Reclaim)) h q d = which (cases_eq (word z r.world (name.State l.rebalance.sought)) (state_word (state.Retired l.rebalance.number))) (cases_eq q l.rebalance.sought)
     where
       which : (word z r.world (name.State l.rebalance.sought) ≡ state_word (state.Retired l.rebalance.number)) ⊎ (word z r.world (name.State l.rebalance.sought) ≡ state_word (state.Retired l.rebalance.number) → ⊥) → (q ≡ l.rebalance.sought) ⊎ (q ≡ l.rebalance.sought → ⊥) →
-          IsDead r.ledger.rows q ⊎ Buried r.ledger.rows r'.ledger.rows s (length r.history.log) l Reclaim q
+          IsDead r.ledger.rows q ⊎ Buried r.ledger.rows r'.ledger.rows s (length r.history.log) l (Activity.Rebalance (Rebalance.Seek Seek.Reclaim)) q
       which (inl e) (inl c) = let x : Free ≡ Dead = ap (λ (f : Fate). f.status) (sym (fate_of_freed h e)) ∙ ap (λ x. (r'.ledger.rows.fates x).status) (sym c) ∙ d in absurd (cc)
-      which (inl e) (inr n) = inl (dead_same r.ledger.rows r'.ledger.rows q (fate_stays Reclaim h q n) d)
+      which (inl e) (inr n) = inl (dead_same r.ledger.rows r'.ledger.rows q (fate_stays (Activity.Rebalance (Rebalance.Seek Seek.Reclaim)) h q n) d)
       which (inr n) c = inl (dead_same r.ledger.rows r'.ledger.rows q (ap (λ (g : ledger.Ledger). g.rows.fates q) (none_freed h n)) d)
-  dead_was TakeRow h q d = which (cases_eq (word z r.world (name.State l.rebalance.sought)) (state_word state.Free)) (cases_eq q l.rebalance.sought)
+  dead_was (Activity.Rebalance (Rebalance.Seek Seek.Take)) h q d = which (cases_eq (word z r.world (name.State l.rebalance.sought)) (state_word state.Free)) (cases_eq q l.rebalance.sought)
     where
       which : (word z r.world (name.State l.rebalance.sought) ≡ state_word state.Free) ⊎ (word z r.world (name.State l.rebalance.sought) ≡ state_word state.Free → ⊥) → (q ≡ l.rebalance.sought) ⊎ (q ≡ l.rebalance.sought → ⊥) →
-          IsDead r.ledger.rows q ⊎ Buried r.ledger.rows r'.ledger.rows s (length r.history.log) l TakeRow q
+          IsDead r.ledger.rows q ⊎ Buried r.ledger.rows r'.ledger.rows s (length r.history.log) l (Activity.Rebalance (Rebalance.Seek Seek.Take)) q
       which (inl e) (inl c) = let x : Infant ≡ Dead = ap (λ (f : Fate). f.status) (sym (fate_of_taken h e)) ∙ ap (λ x. (r'.ledger.rows.fates x).status) (sym c) ∙ d in absurd (cc)
-      which (inl e) (inr n) = inl (dead_same r.ledger.rows r'.ledger.rows q (fate_stays TakeRow h q n) d)
+      which (inl e) (inr n) = inl (dead_same r.ledger.rows r'.ledger.rows q (fate_stays (Activity.Rebalance (Rebalance.Seek Seek.Take)) h q n) d)
       which (inr n) c = inl (dead_same r.ledger.rows r'.ledger.rows q (ap (λ (g : ledger.Ledger). g.rows.fates q) (none_taken h n)) d)
-  dead_was GiveBack h q d = which (cases_eq q (infant l))
+  dead_was (Activity.Rebalance (Rebalance.Seek Seek.GiveBack)) h q d = which (cases_eq q (infant l))
     where
-      which : (q ≡ infant l) ⊎ (q ≡ infant l → ⊥) → IsDead r.ledger.rows q ⊎ Buried r.ledger.rows r'.ledger.rows s (length r.history.log) l GiveBack q
+      which : (q ≡ infant l) ⊎ (q ≡ infant l → ⊥) → IsDead r.ledger.rows q ⊎ Buried r.ledger.rows r'.ledger.rows s (length r.history.log) l (Activity.Rebalance (Rebalance.Seek Seek.GiveBack)) q
       which (inl c) = let x : Free ≡ Dead = ap (λ (f : Fate). f.status) (sym (fate_of_given h)) ∙ ap (λ x. (r'.ledger.rows.fates x).status) (sym c) ∙ d in absurd (cc)
-      which (inr n) = inl (dead_same r.ledger.rows r'.ledger.rows q (fate_stays GiveBack h q n) d)
-  dead_was Replace h q d = which (cases_eq (word z r.world (replaced_link l.rebalance.before)) (link_word (unmarked_link (Some l.row))))
+      which (inr n) = inl (dead_same r.ledger.rows r'.ledger.rows q (fate_stays (Activity.Rebalance (Rebalance.Seek Seek.GiveBack)) h q n) d)
+  dead_was (Activity.Rebalance (Rebalance.Replace Replace.Exchange)) h q d = which (cases_eq (word z r.world (replaced_link l.rebalance.before)) (link_word (unmarked_link (Some l.row))))
     where
       acts : (q ≡ l.row → ⊥) → (IsIn l.rebalance.taken q → ⊥) → (q ≡ l.row) ⊎ IsIn l.rebalance.taken q → ⊥
       acts n m (inl c) = n c
       acts n m (inr c) = m c
 
       here : word z r.world (replaced_link l.rebalance.before) ≡ link_word (unmarked_link (Some l.row)) → (q ≡ l.row) ⊎ (q ≡ l.row → ⊥) → IsIn l.rebalance.taken q ⊎ (IsIn l.rebalance.taken q → ⊥) →
-          IsDead r.ledger.rows q ⊎ Buried r.ledger.rows r'.ledger.rows s (length r.history.log) l Replace q
+          IsDead r.ledger.rows q ⊎ Buried r.ledger.rows r'.ledger.rows s (length r.history.log) l (Activity.Rebalance (Rebalance.Replace Replace.Exchange)) q
       here e (inl c) y = inr (record { replaces = refl; full = c; fate = subst (λ x. r'.ledger.rows.fates x ≡ fate_dead s (length r.history.log) (r.ledger.rows.fates x)) (sym c) (fate_of_full h e) })
       here e (inr n) (inl y) = let x : Live ≡ Dead = ap (λ (f : Fate). f.status) (sym (fate_of_new h e q y n)) ∙ d in absurd (cc)
-      here e (inr n) (inr m) = inl (dead_same r.ledger.rows r'.ledger.rows q (fate_stays Replace h q (acts n m)) d)
+      here e (inr n) (inr m) = inl (dead_same r.ledger.rows r'.ledger.rows q (fate_stays (Activity.Rebalance (Rebalance.Replace Replace.Exchange)) h q (acts n m)) d)
 
       which : (word z r.world (replaced_link l.rebalance.before) ≡ link_word (unmarked_link (Some l.row))) ⊎ (word z r.world (replaced_link l.rebalance.before) ≡ link_word (unmarked_link (Some l.row)) → ⊥) →
-          IsDead r.ledger.rows q ⊎ Buried r.ledger.rows r'.ledger.rows s (length r.history.log) l Replace q
+          IsDead r.ledger.rows q ⊎ Buried r.ledger.rows r'.ledger.rows s (length r.history.log) l (Activity.Rebalance (Rebalance.Replace Replace.Exchange)) q
       which (inl e) = here e (cases_eq q l.row) (in_or_not l.rebalance.taken q)
       which (inr n) = inl (dead_same r.ledger.rows r'.ledger.rows q (ap (λ (g : ledger.Ledger). g.rows.fates q) (none_replaced h n)) d)
   dead_was a h q d = inl (dead_same r.ledger.rows r'.ledger.rows q (fate_stays a h q (λ c. c)) d)
@@ -118,11 +120,11 @@ module _ (z : Sizes) (r r' : Run) (s : ℕ) (choice : Choice) (l : Local) (a : A
   was_full : (q : ℕ) → IsDead r'.ledger.rows q → WasFull q
   was_full q d = which (dead_was a h q d)
     where
-      replaced : a ≡ Replace → WasFull l.row
+      replaced : a ≡ Activity.Rebalance (Rebalance.Replace Replace.Exchange) → WasFull l.row
       replaced e =
           let k = subst (λ b. Happens z r r' s choice l l' b) e h in
-          let f : Freezes z (word z r.world) (slice_get r.world.locals) Replace l = subst (λ b. Freezes z (word z r.world) (slice_get r.world.locals) b l) k.activity (i.puts.freezes s l h.knows) in
-          record { linked = fresh_linked r.ledger.rows s l.row ((balance_at Replace k i.shape).fresh tt); frozen = f.count tt; settled = λ j o. f.settled tt j o o }
+          let f : Freezes z (word z r.world) (slice_get r.world.locals) (Activity.Rebalance (Rebalance.Replace Replace.Exchange)) l = subst (λ b. Freezes z (word z r.world) (slice_get r.world.locals) b l) k.activity (i.puts.freezes s l h.knows) in
+          record { linked = fresh_linked r.ledger.rows s l.row ((balance_at (Activity.Rebalance (Rebalance.Replace Replace.Exchange)) k i.shape).fresh tt); frozen = f.count tt; settled = λ j o. f.settled tt j o o }
 
       which : IsDead r.ledger.rows q ⊎ Buried r.ledger.rows r'.ledger.rows s (length r.history.log) l a q → WasFull q
       which (inl w) = record { linked = inr w; frozen = ((i.shape.rows.marks q).buried w).1; settled = λ j o. i.puts.dead q j w o }

@@ -8,7 +8,7 @@ use Rattle.kw_words.specs.declared.pend.Pend.TheVariants as pend
 use Rattle.kw_words.specs.Count.{count_of}
 use Rattle.kw_words.specs.Pend.{pend_word}
 use Rattle.kw_world.specs.declared.activity.Activity.{Activity}
-use Rattle.kw_world.specs.declared.activity.Activity.TheVariants.{PutAdd, PutKey, PutValue, Announce, PutClock, Stamp, PutVersion, InsFrom, InsKey, InsVer, InsSet, Insert, PutClear}
+use Rattle.kw_world.specs.declared.activity.put.Put.TheVariants as Put
 use Rattle.kw_world.specs.declared.local.Local.{Local}
 use Rattle.kw_world.specs.declared.event.Choice.{Choice}
 use Rattle.kw_world.specs.Sizes.{Sizes}
@@ -48,42 +48,38 @@ lost_unstamped z r i p x = by (attempt r.history p).is_stamped refl
     by false y = y
 
 -- an attempt that was not announced and is not now is over for its seat
-refused : (z : Sizes) (r r' : Run) (s : ℕ) (choice : Choice) (l : Local) (l' : Local) → word z r.world (name.Pend l.row s) ≢ pend_word pend.Idle → Happens z r r' s choice l l' Announce → Below z r → IsOver r'.history (r.seats s).own
+refused : (z : Sizes) (r r' : Run) (s : ℕ) (choice : Choice) (l : Local) (l' : Local) → word z r.world (name.Pend l.row s) ≢ pend_word pend.Idle → Happens z r r' s choice l l' (Activity.Put Put.Announce) → Below z r → IsOver r'.history (r.seats s).own
 refused z r r' s choice l l' n h i =
-    let own = acting_own z r r' s choice l Announce l' h i tt in
-    let same = attempt_left r.history r'.history _ (r.seats s).own Nothing tt (h.history ∙ ap (λ c. noted r.history (log_entry z r Announce s choice l) c) (not_chosen _ _ (Announces (r.seats s).own) Nothing n)) own.within in
+    let own = acting_own z r r' s choice l (Activity.Put Put.Announce) l' h i tt in
+    let same = attempt_left r.history r'.history _ (r.seats s).own Nothing tt (h.history ∙ ap (λ c. noted r.history (log_entry z r (Activity.Put Put.Announce) s choice l) c) (not_chosen _ _ (Announces (r.seats s).own) Nothing n)) own.within in
     record { unstamped = rw same (own.unstamped (subst IsFresh (sym h.activity) tt)); over = inr (rw same (own.unannounced (subst IsFresh (sym h.activity) tt))) }
 
 -- and so is one that is lost
-lost_now : (z : Sizes) (r r' : Run) (s : ℕ) (choice : Choice) (l : Local) (l' : Local) → IsNotOwn l.cell (word z r.world (name.Pend l.row s)) → Happens z r r' s choice l l' Stamp → Below z r → IsOver r'.history (r.seats s).own
+lost_now : (z : Sizes) (r r' : Run) (s : ℕ) (choice : Choice) (l : Local) (l' : Local) → IsNotOwn l.cell (word z r.world (name.Pend l.row s)) → Happens z r r' s choice l l' (Activity.Put Put.Stamp) → Below z r → IsOver r'.history (r.seats s).own
 lost_now z r r' s choice l l' n h i =
-    let own = acting_own z r r' s choice l Stamp l' h i tt in
+    let own = acting_own z r r' s choice l (Activity.Put Put.Stamp) l' h i tt in
     let lost = lost_entry z r s l i own h.knows h.activity n in
     let frozen = lost_frozen z r s l i own h.knows h.activity n in
     let unmet : word z r.world (name.Pend l.row s) ≢ pend_word (pend.Pending l.cell) = λ e. let x : pend_word pend.Frozen ≡ pend_word (pend.Pending l.cell) = sym frozen ∙ e in omega (arith, x) in
-    let same = attempt_left r.history r'.history _ (r.seats s).own Nothing tt (h.history ∙ ap (λ c. noted r.history (log_entry z r Stamp s choice l) c) (not_chosen _ _ (Stamps (r.seats s).own l.version (r.seats s).loaded) Nothing unmet)) own.within in
+    let same = attempt_left r.history r'.history _ (r.seats s).own Nothing tt (h.history ∙ ap (λ c. noted r.history (log_entry z r (Activity.Put Put.Stamp) s choice l) c) (not_chosen _ _ (Stamps (r.seats s).own l.version (r.seats s).loaded) Nothing unmet)) own.within in
     record { unstamped = rw same (lost_unstamped z r i (r.seats s).own lost); over = inl (rw same lost) }
 
 -- a seat that builds new rows does not put
 pub building_puts : {A : Type 0} (a : Activity) → IsBuilding a → IsPutting a → A
-building_puts PutKey b p = absurd b
-building_puts PutValue b p = absurd b
-building_puts Announce b p = absurd b
-building_puts PutClock b p = absurd b
-building_puts Stamp b p = absurd b
-building_puts PutVersion b p = absurd b
-building_puts InsFrom b p = absurd b
-building_puts InsKey b p = absurd b
-building_puts InsVer b p = absurd b
-building_puts InsSet b p = absurd b
-building_puts Insert b p = absurd b
-building_puts PutClear b p = absurd b
+building_puts (Activity.Put Put.Key) b p = absurd b
+building_puts (Activity.Put Put.Value) b p = absurd b
+building_puts (Activity.Put Put.Announce) b p = absurd b
+building_puts (Activity.Put Put.Clock) b p = absurd b
+building_puts (Activity.Put Put.Stamp) b p = absurd b
+building_puts (Activity.Put Put.Version) b p = absurd b
+building_puts (Activity.Insert _) b p = absurd b
+building_puts (Activity.Put Put.Clear) b p = absurd b
 building_puts _ b p = absurd p
 
 -- the attempt of a seat that puts stays its own, or the seat has cleared its entry, or it never
 -- gets a version
 own_goes : (z : Sizes) (r r' : Run) (s : ℕ) (choice : Choice) (l : Local) (a : Activity) (l' : Local) → Arrow z (word z r.world) s choice l a l' → Happens z r r' s choice l l' a → Below z r → IsPutting a →
-    IsPutting l'.activity × ((r'.seats s).own ≡ (r.seats s).own) ⊎ (a ≡ PutClear) ⊎ IsOver r'.history (r.seats s).own
+    IsPutting l'.activity × ((r'.seats s).own ≡ (r.seats s).own) ⊎ (a ≡ Activity.Put Put.Clear) ⊎ IsOver r'.history (r.seats s).own
 own_goes z r r' s choice l a l' (builds b next y t) h i p = building_puts b y p
 own_goes z r r' s choice l a l' stores_key h i p = inl (tt, ap (λ g. g.own) h.log)
 own_goes z r r' s choice l a l' stores_value h i p = inl (tt, ap (λ g. g.own) h.log)
@@ -109,7 +105,7 @@ own_goes z r r' s choice l a l' (tidies rows e) h i p = inr (inl refl)
 own_goes z r r' s choice l a l' _ h i p = absurd p
 
 -- a seat that is given a cell puts it
-takes_puts : (z : Sizes) (v : Words) (s : ℕ) (choice : Choice) (l : Local) (a : Activity) (l' : Local) → Arrow z v s choice l a l' → a ≡ PutAdd → has_room z (count_of (v (name.Count l.row))) ≡ true → IsPutting l'.activity
+takes_puts : (z : Sizes) (v : Words) (s : ℕ) (choice : Choice) (l : Local) (a : Activity) (l' : Local) → Arrow z v s choice l a l' → a ≡ Activity.Put Put.Add → has_room z (count_of (v (name.Count l.row))) ≡ true → IsPutting l'.activity
 takes_puts z v s choice l a l' (builds b next y t) e x = absurd (subst IsBuilding e y)
 takes_puts z v s choice l a l' (takes_cell m) e x = tt
 takes_puts z v s choice l a l' (takes_full m) e x = true_false x m
@@ -143,32 +139,32 @@ module _ (z : Sizes) (r r' : Run) (s : ℕ) (choice : Choice) (l : Local) (a : A
       }
 
   -- the attempt of a seat that clears its entry is done
-  clears_old : a ≡ PutClear → IsOld (word z r'.world) r'.ledger.rows r'.history (r.seats s).own
+  clears_old : a ≡ Activity.Put Put.Clear → IsOld (word z r'.world) r'.ledger.rows r'.history (r.seats s).own
   clears_old e =
       let clearing = subst (λ x. Happens z r r' s choice l l' x) e h in
-      let own = acting_own z r r' s choice l PutClear l' clearing i tt in
+      let own = acting_own z r r' s choice l (Activity.Put Put.Clear) l' clearing i tt in
       let known = i.shape.sane.locals s l h.knows in
       let goes = goes_on_by z r r' s choice l a l' h i st in
       let same = goes.attempts (r.seats s).own own.within in
       let g = (goes.grows.old (r.seats s).own own.within).stamped (own.stamped (subst IsStamped (sym clearing.activity) tt)) in
-      let stored = version_stays PutClear clearing l.row l.cell known.below.row known.ranges.cell (λ x. x) ∙ own.stored (subst IsStored (sym clearing.activity) tt) in
+      let stored = version_stays (Activity.Put Put.Clear) clearing l.row l.cell known.below.row known.ranges.cell (λ x. x) ∙ own.stored (subst IsStored (sym clearing.activity) tt) in
       record { stamped = g.0; version = λ x. rw (same.row, same.cell) (rw (own.row, own.cell) stored ∙ sym g.1) }
 
   -- the own attempt of a seat that puts stays current, or its seat has cleared its entry, or it
   -- never gets a version: what holds of it then
-  own_current : (P : ℕ → Type 0) → (a ≡ PutClear → P (r.seats s).own) → (IsOver r'.history (r.seats s).own → P (r.seats s).own) → (p : ℕ) → p < length r.history.attempts → (attempt r.history p).seat ≡ s → p ≡ (r.seats s).own → IsPutting a → IsCurrent (slice_get r'.world.locals) r'.seats r'.history p ⊎ P p
+  own_current : (P : ℕ → Type 0) → (a ≡ Activity.Put Put.Clear → P (r.seats s).own) → (IsOver r'.history (r.seats s).own → P (r.seats s).own) → (p : ℕ) → p < length r.history.attempts → (attempt r.history p).seat ≡ s → p ≡ (r.seats s).own → IsPutting a → IsCurrent (slice_get r'.world.locals) r'.seats r'.history p ⊎ P p
   own_current P cleared over p w e f m = met (own_goes z r r' s choice l a l' h.arrow h i m)
     where
       same : SameAttempt r.history r'.history p
       same = (goes_on_by z r r' s choice l a l' h i st).attempts p w
 
-      met : IsPutting l'.activity × ((r'.seats s).own ≡ (r.seats s).own) ⊎ (a ≡ PutClear) ⊎ IsOver r'.history (r.seats s).own → IsCurrent (slice_get r'.world.locals) r'.seats r'.history p ⊎ P p
+      met : IsPutting l'.activity × ((r'.seats s).own ≡ (r.seats s).own) ⊎ (a ≡ Activity.Put Put.Clear) ⊎ IsOver r'.history (r.seats s).own → IsCurrent (slice_get r'.world.locals) r'.seats r'.history p ⊎ P p
       met (inl x) = inl (record { local = l'; knows = rw (same.seat, e) (knows_next h); putting = x.0; own = rw (same.seat, e) (x.1 ∙ sym f) })
       met (inr (inl x)) = inr (subst P (sym f) (cleared x))
       met (inr (inr x)) = inr (subst P (sym f) (over x))
 
   -- an attempt that is current stays so, or one of these holds
-  pub current_goes : (P : ℕ → Type 0) → (a ≡ PutClear → P (r.seats s).own) → (IsOver r'.history (r.seats s).own → P (r.seats s).own) → (p : ℕ) → p < length r.history.attempts → IsCurrent (slice_get r.world.locals) r.seats r.history p → IsCurrent (slice_get r'.world.locals) r'.seats r'.history p ⊎ P p
+  pub current_goes : (P : ℕ → Type 0) → (a ≡ Activity.Put Put.Clear → P (r.seats s).own) → (IsOver r'.history (r.seats s).own → P (r.seats s).own) → (p : ℕ) → p < length r.history.attempts → IsCurrent (slice_get r.world.locals) r.seats r.history p → IsCurrent (slice_get r'.world.locals) r'.seats r'.history p ⊎ P p
   current_goes P cleared over p w k = which (cases_eq (attempt r.history p).seat s)
     where
       same : SameAttempt r.history r'.history p
@@ -181,10 +177,10 @@ module _ (z : Sizes) (r r' : Run) (s : ℕ) (choice : Choice) (l : Local) (a : A
       which (inr d) = inl (record { local = k.local; knows = rw same.seat (knows_other h (attempt r.history p).seat d ∙ k.knows); putting = k.putting; own = rw same.seat (ap (λ g. g.own) (h.logs (attempt r.history p).seat d) ∙ k.own) })
 
   -- one that never gets a version stays so, or is announced now, and is current
-  pub over_goes : (P : ℕ → Type 0) → (a ≡ PutClear → P (r.seats s).own) → ((q : ℕ) → IsOver r'.history q → P q) → (p : ℕ) → p < length r.history.attempts → IsOver r.history p → IsCurrent (slice_get r'.world.locals) r'.seats r'.history p ⊎ P p
+  pub over_goes : (P : ℕ → Type 0) → (a ≡ Activity.Put Put.Clear → P (r.seats s).own) → ((q : ℕ) → IsOver r'.history q → P q) → (p : ℕ) → p < length r.history.attempts → IsOver r.history p → IsCurrent (slice_get r'.world.locals) r'.seats r'.history p ⊎ P p
   over_goes P cleared over p w o = which (over_stays a h st p w o)
     where
-      which : IsOver r'.history p ⊎ (a ≡ Announce) × (p ≡ (r.seats s).own) → IsCurrent (slice_get r'.world.locals) r'.seats r'.history p ⊎ P p
+      which : IsOver r'.history p ⊎ (a ≡ Activity.Put Put.Announce) × (p ≡ (r.seats s).own) → IsCurrent (slice_get r'.world.locals) r'.seats r'.history p ⊎ P p
       which (inl x) = inr (over p x)
       which (inr x) =
           let m : IsPutting a = subst IsPutting (sym x.0) tt in
@@ -195,7 +191,7 @@ module _ (z : Sizes) (r r' : Run) (s : ℕ) (choice : Choice) (l : Local) (a : A
 pub old_keeps : (z : Sizes) (r r' : Run) (s : ℕ) (choice : Choice) (l : Local) (a : Activity) (l' : Local) → Arrow z (word z r.world) s choice l a l' → Happens z r r' s choice l l' a → Below z r → Step r.history r'.history (log_entry z r a s choice l) → (p : ℕ) → p < length r'.history.attempts → IsCurrent (slice_get r'.world.locals) r'.seats r'.history p ⊎ IsOld (word z r'.world) r'.ledger.rows r'.history p ⊎ IsOver r'.history p
 old_keeps z r r' s choice l a l' b h i st p o = which (attempt_was a h p o)
   where
-    cleared : a ≡ PutClear → IsOld (word z r'.world) r'.ledger.rows r'.history (r.seats s).own ⊎ IsOver r'.history (r.seats s).own
+    cleared : a ≡ Activity.Put Put.Clear → IsOld (word z r'.world) r'.ledger.rows r'.history (r.seats s).own ⊎ IsOver r'.history (r.seats s).own
     cleared e = inl (clears_old z r r' s choice l a l' h i st e)
 
     was : p < length r.history.attempts → IsCurrent (slice_get r.world.locals) r.seats r.history p ⊎ IsOld (word z r.world) r.ledger.rows r.history p ⊎ IsOver r.history p → IsCurrent (slice_get r'.world.locals) r'.seats r'.history p ⊎ IsOld (word z r'.world) r'.ledger.rows r'.history p ⊎ IsOver r'.history p

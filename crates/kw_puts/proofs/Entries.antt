@@ -9,7 +9,13 @@ use Rattle.kw_words.specs.Pend.{pend_word}
 use Rattle.kw_words.specs.Plain.{key_of_word}
 use Rattle.kw_words.proofs.PendWords.{pend_word_of}
 use Rattle.kw_world.specs.declared.activity.Activity.{Activity}
-use Rattle.kw_world.specs.declared.activity.Activity.TheVariants.{Look, LookKey, LookClock, LookHelp, Announce, Stamp, PutClear, Freeze, WritePend}
+use Rattle.kw_world.specs.declared.activity.rebalance.freeze.Freeze.TheVariants as Freeze
+use Rattle.kw_world.specs.declared.activity.look.Look.TheVariants as Look
+use Rattle.kw_world.specs.declared.activity.put.Put.TheVariants as Put
+use Rattle.kw_world.specs.declared.activity.rebalance.Rebalance.TheVariants as Rebalance
+use Rattle.kw_world.specs.declared.activity.rebalance.write.Write.TheVariants as Write
+use Rattle.kw_world.specs.declared.activity.rebalance.replace.Replace.TheVariants as Replace
+use Rattle.kw_world.specs.declared.activity.rebalance.seek.Seek.TheVariants as Seek
 use Rattle.kw_world.specs.declared.local.Local.{Local}
 use Rattle.kw_world.specs.declared.event.Choice.{Choice}
 use Rattle.kw_world.specs.SeekTransitions.{infant}
@@ -45,32 +51,32 @@ use Rattle.kw_puts.proofs.OwnAttempts.{acting_own, entry_stamped, lost_frozen}
 -- The entries.
 
 -- an entry that is idle stays so or is frozen, unless its own seat announces
-pub idle_stays : (z : Sizes) (r r' : Run) (s : ℕ) (choice : Choice) (l : Local) (a : Activity) (l' : Local) → Happens z r r' s choice l l' a → Below z r → (q j : ℕ) → q < r.world.rows → j < z.seats → (a ≡ Announce → q ≡ l.row → j ≡ s → ⊥) → word z r.world (name.Pend q j) ≡ pend_word pend.Idle → (word z r'.world (name.Pend q j) ≡ pend_word pend.Idle) ⊎ (word z r'.world (name.Pend q j) ≡ pend_word pend.Frozen)
-idle_stays z r r' s choice l LookHelp l' h i q j w o n e = which (cases_eq q l.row) (cases_eq j l.looked)
+pub idle_stays : (z : Sizes) (r r' : Run) (s : ℕ) (choice : Choice) (l : Local) (a : Activity) (l' : Local) → Happens z r r' s choice l l' a → Below z r → (q j : ℕ) → q < r.world.rows → j < z.seats → (a ≡ Activity.Put Put.Announce → q ≡ l.row → j ≡ s → ⊥) → word z r.world (name.Pend q j) ≡ pend_word pend.Idle → (word z r'.world (name.Pend q j) ≡ pend_word pend.Idle) ⊎ (word z r'.world (name.Pend q j) ≡ pend_word pend.Frozen)
+idle_stays z r r' s choice l (Activity.Look Look.Help) l' h i q j w o n e = which (cases_eq q l.row) (cases_eq j l.looked)
   where
     which : (q ≡ l.row) ⊎ (q ≡ l.row → ⊥) → (j ≡ l.looked) ⊎ (j ≡ l.looked → ⊥) → (word z r'.world (name.Pend q j) ≡ pend_word pend.Idle) ⊎ (word z r'.world (name.Pend q j) ≡ pend_word pend.Frozen)
     which (inl f) (inl g) =
         let was : word z r.world (name.Pend l.row l.looked) ≡ pend_word pend.Idle = rw (f, g) at e in
         let lost : word z r.world (name.Pend l.row l.looked) ≢ pend_word (pend.Pending l.met) = λ k. let x : pend_word pend.Idle ≡ pend_word (pend.Pending l.met) = sym was ∙ k in omega (arith, x) in
         inl (rw (f, g) (not_exchanged _ _ _ _ h.changed.same lost ∙ was))
-    which (inr d) g = inl (entry_stays LookHelp h q j w o (λ x. d x.0) ∙ e)
-    which (inl f) (inr d) = inl (entry_stays LookHelp h q j w o (λ x. d x.1) ∙ e)
-idle_stays z r r' s choice l Stamp l' h i q j w o n e = which (cases_eq q l.row) (cases_eq j s)
+    which (inr d) g = inl (entry_stays (Activity.Look Look.Help) h q j w o (λ x. d x.0) ∙ e)
+    which (inl f) (inr d) = inl (entry_stays (Activity.Look Look.Help) h q j w o (λ x. d x.1) ∙ e)
+idle_stays z r r' s choice l (Activity.Put Put.Stamp) l' h i q j w o n e = which (cases_eq q l.row) (cases_eq j s)
   where
     which : (q ≡ l.row) ⊎ (q ≡ l.row → ⊥) → (j ≡ s) ⊎ (j ≡ s → ⊥) → (word z r'.world (name.Pend q j) ≡ pend_word pend.Idle) ⊎ (word z r'.world (name.Pend q j) ≡ pend_word pend.Frozen)
     which (inl f) (inl g) =
         let was : word z r.world (name.Pend l.row s) ≡ pend_word pend.Idle = rw (f, g) at e in
         let lost : word z r.world (name.Pend l.row s) ≢ pend_word (pend.Pending l.cell) = λ k. let x : pend_word pend.Idle ≡ pend_word (pend.Pending l.cell) = sym was ∙ k in omega (arith, x) in
         inl (rw (f, g) (not_exchanged _ _ _ _ h.changed.same lost ∙ was))
-    which (inr d) g = inl (entry_stays Stamp h q j w o (λ x. d x.0) ∙ e)
-    which (inl f) (inr d) = inl (entry_stays Stamp h q j w o (λ x. d x.1) ∙ e)
-idle_stays z r r' s choice l PutClear l' h i q j w o n e = which (cases_eq q l.row) (cases_eq j s)
+    which (inr d) g = inl (entry_stays (Activity.Put Put.Stamp) h q j w o (λ x. d x.0) ∙ e)
+    which (inl f) (inr d) = inl (entry_stays (Activity.Put Put.Stamp) h q j w o (λ x. d x.1) ∙ e)
+idle_stays z r r' s choice l (Activity.Put Put.Clear) l' h i q j w o n e = which (cases_eq q l.row) (cases_eq j s)
   where
     which : (q ≡ l.row) ⊎ (q ≡ l.row → ⊥) → (j ≡ s) ⊎ (j ≡ s → ⊥) → (word z r'.world (name.Pend q j) ≡ pend_word pend.Idle) ⊎ (word z r'.world (name.Pend q j) ≡ pend_word pend.Frozen)
     which (inl f) (inl g) = inl (rw (f, g) h.changed.same)
-    which (inr d) g = inl (entry_stays PutClear h q j w o (λ x. d x.0) ∙ e)
-    which (inl f) (inr d) = inl (entry_stays PutClear h q j w o (λ x. d x.1) ∙ e)
-idle_stays z r r' s choice l (Freeze k) l' h i q j w o n e = which (cases_eq q l.row) (cases_eq j k)
+    which (inr d) g = inl (entry_stays (Activity.Put Put.Clear) h q j w o (λ x. d x.0) ∙ e)
+    which (inl f) (inr d) = inl (entry_stays (Activity.Put Put.Clear) h q j w o (λ x. d x.1) ∙ e)
+idle_stays z r r' s choice l (Activity.Rebalance (Rebalance.Freeze (Freeze.Entry k))) l' h i q j w o n e = which (cases_eq q l.row) (cases_eq j k)
   where
     which : (q ≡ l.row) ⊎ (q ≡ l.row → ⊥) → (j ≡ k) ⊎ (j ≡ k → ⊥) → (word z r'.world (name.Pend q j) ≡ pend_word pend.Idle) ⊎ (word z r'.world (name.Pend q j) ≡ pend_word pend.Frozen)
     which (inl f) (inl g) = tried (cases_eq (word z r.world (name.Pend l.row k)) (pend_word l.rebalance.entry))
@@ -78,26 +84,26 @@ idle_stays z r r' s choice l (Freeze k) l' h i q j w o n e = which (cases_eq q l
         tried : (word z r.world (name.Pend l.row k) ≡ pend_word l.rebalance.entry) ⊎ (word z r.world (name.Pend l.row k) ≡ pend_word l.rebalance.entry → ⊥) → (word z r'.world (name.Pend q j) ≡ pend_word pend.Idle) ⊎ (word z r'.world (name.Pend q j) ≡ pend_word pend.Frozen)
         tried (inl x) = inr (rw (f, g) (entry_frozen k h x))
         tried (inr x) = inl (rw (f, g) (entry_left k h x ∙ rw (f, g) at e))
-    which (inr d) g = inl (entry_stays (Freeze k) h q j w o (λ x. d x.0) ∙ e)
-    which (inl f) (inr d) = inl (entry_stays (Freeze k) h q j w o (λ x. d x.1) ∙ e)
-idle_stays z r r' s choice l Announce l' h i q j w o n e = inl (entry_stays Announce h q j w o (λ x. n refl x.0 x.1) ∙ e)
-idle_stays z r r' s choice l (WritePend k) l' h i q j w o n e = which (cases_eq q (infant l)) (cases_eq j k)
+    which (inr d) g = inl (entry_stays (Activity.Rebalance (Rebalance.Freeze (Freeze.Entry k))) h q j w o (λ x. d x.0) ∙ e)
+    which (inl f) (inr d) = inl (entry_stays (Activity.Rebalance (Rebalance.Freeze (Freeze.Entry k))) h q j w o (λ x. d x.1) ∙ e)
+idle_stays z r r' s choice l (Activity.Put Put.Announce) l' h i q j w o n e = inl (entry_stays (Activity.Put Put.Announce) h q j w o (λ x. n refl x.0 x.1) ∙ e)
+idle_stays z r r' s choice l (Activity.Rebalance (Rebalance.Write (Write.Entry k))) l' h i q j w o n e = which (cases_eq q (infant l)) (cases_eq j k)
   where
     which : (q ≡ infant l) ⊎ (q ≡ infant l → ⊥) → (j ≡ k) ⊎ (j ≡ k → ⊥) → (word z r'.world (name.Pend q j) ≡ pend_word pend.Idle) ⊎ (word z r'.world (name.Pend q j) ≡ pend_word pend.Frozen)
     which (inl f) (inl g) = inl (rw (f, g) (entry_written k h))
-    which (inr d) g = inl (entry_stays (WritePend k) h q j w o (λ x. d x.0) ∙ e)
-    which (inl f) (inr d) = inl (entry_stays (WritePend k) h q j w o (λ x. d x.1) ∙ e)
+    which (inr d) g = inl (entry_stays (Activity.Rebalance (Rebalance.Write (Write.Entry k))) h q j w o (λ x. d x.0) ∙ e)
+    which (inl f) (inr d) = inl (entry_stays (Activity.Rebalance (Rebalance.Write (Write.Entry k))) h q j w o (λ x. d x.1) ∙ e)
 idle_stays z r r' s choice l a l' h i q j w o n e = inl (entry_stays a h q j w o (λ x. x) ∙ e)
 
 -- a frozen entry of a row that is or was linked stays so: a seat that is to clear its entry was
 -- stamped, and its entry says so
 pub frozen_stays : (z : Sizes) (r r' : Run) (s : ℕ) (choice : Choice) (l : Local) (a : Activity) (l' : Local) → Happens z r r' s choice l l' a → Below z r → (q j : ℕ) → WasLinked r.ledger.rows q → j < z.seats → word z r.world (name.Pend q j) ≡ pend_word pend.Frozen → word z r'.world (name.Pend q j) ≡ pend_word pend.Frozen
-frozen_stays z r r' s choice l PutClear l' h i q j w o e = linked_frozen_entry PutClear h i.shape q j w o stamped e
+frozen_stays z r r' s choice l (Activity.Put Put.Clear) l' h i q j w o e = linked_frozen_entry (Activity.Put Put.Clear) h i.shape q j w o stamped e
   where
     own : OwnsAttempt (word z r.world) r.history s l.activity l (r.seats s)
-    own = acting_own z r r' s choice l PutClear l' h i tt
+    own = acting_own z r r' s choice l (Activity.Put Put.Clear) l' h i tt
 
-    stamped : IsPutClear PutClear → q ≡ l.row → j ≡ s → ⊥
+    stamped : IsPutClear (Activity.Put Put.Clear) → q ≡ l.row → j ≡ s → ⊥
     stamped x f g =
         let at : IsStamped l.activity = subst IsStamped (sym h.activity) tt in
         let was : word z r.world (name.Pend l.row s) ≡ pend_word pend.Frozen = rw (f, g) at e in
@@ -117,29 +123,29 @@ frozen_at_row z r r' s choice l a l' h i q j k w o f e = which (was_or_not r.led
 
 -- so of any row it stays so, or is idle, as a new row's are
 frozen_or_new : (z : Sizes) (r r' : Run) (s : ℕ) (choice : Choice) (l : Local) (a : Activity) (l' : Local) → Happens z r r' s choice l l' a → Below z r → (q j : ℕ) → q < r.world.rows → j < z.seats → word z r.world (name.Pend q j) ≡ pend_word pend.Frozen → (word z r'.world (name.Pend q j) ≡ pend_word pend.Idle) ⊎ (word z r'.world (name.Pend q j) ≡ pend_word pend.Frozen)
-frozen_or_new z r r' s choice l (WritePend k) l' h i q j w o e = which (cases_eq q (infant l)) (cases_eq j k)
+frozen_or_new z r r' s choice l (Activity.Rebalance (Rebalance.Write (Write.Entry k))) l' h i q j w o e = which (cases_eq q (infant l)) (cases_eq j k)
   where
     which : (q ≡ infant l) ⊎ (q ≡ infant l → ⊥) → (j ≡ k) ⊎ (j ≡ k → ⊥) → (word z r'.world (name.Pend q j) ≡ pend_word pend.Idle) ⊎ (word z r'.world (name.Pend q j) ≡ pend_word pend.Frozen)
     which (inl f) (inl g) = inl (rw (f, g) (entry_written k h))
-    which (inr d) g = inr (entry_stays (WritePend k) h q j w o (λ x. d x.0) ∙ e)
-    which (inl f) (inr d) = inr (entry_stays (WritePend k) h q j w o (λ x. d x.1) ∙ e)
-frozen_or_new z r r' s choice l LookHelp l' h i q j w o e = frozen_at_row z r r' s choice l LookHelp l' h i q j (row_linked z r i.shape s l h.knows (subst IsAtRow (sym h.activity) tt)) w o (λ x. x.0) e
-frozen_or_new z r r' s choice l Announce l' h i q j w o e = frozen_at_row z r r' s choice l Announce l' h i q j (row_linked z r i.shape s l h.knows (subst IsAtRow (sym h.activity) tt)) w o (λ x. x.0) e
-frozen_or_new z r r' s choice l Stamp l' h i q j w o e = frozen_at_row z r r' s choice l Stamp l' h i q j (row_linked z r i.shape s l h.knows (subst IsAtRow (sym h.activity) tt)) w o (λ x. x.0) e
-frozen_or_new z r r' s choice l PutClear l' h i q j w o e = frozen_at_row z r r' s choice l PutClear l' h i q j (row_linked z r i.shape s l h.knows (subst IsAtRow (sym h.activity) tt)) w o (λ x. x.0) e
-frozen_or_new z r r' s choice l (Freeze k) l' h i q j w o e = frozen_at_row z r r' s choice l (Freeze k) l' h i q j (full_linked z r i.shape s l h.knows (subst IsBalancing (sym h.activity) tt)) w o (λ x. x.0) e
+    which (inr d) g = inr (entry_stays (Activity.Rebalance (Rebalance.Write (Write.Entry k))) h q j w o (λ x. d x.0) ∙ e)
+    which (inl f) (inr d) = inr (entry_stays (Activity.Rebalance (Rebalance.Write (Write.Entry k))) h q j w o (λ x. d x.1) ∙ e)
+frozen_or_new z r r' s choice l (Activity.Look Look.Help) l' h i q j w o e = frozen_at_row z r r' s choice l (Activity.Look Look.Help) l' h i q j (row_linked z r i.shape s l h.knows (subst IsAtRow (sym h.activity) tt)) w o (λ x. x.0) e
+frozen_or_new z r r' s choice l (Activity.Put Put.Announce) l' h i q j w o e = frozen_at_row z r r' s choice l (Activity.Put Put.Announce) l' h i q j (row_linked z r i.shape s l h.knows (subst IsAtRow (sym h.activity) tt)) w o (λ x. x.0) e
+frozen_or_new z r r' s choice l (Activity.Put Put.Stamp) l' h i q j w o e = frozen_at_row z r r' s choice l (Activity.Put Put.Stamp) l' h i q j (row_linked z r i.shape s l h.knows (subst IsAtRow (sym h.activity) tt)) w o (λ x. x.0) e
+frozen_or_new z r r' s choice l (Activity.Put Put.Clear) l' h i q j w o e = frozen_at_row z r r' s choice l (Activity.Put Put.Clear) l' h i q j (row_linked z r i.shape s l h.knows (subst IsAtRow (sym h.activity) tt)) w o (λ x. x.0) e
+frozen_or_new z r r' s choice l (Activity.Rebalance (Rebalance.Freeze (Freeze.Entry k))) l' h i q j w o e = frozen_at_row z r r' s choice l (Activity.Rebalance (Rebalance.Freeze (Freeze.Entry k))) l' h i q j (full_linked z r i.shape s l h.knows (subst IsBalancing (sym h.activity) tt)) w o (λ x. x.0) e
 frozen_or_new z r r' s choice l a l' h i q j w o e = inr (entry_stays a h q j w o (λ x. x) ∙ e)
 
 -- a seat whose entry is idle when it announces has announced a cell of its row then
-announces_now : (z : Sizes) (r r' : Run) (s : ℕ) (choice : Choice) (l : Local) (a : Activity) (l' : Local) → Arrow z (word z r.world) s choice l a l' → Happens z r r' s choice l l' a → Below z r → a ≡ Announce → word z r.world (name.Pend l.row s) ≡ pend_word pend.Idle → IsPublished l'.activity × (l'.row ≡ l.row)
+announces_now : (z : Sizes) (r r' : Run) (s : ℕ) (choice : Choice) (l : Local) (a : Activity) (l' : Local) → Arrow z (word z r.world) s choice l a l' → Happens z r r' s choice l l' a → Below z r → a ≡ Activity.Put Put.Announce → word z r.world (name.Pend l.row s) ≡ pend_word pend.Idle → IsPublished l'.activity × (l'.row ≡ l.row)
 announces_now z r r' s choice l a l' (builds b next y t) h i e f = absurd (subst IsBuilding e y)
 announces_now z r r' s choice l a l' (announces x) h i e y = (tt, refl)
 announces_now z r r' s choice l a l' (announces_full n) h i e y = absurd (n y)
 announces_now z r r' s choice l a l' _ h i e y = absurd (cc)
 
 -- the entry of a seat that finds it not its own is frozen
-unstamped_frozen : (z : Sizes) (r r' : Run) (s : ℕ) (choice : Choice) (l : Local) (l' : Local) → IsNotOwn l.cell (word z r.world (name.Pend l.row s)) → Happens z r r' s choice l l' Stamp → Below z r → word z r'.world (name.Pend l.row s) ≡ pend_word pend.Frozen
-unstamped_frozen z r r' s choice l l' n h i = frozen_stays z r r' s choice l Stamp l' h i l.row s (puts_linked z r i.shape s l h.knows (subst IsPutting (sym h.activity) tt)) h.seat (lost_frozen z r s l i (acting_own z r r' s choice l Stamp l' h i tt) h.knows h.activity n)
+unstamped_frozen : (z : Sizes) (r r' : Run) (s : ℕ) (choice : Choice) (l : Local) (l' : Local) → IsNotOwn l.cell (word z r.world (name.Pend l.row s)) → Happens z r r' s choice l l' (Activity.Put Put.Stamp) → Below z r → word z r'.world (name.Pend l.row s) ≡ pend_word pend.Frozen
+unstamped_frozen z r r' s choice l l' n h i = frozen_stays z r r' s choice l (Activity.Put Put.Stamp) l' h i l.row s (puts_linked z r i.shape s l h.knows (subst IsPutting (sym h.activity) tt)) h.seat (lost_frozen z r s l i (acting_own z r r' s choice l (Activity.Put Put.Stamp) l' h i tt) h.knows h.activity n)
 
 -- a seat that has announced a cell goes on with it, or clears its entry, or finds it frozen
 published_goes : (z : Sizes) (r r' : Run) (s : ℕ) (choice : Choice) (l : Local) (a : Activity) (l' : Local) → Arrow z (word z r.world) s choice l a l' → Happens z r r' s choice l l' a → Below z r → IsPublished a → (word z r'.world (name.Pend l.row s) ≡ pend_word pend.Idle) ⊎ (word z r'.world (name.Pend l.row s) ≡ pend_word pend.Frozen) ⊎ IsPublished l'.activity × (l'.row ≡ l.row)
@@ -180,13 +186,13 @@ entry_keeps z r r' s choice l a l' b h i q j o e = which (cases_eq j s) (i.puts.
 
     -- its entry was idle, and it announces or not
     idle : word z r.world (name.Pend q j) ≡ pend_word pend.Idle → (k : Activity) → a ≡ k → (word z r'.world (name.Pend q j) ≡ pend_word pend.Idle) ⊎ (word z r'.world (name.Pend q j) ≡ pend_word pend.Frozen) ⊎ IsPublishedAt (slice_get r'.world.locals) q j
-    idle x Announce f = at (cases_eq q l.row) (cases_eq j s)
+    idle x (Activity.Put Put.Announce) f = at (cases_eq q l.row) (cases_eq j s)
       where
         at : (q ≡ l.row) ⊎ (q ≡ l.row → ⊥) → (j ≡ s) ⊎ (j ≡ s → ⊥) → (word z r'.world (name.Pend q j) ≡ pend_word pend.Idle) ⊎ (word z r'.world (name.Pend q j) ≡ pend_word pend.Frozen) ⊎ IsPublishedAt (slice_get r'.world.locals) q j
         at (inl g) (inl k) = let p = announces_now z r r' s choice l a l' b h i f (rw (g, k) at x) in inr (inr (here k p.0 (p.1 ∙ sym g)))
         at (inr d) k = idle_or_frozen (idle_stays z r r' s choice l a l' h i q j below e (λ u g m. d g) x)
         at (inl g) (inr d) = idle_or_frozen (idle_stays z r r' s choice l a l' h i q j below e (λ u g m. d m) x)
-    idle x k f = idle_or_frozen (idle_stays z r r' s choice l a l' h i q j below e (λ u g m. let y : k ≡ Announce = sym f ∙ u in absurd (cc)) x)
+    idle x k f = idle_or_frozen (idle_stays z r r' s choice l a l' h i q j below e (λ u g m. let y : k ≡ (Activity.Put Put.Announce) = sym f ∙ u in absurd (cc)) x)
 
     mine : j ≡ s → IsPublishedAt (slice_get r.world.locals) q j → (word z r'.world (name.Pend q j) ≡ pend_word pend.Idle) ⊎ (word z r'.world (name.Pend q j) ≡ pend_word pend.Frozen) ⊎ IsPublishedAt (slice_get r'.world.locals) q j
     mine f p = met (published_goes z r r' s choice l a l' b h i (subst IsPublished h.activity (subst (λ (x : Local). IsPublished x.activity) is p.published)))
@@ -222,7 +228,7 @@ rest_tries l n (scans_on q o e f g) = tt
 
 -- a seat that builds new rows freezes no entry
 built_tries : (a : Activity) (k : Local) → IsAfterBuilding a → IsToFreeze a k
-built_tries (Freeze i) k n = absurd n
+built_tries (Activity.Rebalance (Rebalance.Freeze (Freeze.Entry i))) k n = absurd n
 built_tries _ k n = tt
 
 -- the acting seat is to freeze an entry only where it found it idle or pending
@@ -253,13 +259,15 @@ cell_meets l n (ends_scan o e f) p = absurd p
 cell_meets l n (scans_on q o e f g) p = absurd p
 
 built_meets : {A : Type 0} (a : Activity) → IsAfterBuilding a → HasMet a → A
-built_meets LookKey n p = absurd n
-built_meets LookClock n p = absurd n
-built_meets LookHelp n p = absurd n
+built_meets (Activity.Look Look.Key) n p = absurd n
+built_meets (Activity.Look Look.Clock) n p = absurd n
+built_meets (Activity.Look Look.Help) n p = absurd n
+built_meets (Activity.Rebalance (Rebalance.Seek Seek.Next)) n p = absurd p
+built_meets (Activity.Rebalance (Rebalance.Replace Replace.First)) n p = absurd p
 built_meets _ n p = absurd p
 
 -- a reader meets a pending entry: it is that of the seat's own attempt
-pending_met : (z : Sizes) (r r' : Run) (s : ℕ) (choice : Choice) (l : Local) (j c : ℕ) → word z r.world (name.Pend l.row j) ≡ pend_word (pend.Pending c) → Happens z r r' s choice l (record l { looked = j; met = c; activity = LookKey }) (Look j) → Below z r → Step r.history r'.history (log_entry z r (Look j) s choice l) → Helps r'.history r'.origin LookKey (record l { looked = j; met = c; activity = LookKey }) (r'.seats s)
+pending_met : (z : Sizes) (r r' : Run) (s : ℕ) (choice : Choice) (l : Local) (j c : ℕ) → word z r.world (name.Pend l.row j) ≡ pend_word (pend.Pending c) → Happens z r r' s choice l (record l { looked = j; met = c; activity = Activity.Look Look.Key }) (Activity.Look (Look.Entry j)) → Below z r → Step r.history r'.history (log_entry z r (Activity.Look (Look.Entry j)) s choice l) → Helps r'.history r'.origin (Activity.Look Look.Key) (record l { looked = j; met = c; activity = Activity.Look Look.Key }) (r'.seats s)
 pending_met z r r' s choice l j c e h i st = record {
   put = (r.seats j).own;
   origin = goes.origin l.row c (r.seats j).own linked (rw (w.row, sym own.cell ∙ w.cell) at (own_origin i.puts j w.local w.knows (published_puts w.local.activity w.published)));
@@ -280,16 +288,18 @@ pending_met z r r' s choice l j c e h i st = record {
     own = i.puts.owns j w.local w.knows (published_puts w.local.activity w.published)
 
     goes : GoesOn r.history r'.history r.origin r'.origin r.ledger.rows
-    goes = goes_on_by z r r' s choice l (Look j) (record l { looked = j; met = c; activity = LookKey }) h i st
+    goes = goes_on_by z r r' s choice l (Activity.Look (Look.Entry j)) (record l { looked = j; met = c; activity = Activity.Look Look.Key }) h i st
 
     same : SameAttempt r.history r'.history (r.seats j).own
     same = goes.attempts (r.seats j).own own.within
 
 -- a reader that has met an entry is at a row
 pub met_at_row : (a : Activity) → HasMet a → IsAtRow a
-met_at_row LookKey m = tt
-met_at_row LookClock m = tt
-met_at_row LookHelp m = tt
+met_at_row (Activity.Look Look.Key) m = tt
+met_at_row (Activity.Look Look.Clock) m = tt
+met_at_row (Activity.Look Look.Help) m = tt
+met_at_row (Activity.Rebalance (Rebalance.Seek Seek.Next)) m = absurd m
+met_at_row (Activity.Rebalance (Rebalance.Replace Replace.First)) m = absurd m
 met_at_row _ m = absurd m
 
 -- the attempt that was met, after an event of the reader
@@ -320,32 +330,32 @@ module _ (z : Sizes) (r r' : Run) (s : ℕ) (choice : Choice) (l : Local) (a : A
   met_announced = (goes.grows.old helped.put met_within).announced helped.announced
 
 -- its key is one that the reader reads
-key_wanted : (z : Sizes) (r r' : Run) (s : ℕ) (choice : Choice) (l : Local) → is_in_range l.call (key_of_word (word z r.world (name.Key l.row l.met))) ≡ true → Happens z r r' s choice l (record l { activity = LookClock }) LookKey → Below z r → Step r.history r'.history (log_entry z r LookKey s choice l) → Helps r'.history r'.origin LookClock (record l { activity = LookClock }) (r'.seats s)
+key_wanted : (z : Sizes) (r r' : Run) (s : ℕ) (choice : Choice) (l : Local) → is_in_range l.call (key_of_word (word z r.world (name.Key l.row l.met))) ≡ true → Happens z r r' s choice l (record l { activity = Activity.Look Look.Clock }) (Activity.Look Look.Key) → Below z r → Step r.history r'.history (log_entry z r (Activity.Look Look.Key) s choice l) → Helps r'.history r'.origin (Activity.Look Look.Clock) (record l { activity = Activity.Look Look.Clock }) (r'.seats s)
 key_wanted z r r' s choice l e h i st =
-    let l' : Local = record l { activity = LookClock } in
-    let k = helped z r r' s choice l LookKey l' h i st tt in
-    let same = met_same z r r' s choice l LookKey l' h i st tt in
+    let l' : Local = record l { activity = Activity.Look Look.Clock } in
+    let k = helped z r r' s choice l (Activity.Look Look.Key) l' h i st tt in
+    let same = met_same z r r' s choice l (Activity.Look Look.Key) l' h i st tt in
     record {
       put = k.put;
-      origin = met_origin z r r' s choice l LookKey l' h i st tt;
+      origin = met_origin z r r' s choice l (Activity.Look Look.Key) l' h i st tt;
       seat = same.seat ∙ k.seat;
-      announced = (met_announced z r r' s choice l LookKey l' h i st tt).0;
-      key = λ x. rw (same.key, ← met_key z r r' s choice l LookKey l' h i st tt) e;
+      announced = (met_announced z r r' s choice l (Activity.Look Look.Key) l' h i st tt).0;
+      key = λ x. rw (same.key, ← met_key z r r' s choice l (Activity.Look Look.Key) l' h i st tt) e;
       after = λ x. absurd x;
       loaded = λ x. absurd x;
     }
 
 -- the clock is loaded after its announcement
-loaded_to_help : (z : Sizes) (r r' : Run) (s : ℕ) (choice : Choice) (l : Local) → Happens z r r' s choice l (record l { helping = word z r.world name.Clock; activity = LookHelp }) LookClock → Below z r → Step r.history r'.history (log_entry z r LookClock s choice l) → Helps r'.history r'.origin LookHelp (record l { helping = word z r.world name.Clock; activity = LookHelp }) (r'.seats s)
+loaded_to_help : (z : Sizes) (r r' : Run) (s : ℕ) (choice : Choice) (l : Local) → Happens z r r' s choice l (record l { helping = word z r.world name.Clock; activity = Activity.Look Look.Help }) (Activity.Look Look.Clock) → Below z r → Step r.history r'.history (log_entry z r (Activity.Look Look.Clock) s choice l) → Helps r'.history r'.origin (Activity.Look Look.Help) (record l { helping = word z r.world name.Clock; activity = Activity.Look Look.Help }) (r'.seats s)
 loaded_to_help z r r' s choice l h i st =
-    let l' : Local = record l { helping = word z r.world name.Clock; activity = LookHelp } in
-    let k = helped z r r' s choice l LookClock l' h i st tt in
-    let within = met_within z r r' s choice l LookClock l' h i st tt in
-    let same = met_same z r r' s choice l LookClock l' h i st tt in
-    let announced = met_announced z r r' s choice l LookClock l' h i st tt in
-    subst (Helps r'.history r'.origin LookHelp l') (sym h.log) (record {
+    let l' : Local = record l { helping = word z r.world name.Clock; activity = Activity.Look Look.Help } in
+    let k = helped z r r' s choice l (Activity.Look Look.Clock) l' h i st tt in
+    let within = met_within z r r' s choice l (Activity.Look Look.Clock) l' h i st tt in
+    let same = met_same z r r' s choice l (Activity.Look Look.Clock) l' h i st tt in
+    let announced = met_announced z r r' s choice l (Activity.Look Look.Clock) l' h i st tt in
+    subst (Helps r'.history r'.origin (Activity.Look Look.Help) l') (sym h.log) (record {
       put = k.put;
-      origin = met_origin z r r' s choice l LookClock l' h i st tt;
+      origin = met_origin z r r' s choice l (Activity.Look Look.Clock) l' h i st tt;
       seat = same.seat ∙ k.seat;
       announced = announced.0;
       key = λ x. rw same.key (k.key (subst IsToHelp (sym h.activity) tt));

@@ -13,7 +13,13 @@ use Rattle.kw_words.specs.Count.{count_of}
 use Rattle.kw_words.specs.Pend.{pend_of, pend_word}
 use Rattle.kw_words.proofs.PendWords.{pend_word_of}
 use Rattle.kw_world.specs.declared.activity.Activity.{Activity}
-use Rattle.kw_world.specs.declared.activity.Activity.TheVariants.{LookHelp, PutAdd, Announce, Stamp, PutClear, FreezeCount, FreezeLook, Freeze, ScanLook, HelpDraw, HelpSettle, TakeFrom, TakeKey, TakeVersion, TakeValue, TakeRestKey, TakeRestValue, SeekFirst, Seek, SeekPass, Reclaim, TakeRow, GiveBack, WriteCount, WriteMin, WriteNext, WriteFirst, WritePend, WriteKey, WriteValue, WriteVersion, WriteAfter, Before, BeforeGuess, BeforeHead, BeforeLink, BeforeMin, Replace, Again, BalClock, Leave}
+use Rattle.kw_world.specs.declared.activity.rebalance.engage.Engage.TheVariants as Engage
+use Rattle.kw_world.specs.declared.activity.rebalance.freeze.Freeze.TheVariants as Freeze
+use Rattle.kw_world.specs.declared.activity.rebalance.gather.Gather.TheVariants as Gather
+use Rattle.kw_world.specs.declared.activity.look.Look.TheVariants as Look
+use Rattle.kw_world.specs.declared.activity.put.Put.TheVariants as Put
+use Rattle.kw_world.specs.declared.activity.rebalance.Rebalance.TheVariants as Rebalance
+use Rattle.kw_world.specs.declared.activity.rebalance.replace.Replace.TheVariants as Replace
 use Rattle.kw_world.specs.declared.local.Local.{Local}
 use Rattle.kw_world.specs.declared.event.Choice.{Choice}
 use Rattle.kw_world.specs.PutTransitions.{has_room}
@@ -72,26 +78,26 @@ not_unsettled pend.Frozen c n u e = u
 
 -- a stamped entry of a row that is or was linked stays so until its seat clears it
 stamped_stays : (z : Sizes) (r r' : Run) (s : ℕ) (choice : Choice) (l : Local) (a : Activity) (l' : Local) → Happens z r r' s choice l l' a → Below z r → (q j c n : ℕ) → WasLinked r.ledger.rows q → j < z.seats → word z r.world (name.Pend q j) ≡ pend_word (pend.Stamped c n) →
-    (word z r'.world (name.Pend q j) ≡ pend_word (pend.Stamped c n)) ⊎ (a ≡ PutClear) × (q ≡ l.row) × (j ≡ s) × (word z r'.world (name.Pend q j) ≡ pend_word pend.Idle)
-stamped_stays z r r' s choice l Announce l' h i q j c n b o e = inl (kept_at (word z r.world) (word z r'.world) l.row s q j _ (λ y. not_exchanged _ _ _ _ h.changed.same (λ u. not_idle c n (sym y ∙ u)) ∙ y) (λ d. linked_entry Announce h i.shape q j b o (λ x u k. d u k) (λ x u k. x) (λ x u. x)) e)
-stamped_stays z r r' s choice l Stamp l' h i q j c n b o e = inl (kept_at (word z r.world) (word z r'.world) l.row s q j _ (λ y. not_exchanged _ _ _ _ h.changed.same (λ u. not_pending c n l.cell (sym y ∙ u)) ∙ y) (λ d. linked_entry Stamp h i.shape q j b o (λ x u k. d u k) (λ x u k. x) (λ x u. x)) e)
-stamped_stays z r r' s choice l LookHelp l' h i q j c n b o e = inl (kept_at (word z r.world) (word z r'.world) l.row l.looked q j _ (λ y. not_exchanged _ _ _ _ h.changed.same (λ u. not_pending c n l.met (sym y ∙ u)) ∙ y) (λ d. linked_entry LookHelp h i.shape q j b o (λ x u k. x) (λ x u k. d u k) (λ x u. x)) e)
-stamped_stays z r r' s choice l (Freeze m) l' h i q j c n b o e = inl (kept_at (word z r.world) (word z r'.world) l.row m q j _ (λ y. entry_left m h (λ u. not_unsettled l.rebalance.entry c n unsettled (sym y ∙ u)) ∙ y) (λ d. linked_entry (Freeze m) h i.shape q j b o (λ x u k. x) (λ x u k. x) (λ x u. d u x)) e)
+    (word z r'.world (name.Pend q j) ≡ pend_word (pend.Stamped c n)) ⊎ (a ≡ Activity.Put Put.Clear) × (q ≡ l.row) × (j ≡ s) × (word z r'.world (name.Pend q j) ≡ pend_word pend.Idle)
+stamped_stays z r r' s choice l (Activity.Put Put.Announce) l' h i q j c n b o e = inl (kept_at (word z r.world) (word z r'.world) l.row s q j _ (λ y. not_exchanged _ _ _ _ h.changed.same (λ u. not_idle c n (sym y ∙ u)) ∙ y) (λ d. linked_entry (Activity.Put Put.Announce) h i.shape q j b o (λ x u k. d u k) (λ x u k. x) (λ x u. x)) e)
+stamped_stays z r r' s choice l (Activity.Put Put.Stamp) l' h i q j c n b o e = inl (kept_at (word z r.world) (word z r'.world) l.row s q j _ (λ y. not_exchanged _ _ _ _ h.changed.same (λ u. not_pending c n l.cell (sym y ∙ u)) ∙ y) (λ d. linked_entry (Activity.Put Put.Stamp) h i.shape q j b o (λ x u k. d u k) (λ x u k. x) (λ x u. x)) e)
+stamped_stays z r r' s choice l (Activity.Look Look.Help) l' h i q j c n b o e = inl (kept_at (word z r.world) (word z r'.world) l.row l.looked q j _ (λ y. not_exchanged _ _ _ _ h.changed.same (λ u. not_pending c n l.met (sym y ∙ u)) ∙ y) (λ d. linked_entry (Activity.Look Look.Help) h i.shape q j b o (λ x u k. x) (λ x u k. d u k) (λ x u. x)) e)
+stamped_stays z r r' s choice l (Activity.Rebalance (Rebalance.Freeze (Freeze.Entry m))) l' h i q j c n b o e = inl (kept_at (word z r.world) (word z r'.world) l.row m q j _ (λ y. entry_left m h (λ u. not_unsettled l.rebalance.entry c n unsettled (sym y ∙ u)) ∙ y) (λ d. linked_entry (Activity.Rebalance (Rebalance.Freeze (Freeze.Entry m))) h i.shape q j b o (λ x u k. x) (λ x u k. x) (λ x u. d u x)) e)
   where
     unsettled : IsUnsettled l.rebalance.entry
     unsettled = subst (λ x. IsToFreeze x l) h.activity (i.puts.tries s l h.knows)
-stamped_stays z r r' s choice l PutClear l' h i q j c n b o e = which (cases_eq q l.row) (cases_eq j s)
+stamped_stays z r r' s choice l (Activity.Put Put.Clear) l' h i q j c n b o e = which (cases_eq q l.row) (cases_eq j s)
   where
-    which : (q ≡ l.row) ⊎ (q ≡ l.row → ⊥) → (j ≡ s) ⊎ (j ≡ s → ⊥) → (word z r'.world (name.Pend q j) ≡ pend_word (pend.Stamped c n)) ⊎ (PutClear ≡ PutClear) × (q ≡ l.row) × (j ≡ s) × (word z r'.world (name.Pend q j) ≡ pend_word pend.Idle)
+    which : (q ≡ l.row) ⊎ (q ≡ l.row → ⊥) → (j ≡ s) ⊎ (j ≡ s → ⊥) → (word z r'.world (name.Pend q j) ≡ pend_word (pend.Stamped c n)) ⊎ ((Activity.Put Put.Clear) ≡ Activity.Put Put.Clear) × (q ≡ l.row) × (j ≡ s) × (word z r'.world (name.Pend q j) ≡ pend_word pend.Idle)
     which (inl f) (inl g) = inr (refl, f, g, rw (f, g) h.changed.same)
-    which (inl f) (inr d) = inl (linked_entry PutClear h i.shape q j b o (λ x u k. d k) (λ x u k. x) (λ x u. x) ∙ e)
-    which (inr d) g = inl (linked_entry PutClear h i.shape q j b o (λ x u k. d u) (λ x u k. x) (λ x u. x) ∙ e)
+    which (inl f) (inr d) = inl (linked_entry (Activity.Put Put.Clear) h i.shape q j b o (λ x u k. d k) (λ x u k. x) (λ x u. x) ∙ e)
+    which (inr d) g = inl (linked_entry (Activity.Put Put.Clear) h i.shape q j b o (λ x u k. d u) (λ x u k. x) (λ x u. x) ∙ e)
 stamped_stays z r r' s choice l a l' h i q j c n b o e = inl (linked_entry a h i.shape q j b o (λ x u k. x) (λ x u k. x) (λ x u. x) ∙ e)
 
 -- A settled entry.
 
 -- a seat that has a cell which is not announced had it before its event, or was given it
-fresh_from : (z : Sizes) (v : Words) (s : ℕ) (choice : Choice) (l : Local) (a : Activity) (l' : Local) → Arrow z v s choice l a l' → IsFresh l'.activity → (l'.row ≡ l.row) × (IsFresh a ⊎ (a ≡ PutAdd) × (has_room z (count_of (v (name.Count l.row))) ≡ true))
+fresh_from : (z : Sizes) (v : Words) (s : ℕ) (choice : Choice) (l : Local) (a : Activity) (l' : Local) → Arrow z v s choice l a l' → IsFresh l'.activity → (l'.row ≡ l.row) × (IsFresh a ⊎ (a ≡ Activity.Put Put.Add) × (has_room z (count_of (v (name.Count l.row))) ≡ true))
 fresh_from z v s choice l a l' (builds b next y t) p = built_puts next.activity (built_next z v choice l b next t) (fresh_puts next.activity p)
 fresh_from z v s choice l a l' (takes_cell m) p = (refl, inr (refl, m))
 fresh_from z v s choice l a l' stores_key p = (refl, inl tt)
@@ -111,38 +117,20 @@ fresh_from z v s choice l a l' _ p = absurd p
 -- A seat that has frozen its row.
 
 frozen_balances : (a : Activity) → HasFrozen a → IsBalancing a
-frozen_balances (FreezeLook i) x = tt
-frozen_balances (Freeze i) x = tt
-frozen_balances (ScanLook i) x = tt
-frozen_balances (HelpDraw i) x = tt
-frozen_balances (HelpSettle i) x = tt
-frozen_balances TakeFrom x = tt
-frozen_balances TakeKey x = tt
-frozen_balances TakeVersion x = tt
-frozen_balances TakeValue x = tt
-frozen_balances TakeRestKey x = tt
-frozen_balances TakeRestValue x = tt
-frozen_balances SeekFirst x = tt
-frozen_balances Seek x = tt
-frozen_balances (SeekPass i) x = tt
-frozen_balances Reclaim x = tt
-frozen_balances TakeRow x = tt
-frozen_balances GiveBack x = tt
-frozen_balances WriteCount x = tt
-frozen_balances WriteMin x = tt
-frozen_balances WriteNext x = tt
-frozen_balances WriteFirst x = tt
-frozen_balances (WritePend i) x = tt
-frozen_balances (WriteKey j) x = tt
-frozen_balances (WriteValue j) x = tt
-frozen_balances (WriteVersion j) x = tt
-frozen_balances (WriteAfter j) x = tt
-frozen_balances Before x = tt
-frozen_balances BeforeGuess x = tt
-frozen_balances BeforeHead x = tt
-frozen_balances BeforeLink x = tt
-frozen_balances BeforeMin x = tt
-frozen_balances Replace x = tt
+frozen_balances (Activity.Rebalance (Rebalance.Freeze (Freeze.Look i))) x = tt
+frozen_balances (Activity.Rebalance (Rebalance.Freeze (Freeze.Entry i))) x = tt
+frozen_balances (Activity.Rebalance (Rebalance.Freeze (Freeze.Scan i))) x = tt
+frozen_balances (Activity.Rebalance (Rebalance.Freeze (Freeze.Draw i))) x = tt
+frozen_balances (Activity.Rebalance (Rebalance.Freeze (Freeze.Settle i))) x = tt
+frozen_balances (Activity.Rebalance (Rebalance.Gather _)) x = tt
+frozen_balances (Activity.Rebalance (Rebalance.Seek _)) x = tt
+frozen_balances (Activity.Rebalance (Rebalance.Write _)) x = tt
+frozen_balances (Activity.Rebalance (Rebalance.Replace Replace.Start)) x = tt
+frozen_balances (Activity.Rebalance (Rebalance.Replace Replace.GuessedLeast)) x = tt
+frozen_balances (Activity.Rebalance (Rebalance.Replace Replace.First)) x = tt
+frozen_balances (Activity.Rebalance (Rebalance.Replace Replace.Next)) x = tt
+frozen_balances (Activity.Rebalance (Rebalance.Replace Replace.NextLeast)) x = tt
+frozen_balances (Activity.Rebalance (Rebalance.Replace Replace.Exchange)) x = tt
 frozen_balances _ x = absurd x
 
 -- its row is or was linked
@@ -151,20 +139,16 @@ frozen_linked z r i t k g x = full_linked z r i t k g (frozen_balances k.activit
 
 -- where it goes on to build new rows, it builds them
 pub frozen_builds : (a : Activity) → IsAfterBuilding a → HasFrozen a → IsBuilding a
-frozen_builds (FreezeLook i) n x = absurd n
-frozen_builds (Freeze i) n x = absurd n
-frozen_builds (ScanLook i) n x = absurd n
-frozen_builds (HelpDraw i) n x = absurd n
-frozen_builds (HelpSettle i) n x = absurd n
-frozen_builds TakeFrom n x = absurd n
-frozen_builds TakeKey n x = absurd n
-frozen_builds TakeVersion n x = absurd n
-frozen_builds TakeValue n x = absurd n
-frozen_builds TakeRestKey n x = absurd n
-frozen_builds TakeRestValue n x = absurd n
-frozen_builds Again n x = absurd x
-frozen_builds BalClock n x = absurd x
-frozen_builds (Leave answer) n x = absurd x
+frozen_builds (Activity.Rebalance (Rebalance.Freeze (Freeze.Look i))) n x = absurd n
+frozen_builds (Activity.Rebalance (Rebalance.Freeze (Freeze.Entry i))) n x = absurd n
+frozen_builds (Activity.Rebalance (Rebalance.Freeze (Freeze.Scan i))) n x = absurd n
+frozen_builds (Activity.Rebalance (Rebalance.Freeze (Freeze.Draw i))) n x = absurd n
+frozen_builds (Activity.Rebalance (Rebalance.Freeze (Freeze.Settle i))) n x = absurd n
+frozen_builds (Activity.Rebalance (Rebalance.Gather _)) n x = absurd n
+frozen_builds Activity.Retry n x = absurd x
+frozen_builds (Activity.Rebalance (Rebalance.Engage Engage.Clock)) n x = absurd x
+frozen_builds (Activity.Leave answer) n x = absurd x
+frozen_builds (Activity.Rebalance (Rebalance.Replace Replace.First)) n x = n
 frozen_builds _ n x = n
 
 -- where it has not replaced its row after an event, it had not before
@@ -178,8 +162,8 @@ built_frozen z v choice l a k _ x = tt
 
 -- and it has passed all entries
 pub all_passed : (z : Sizes) (a : Activity) → IsBuilding a → frozen_by z a ≡ z.seats
-all_passed z (FreezeLook i) b = absurd b
-all_passed z (Freeze i) b = absurd b
+all_passed z (Activity.Rebalance (Rebalance.Freeze (Freeze.Look i))) b = absurd b
+all_passed z (Activity.Rebalance (Rebalance.Freeze (Freeze.Entry i))) b = absurd b
 all_passed z _ b = refl
 
 -- a frozen row gives no cell
@@ -198,7 +182,7 @@ module _ (z : Sizes) (r r' : Run) (s : ℕ) (choice : Choice) (l : Local) (a : A
           row : l'.row ≡ q
           row = subst (λ (b : Local). b.row ≡ q) y e
 
-          by : (l'.row ≡ l.row) × (IsFresh a ⊎ (a ≡ PutAdd) × (has_room z (count_of (word z r.world (name.Count l.row))) ≡ true)) → ⊥
+          by : (l'.row ≡ l.row) × (IsFresh a ⊎ (a ≡ Activity.Put Put.Add) × (has_room z (count_of (word z r.world (name.Count l.row))) ≡ true)) → ⊥
           by (u, inl w) = n l (rw x h.knows) (subst IsFresh (sym h.activity) w) (sym u ∙ row)
           by (u, inr w) = true_false w.1 (frozen_no_room z _ (subst (IsFrozen (word z r.world)) (sym row ∙ u) f))
 
@@ -212,17 +196,17 @@ module _ (z : Sizes) (r r' : Run) (s : ℕ) (choice : Choice) (l : Local) (a : A
   settled_stays q j b o f (settled_stamped c n e) = which (stamped_stays z r r' s choice l a l' h i q j c n b o e)
     where
       -- the seat that clears its entry has no other cell
-      cleared : a ≡ PutClear → j ≡ s → (k : Local) → slice_get r.world.locals j ≡ Some k → IsFresh k.activity → k.row ≡ q → ⊥
+      cleared : a ≡ Activity.Put Put.Clear → j ≡ s → (k : Local) → slice_get r.world.locals j ≡ Some k → IsFresh k.activity → k.row ≡ q → ⊥
       cleared x y k g p w =
           let is : k ≡ l = same_Some k l (sym g ∙ rw y h.knows) in
           subst IsFresh (h.activity ∙ x) (subst (λ (u : Local). IsFresh u.activity) is p)
 
-      which : (word z r'.world (name.Pend q j) ≡ pend_word (pend.Stamped c n)) ⊎ (a ≡ PutClear) × (q ≡ l.row) × (j ≡ s) × (word z r'.world (name.Pend q j) ≡ pend_word pend.Idle) → IsSettled (word z r'.world) (slice_get r'.world.locals) q j
+      which : (word z r'.world (name.Pend q j) ≡ pend_word (pend.Stamped c n)) ⊎ (a ≡ Activity.Put Put.Clear) × (q ≡ l.row) × (j ≡ s) × (word z r'.world (name.Pend q j) ≡ pend_word pend.Idle) → IsSettled (word z r'.world) (slice_get r'.world.locals) q j
       which (inl x) = settled_stamped c n x
       which (inr x) = settled_idle x.3 (none_fresh q j f (cleared x.0 x.2))
   settled_stays q j b o f (settled_idle e n) = which (idle_stays z r r' s choice l a l' h i q j (was_below z r i.shape q b) o announces e)
     where
-      announces : a ≡ Announce → q ≡ l.row → j ≡ s → ⊥
+      announces : a ≡ Activity.Put Put.Announce → q ≡ l.row → j ≡ s → ⊥
       announces x y u = n l (rw u h.knows) (subst IsFresh (sym (h.activity ∙ x)) tt) (sym y)
 
       which : (word z r'.world (name.Pend q j) ≡ pend_word pend.Idle) ⊎ (word z r'.world (name.Pend q j) ≡ pend_word pend.Frozen) → IsSettled (word z r'.world) (slice_get r'.world.locals) q j
@@ -288,7 +272,7 @@ rest_freezes l n (ends_scan o e f) p = p
 rest_freezes l n (scans_on q o e f g) p = p
 
 -- a count that is frozen now
-frozen_now : (z : Sizes) (r r' : Run) (s : ℕ) (choice : Choice) (l l' : Local) → Happens z r r' s choice l l' FreezeCount → Below z r → IsFrozen (word z r'.world) l.row
+frozen_now : (z : Sizes) (r r' : Run) (s : ℕ) (choice : Choice) (l l' : Local) → Happens z r r' s choice l l' (Activity.Rebalance (Rebalance.Freeze Freeze.Count)) → Below z r → IsFrozen (word z r'.world) l.row
 frozen_now z r r' s choice l l' h i = by _ refl (i.shape.sane.each (name.Count l.row) (i.shape.sane.locals s l h.knows).below.row)
   where
     by : (x : Option Counted) → count_of (word z r.world (name.Count l.row)) ≡ x → IsGiven x → IsFrozen (word z r'.world) l.row
@@ -297,8 +281,8 @@ frozen_now z r r' s choice l l' h i = by _ refl (i.shape.sane.each (name.Count l
 
 -- an entry that a seat looks at, and that reads neither idle nor pending, is settled after the
 -- event
-looked_settled : (z : Sizes) (r r' : Run) (s : ℕ) (choice : Choice) (l l' : Local) (m : ℕ) → Happens z r r' s choice l l' (FreezeLook m) → Below z r → m < z.seats → IsSettled (word z r.world) (slice_get r.world.locals) l.row m → IsSettled (word z r'.world) (slice_get r'.world.locals) l.row m
-looked_settled z r r' s choice l l' m h i o x = settled_stays z r r' s choice l (FreezeLook m) l' h i l.row m (its_row z r r' s choice l (FreezeLook m) l' h i tt) o (was_frozen z r r' s choice l (FreezeLook m) l' h i tt) x
+looked_settled : (z : Sizes) (r r' : Run) (s : ℕ) (choice : Choice) (l l' : Local) (m : ℕ) → Happens z r r' s choice l l' (Activity.Rebalance (Rebalance.Freeze (Freeze.Look m))) → Below z r → m < z.seats → IsSettled (word z r.world) (slice_get r.world.locals) l.row m → IsSettled (word z r'.world) (slice_get r'.world.locals) l.row m
+looked_settled z r r' s choice l l' m h i o x = settled_stays z r r' s choice l (Activity.Rebalance (Rebalance.Freeze (Freeze.Look m))) l' h i l.row m (its_row z r r' s choice l (Activity.Rebalance (Rebalance.Freeze (Freeze.Look m))) l' h i tt) o (was_frozen z r r' s choice l (Activity.Rebalance (Rebalance.Freeze (Freeze.Look m))) l' h i tt) x
 
 met_frozen : (z : Sizes) (r : Run) (s : ℕ) (l : Local) (m : ℕ) → Below z r → slice_get r.world.locals s ≡ Some l → m < z.seats → (pend_of (word z r.world (name.Pend l.row m)) ≡ Some pend.Frozen) ⊎ (pend_of (word z r.world (name.Pend l.row m)) ≡ None) → IsSettled (word z r.world) (slice_get r.world.locals) l.row m
 met_frozen z r s l m i k o (inl e) = settled_frozen (sym (pend_word_of _ _ e))
@@ -314,36 +298,36 @@ freezes_own z r r' s choice l a l' (builds b next y t) h i = record { count = λ
         let keeps = built_keeps z (word z r.world) choice l b next t (frozen_builds next.activity (built_next z (word z r.world) choice l b next t) x) in
         goes_on z r r' s choice l b next h i p next.activity next keeps.row (λ j u w. passed z r r' s choice l b next h i p j u (omega (arith, u, all_passed z b y)))
 freezes_own z r r' s choice l a l' freezes_count h i = record { count = λ x. frozen_now z r r' s choice l l' h i; settled = λ x j o w. absurd (omega (arith, w)) }
-freezes_own z r r' s choice l a l' (meets_idle m e) h i = goes_on z r r' s choice l (FreezeLook m) l' h i tt _ l' refl (λ j o w. passed z r r' s choice l (FreezeLook m) l' h i tt j o w)
-freezes_own z r r' s choice l a l' (meets_unstamped m c e) h i = goes_on z r r' s choice l (FreezeLook m) l' h i tt _ l' refl (λ j o w. passed z r r' s choice l (FreezeLook m) l' h i tt j o w)
-freezes_own z r r' s choice l a l' (remembers m c version e u) h i = goes_on z r r' s choice l (FreezeLook m) l' h i tt _ l' refl (one_more z r r' s choice l (FreezeLook m) l' h i tt m (m + 1) (omega arith) (looked_settled z r r' s choice l l' m h i (subst (IsActivity z) h.activity (i.shape.sane.locals s l h.knows).ranges.activity) (settled_stamped c version (sym (pend_word_of _ _ e)))) (omega arith))
-freezes_own z r r' s choice l a l' (remembers_last m c version e u) h i = goes_on z r r' s choice l (FreezeLook m) l' h i tt _ l' refl (one_more z r r' s choice l (FreezeLook m) l' h i tt m z.seats (omega arith) (looked_settled z r r' s choice l l' m h i (subst (IsActivity z) h.activity (i.shape.sane.locals s l h.knows).ranges.activity) (settled_stamped c version (sym (pend_word_of _ _ e)))) (u))
-freezes_own z r r' s choice l a l' (meets_frozen m e u) h i = goes_on z r r' s choice l (FreezeLook m) l' h i tt _ l' refl (one_more z r r' s choice l (FreezeLook m) l' h i tt m (m + 1) (omega arith) (looked_settled z r r' s choice l l' m h i (subst (IsActivity z) h.activity (i.shape.sane.locals s l h.knows).ranges.activity) (met_frozen z r s l m i h.knows (subst (IsActivity z) h.activity (i.shape.sane.locals s l h.knows).ranges.activity) e)) (omega arith))
-freezes_own z r r' s choice l a l' (meets_frozen_last m e u) h i = goes_on z r r' s choice l (FreezeLook m) l' h i tt _ l' refl (one_more z r r' s choice l (FreezeLook m) l' h i tt m z.seats (omega arith) (looked_settled z r r' s choice l l' m h i (subst (IsActivity z) h.activity (i.shape.sane.locals s l h.knows).ranges.activity) (met_frozen z r s l m i h.knows (subst (IsActivity z) h.activity (i.shape.sane.locals s l h.knows).ranges.activity) e)) (u))
-freezes_own z r r' s choice l a l' (freezes_entry m e u) h i = goes_on z r r' s choice l (Freeze m) l' h i tt _ l' refl (one_more z r r' s choice l (Freeze m) l' h i tt m (m + 1) (omega arith) (settled_frozen (entry_frozen m h e)) (omega arith))
-freezes_own z r r' s choice l a l' (freezes_last m e u) h i = goes_on z r r' s choice l (Freeze m) l' h i tt _ l' refl (one_more z r r' s choice l (Freeze m) l' h i tt m z.seats (omega arith) (settled_frozen (entry_frozen m h e)) (u))
-freezes_own z r r' s choice l a l' (looks_again m e) h i = goes_on z r r' s choice l (Freeze m) l' h i tt _ l' refl (λ j o w. passed z r r' s choice l (Freeze m) l' h i tt j o w)
-freezes_own z r r' s choice l a l' (meets_quiet m e u) h i = goes_on z r r' s choice l (ScanLook m) l' h i tt _ l' refl (λ j o w. passed z r r' s choice l (ScanLook m) l' h i tt j o w)
-freezes_own z r r' s choice l a l' (meets_quiet_last m e u) h i = goes_on z r r' s choice l (ScanLook m) l' h i tt _ l' refl (λ j o w. passed z r r' s choice l (ScanLook m) l' h i tt j o w)
-freezes_own z r r' s choice l a l' (helps_scan m clock e) h i = goes_on z r r' s choice l (ScanLook m) l' h i tt _ l' refl (λ j o w. passed z r r' s choice l (ScanLook m) l' h i tt j o w)
-freezes_own z r r' s choice l a l' (meets_drawn m version e u) h i = goes_on z r r' s choice l (ScanLook m) l' h i tt _ l' refl (λ j o w. passed z r r' s choice l (ScanLook m) l' h i tt j o w)
-freezes_own z r r' s choice l a l' (meets_drawn_last m version e u) h i = goes_on z r r' s choice l (ScanLook m) l' h i tt _ l' refl (λ j o w. passed z r r' s choice l (ScanLook m) l' h i tt j o w)
-freezes_own z r r' s choice l a l' (draws_for m) h i = goes_on z r r' s choice l (HelpDraw m) l' h i tt _ l' refl (λ j o w. passed z r r' s choice l (HelpDraw m) l' h i tt j o w)
-freezes_own z r r' s choice l a l' (settles_scan m e u) h i = goes_on z r r' s choice l (HelpSettle m) l' h i tt _ l' refl (λ j o w. passed z r r' s choice l (HelpSettle m) l' h i tt j o w)
-freezes_own z r r' s choice l a l' (settles_last m e u) h i = goes_on z r r' s choice l (HelpSettle m) l' h i tt _ l' refl (λ j o w. passed z r r' s choice l (HelpSettle m) l' h i tt j o w)
-freezes_own z r r' s choice l a l' (finds_drawn m version e u) h i = goes_on z r r' s choice l (HelpSettle m) l' h i tt _ l' refl (λ j o w. passed z r r' s choice l (HelpSettle m) l' h i tt j o w)
-freezes_own z r r' s choice l a l' (finds_drawn_last m version e u) h i = goes_on z r r' s choice l (HelpSettle m) l' h i tt _ l' refl (λ j o w. passed z r r' s choice l (HelpSettle m) l' h i tt j o w)
-freezes_own z r r' s choice l a l' (finds_no_scan m e u) h i = goes_on z r r' s choice l (HelpSettle m) l' h i tt _ l' refl (λ j o w. passed z r r' s choice l (HelpSettle m) l' h i tt j o w)
-freezes_own z r r' s choice l a l' (finds_no_scan_last m e u) h i = goes_on z r r' s choice l (HelpSettle m) l' h i tt _ l' refl (λ j o w. passed z r r' s choice l (HelpSettle m) l' h i tt j o w)
-freezes_own z r r' s choice l a l' (take_leads c e) h i = goes_on z r r' s choice l TakeFrom l' h i tt _ l' refl (λ j o w. passed z r r' s choice l TakeFrom l' h i tt j o w)
-freezes_own z r r' s choice l a l' (takes_left m e u) h i = goes_on z r r' s choice l TakeFrom l' h i tt _ l' refl (λ j o w. passed z r r' s choice l TakeFrom l' h i tt j o w)
-freezes_own z r r' s choice l a l' (takes_no_more e u) h i = goes_on z r r' s choice l TakeFrom l' h i tt _ l' refl (λ j o w. passed z r r' s choice l TakeFrom l' h i tt j o w)
-freezes_own z r r' s choice l a l' takes_key h i = goes_on z r r' s choice l TakeKey l' h i tt _ l' refl (λ j o w. passed z r r' s choice l TakeKey l' h i tt j o w)
-freezes_own z r r' s choice l a l' takes_version h i = goes_on z r r' s choice l TakeVersion l' h i tt _ l' refl (λ j o w. passed z r r' s choice l TakeVersion l' h i tt j o w)
-freezes_own z r r' s choice l a l' keeps_taken h i = goes_on z r r' s choice l TakeValue l' h i tt _ l' refl (λ j o w. passed z r r' s choice l TakeValue l' h i tt j o w)
-freezes_own z r r' s choice l a l' takes_left_key h i = goes_on z r r' s choice l TakeRestKey l' h i tt _ l' refl (λ j o w. passed z r r' s choice l TakeRestKey l' h i tt j o w)
-freezes_own z r r' s choice l a l' (keeps_left m e) h i = goes_on z r r' s choice l TakeRestValue l' h i tt _ l' refl (λ j o w. passed z r r' s choice l TakeRestValue l' h i tt j o w)
-freezes_own z r r' s choice l a l' (keeps_no_more e) h i = goes_on z r r' s choice l TakeRestValue l' h i tt _ l' refl (λ j o w. passed z r r' s choice l TakeRestValue l' h i tt j o w)
+freezes_own z r r' s choice l a l' (meets_idle m e) h i = goes_on z r r' s choice l (Activity.Rebalance (Rebalance.Freeze (Freeze.Look m))) l' h i tt _ l' refl (λ j o w. passed z r r' s choice l (Activity.Rebalance (Rebalance.Freeze (Freeze.Look m))) l' h i tt j o w)
+freezes_own z r r' s choice l a l' (meets_unstamped m c e) h i = goes_on z r r' s choice l (Activity.Rebalance (Rebalance.Freeze (Freeze.Look m))) l' h i tt _ l' refl (λ j o w. passed z r r' s choice l (Activity.Rebalance (Rebalance.Freeze (Freeze.Look m))) l' h i tt j o w)
+freezes_own z r r' s choice l a l' (remembers m c version e u) h i = goes_on z r r' s choice l (Activity.Rebalance (Rebalance.Freeze (Freeze.Look m))) l' h i tt _ l' refl (one_more z r r' s choice l (Activity.Rebalance (Rebalance.Freeze (Freeze.Look m))) l' h i tt m (m + 1) (omega arith) (looked_settled z r r' s choice l l' m h i (subst (IsActivity z) h.activity (i.shape.sane.locals s l h.knows).ranges.activity) (settled_stamped c version (sym (pend_word_of _ _ e)))) (omega arith))
+freezes_own z r r' s choice l a l' (remembers_last m c version e u) h i = goes_on z r r' s choice l (Activity.Rebalance (Rebalance.Freeze (Freeze.Look m))) l' h i tt _ l' refl (one_more z r r' s choice l (Activity.Rebalance (Rebalance.Freeze (Freeze.Look m))) l' h i tt m z.seats (omega arith) (looked_settled z r r' s choice l l' m h i (subst (IsActivity z) h.activity (i.shape.sane.locals s l h.knows).ranges.activity) (settled_stamped c version (sym (pend_word_of _ _ e)))) (u))
+freezes_own z r r' s choice l a l' (meets_frozen m e u) h i = goes_on z r r' s choice l (Activity.Rebalance (Rebalance.Freeze (Freeze.Look m))) l' h i tt _ l' refl (one_more z r r' s choice l (Activity.Rebalance (Rebalance.Freeze (Freeze.Look m))) l' h i tt m (m + 1) (omega arith) (looked_settled z r r' s choice l l' m h i (subst (IsActivity z) h.activity (i.shape.sane.locals s l h.knows).ranges.activity) (met_frozen z r s l m i h.knows (subst (IsActivity z) h.activity (i.shape.sane.locals s l h.knows).ranges.activity) e)) (omega arith))
+freezes_own z r r' s choice l a l' (meets_frozen_last m e u) h i = goes_on z r r' s choice l (Activity.Rebalance (Rebalance.Freeze (Freeze.Look m))) l' h i tt _ l' refl (one_more z r r' s choice l (Activity.Rebalance (Rebalance.Freeze (Freeze.Look m))) l' h i tt m z.seats (omega arith) (looked_settled z r r' s choice l l' m h i (subst (IsActivity z) h.activity (i.shape.sane.locals s l h.knows).ranges.activity) (met_frozen z r s l m i h.knows (subst (IsActivity z) h.activity (i.shape.sane.locals s l h.knows).ranges.activity) e)) (u))
+freezes_own z r r' s choice l a l' (freezes_entry m e u) h i = goes_on z r r' s choice l (Activity.Rebalance (Rebalance.Freeze (Freeze.Entry m))) l' h i tt _ l' refl (one_more z r r' s choice l (Activity.Rebalance (Rebalance.Freeze (Freeze.Entry m))) l' h i tt m (m + 1) (omega arith) (settled_frozen (entry_frozen m h e)) (omega arith))
+freezes_own z r r' s choice l a l' (freezes_last m e u) h i = goes_on z r r' s choice l (Activity.Rebalance (Rebalance.Freeze (Freeze.Entry m))) l' h i tt _ l' refl (one_more z r r' s choice l (Activity.Rebalance (Rebalance.Freeze (Freeze.Entry m))) l' h i tt m z.seats (omega arith) (settled_frozen (entry_frozen m h e)) (u))
+freezes_own z r r' s choice l a l' (looks_again m e) h i = goes_on z r r' s choice l (Activity.Rebalance (Rebalance.Freeze (Freeze.Entry m))) l' h i tt _ l' refl (λ j o w. passed z r r' s choice l (Activity.Rebalance (Rebalance.Freeze (Freeze.Entry m))) l' h i tt j o w)
+freezes_own z r r' s choice l a l' (meets_quiet m e u) h i = goes_on z r r' s choice l (Activity.Rebalance (Rebalance.Freeze (Freeze.Scan m))) l' h i tt _ l' refl (λ j o w. passed z r r' s choice l (Activity.Rebalance (Rebalance.Freeze (Freeze.Scan m))) l' h i tt j o w)
+freezes_own z r r' s choice l a l' (meets_quiet_last m e u) h i = goes_on z r r' s choice l (Activity.Rebalance (Rebalance.Freeze (Freeze.Scan m))) l' h i tt _ l' refl (λ j o w. passed z r r' s choice l (Activity.Rebalance (Rebalance.Freeze (Freeze.Scan m))) l' h i tt j o w)
+freezes_own z r r' s choice l a l' (helps_scan m clock e) h i = goes_on z r r' s choice l (Activity.Rebalance (Rebalance.Freeze (Freeze.Scan m))) l' h i tt _ l' refl (λ j o w. passed z r r' s choice l (Activity.Rebalance (Rebalance.Freeze (Freeze.Scan m))) l' h i tt j o w)
+freezes_own z r r' s choice l a l' (meets_drawn m version e u) h i = goes_on z r r' s choice l (Activity.Rebalance (Rebalance.Freeze (Freeze.Scan m))) l' h i tt _ l' refl (λ j o w. passed z r r' s choice l (Activity.Rebalance (Rebalance.Freeze (Freeze.Scan m))) l' h i tt j o w)
+freezes_own z r r' s choice l a l' (meets_drawn_last m version e u) h i = goes_on z r r' s choice l (Activity.Rebalance (Rebalance.Freeze (Freeze.Scan m))) l' h i tt _ l' refl (λ j o w. passed z r r' s choice l (Activity.Rebalance (Rebalance.Freeze (Freeze.Scan m))) l' h i tt j o w)
+freezes_own z r r' s choice l a l' (draws_for m) h i = goes_on z r r' s choice l (Activity.Rebalance (Rebalance.Freeze (Freeze.Draw m))) l' h i tt _ l' refl (λ j o w. passed z r r' s choice l (Activity.Rebalance (Rebalance.Freeze (Freeze.Draw m))) l' h i tt j o w)
+freezes_own z r r' s choice l a l' (settles_scan m e u) h i = goes_on z r r' s choice l (Activity.Rebalance (Rebalance.Freeze (Freeze.Settle m))) l' h i tt _ l' refl (λ j o w. passed z r r' s choice l (Activity.Rebalance (Rebalance.Freeze (Freeze.Settle m))) l' h i tt j o w)
+freezes_own z r r' s choice l a l' (settles_last m e u) h i = goes_on z r r' s choice l (Activity.Rebalance (Rebalance.Freeze (Freeze.Settle m))) l' h i tt _ l' refl (λ j o w. passed z r r' s choice l (Activity.Rebalance (Rebalance.Freeze (Freeze.Settle m))) l' h i tt j o w)
+freezes_own z r r' s choice l a l' (finds_drawn m version e u) h i = goes_on z r r' s choice l (Activity.Rebalance (Rebalance.Freeze (Freeze.Settle m))) l' h i tt _ l' refl (λ j o w. passed z r r' s choice l (Activity.Rebalance (Rebalance.Freeze (Freeze.Settle m))) l' h i tt j o w)
+freezes_own z r r' s choice l a l' (finds_drawn_last m version e u) h i = goes_on z r r' s choice l (Activity.Rebalance (Rebalance.Freeze (Freeze.Settle m))) l' h i tt _ l' refl (λ j o w. passed z r r' s choice l (Activity.Rebalance (Rebalance.Freeze (Freeze.Settle m))) l' h i tt j o w)
+freezes_own z r r' s choice l a l' (finds_no_scan m e u) h i = goes_on z r r' s choice l (Activity.Rebalance (Rebalance.Freeze (Freeze.Settle m))) l' h i tt _ l' refl (λ j o w. passed z r r' s choice l (Activity.Rebalance (Rebalance.Freeze (Freeze.Settle m))) l' h i tt j o w)
+freezes_own z r r' s choice l a l' (finds_no_scan_last m e u) h i = goes_on z r r' s choice l (Activity.Rebalance (Rebalance.Freeze (Freeze.Settle m))) l' h i tt _ l' refl (λ j o w. passed z r r' s choice l (Activity.Rebalance (Rebalance.Freeze (Freeze.Settle m))) l' h i tt j o w)
+freezes_own z r r' s choice l a l' (take_leads c e) h i = goes_on z r r' s choice l (Activity.Rebalance (Rebalance.Gather Gather.Link)) l' h i tt _ l' refl (λ j o w. passed z r r' s choice l (Activity.Rebalance (Rebalance.Gather Gather.Link)) l' h i tt j o w)
+freezes_own z r r' s choice l a l' (takes_left m e u) h i = goes_on z r r' s choice l (Activity.Rebalance (Rebalance.Gather Gather.Link)) l' h i tt _ l' refl (λ j o w. passed z r r' s choice l (Activity.Rebalance (Rebalance.Gather Gather.Link)) l' h i tt j o w)
+freezes_own z r r' s choice l a l' (takes_no_more e u) h i = goes_on z r r' s choice l (Activity.Rebalance (Rebalance.Gather Gather.Link)) l' h i tt _ l' refl (λ j o w. passed z r r' s choice l (Activity.Rebalance (Rebalance.Gather Gather.Link)) l' h i tt j o w)
+freezes_own z r r' s choice l a l' takes_key h i = goes_on z r r' s choice l (Activity.Rebalance (Rebalance.Gather Gather.Key)) l' h i tt _ l' refl (λ j o w. passed z r r' s choice l (Activity.Rebalance (Rebalance.Gather Gather.Key)) l' h i tt j o w)
+freezes_own z r r' s choice l a l' takes_version h i = goes_on z r r' s choice l (Activity.Rebalance (Rebalance.Gather Gather.Version)) l' h i tt _ l' refl (λ j o w. passed z r r' s choice l (Activity.Rebalance (Rebalance.Gather Gather.Version)) l' h i tt j o w)
+freezes_own z r r' s choice l a l' keeps_taken h i = goes_on z r r' s choice l (Activity.Rebalance (Rebalance.Gather Gather.Value)) l' h i tt _ l' refl (λ j o w. passed z r r' s choice l (Activity.Rebalance (Rebalance.Gather Gather.Value)) l' h i tt j o w)
+freezes_own z r r' s choice l a l' takes_left_key h i = goes_on z r r' s choice l (Activity.Rebalance (Rebalance.Gather Gather.LeftOverKey)) l' h i tt _ l' refl (λ j o w. passed z r r' s choice l (Activity.Rebalance (Rebalance.Gather Gather.LeftOverKey)) l' h i tt j o w)
+freezes_own z r r' s choice l a l' (keeps_left m e) h i = goes_on z r r' s choice l (Activity.Rebalance (Rebalance.Gather Gather.LeftOverValue)) l' h i tt _ l' refl (λ j o w. passed z r r' s choice l (Activity.Rebalance (Rebalance.Gather Gather.LeftOverValue)) l' h i tt j o w)
+freezes_own z r r' s choice l a l' (keeps_no_more e) h i = goes_on z r r' s choice l (Activity.Rebalance (Rebalance.Gather Gather.LeftOverValue)) l' h i tt _ l' refl (λ j o w. passed z r r' s choice l (Activity.Rebalance (Rebalance.Gather Gather.LeftOverValue)) l' h i tt j o w)
 freezes_own z r r' s choice l a l' (meets_stamped j c version next e n) h i = unfrozen z r r' s choice l _ l' h i _ l' (look_freezes z _ next n)
 freezes_own z r r' s choice l a l' (meets_neither j next e n) h i = unfrozen z r r' s choice l _ l' h i _ l' (look_freezes z _ next n)
 freezes_own z r r' s choice l a l' (is_passed next e n) h i = unfrozen z r r' s choice l _ l' h i _ l' (look_freezes z _ next n)

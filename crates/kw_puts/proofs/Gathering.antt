@@ -8,7 +8,11 @@ use Rattle.kw_lists.proofs.Leaving.{on_left}
 use Rattle.kw_lists.proofs.Same.{stands_same, behind_same}
 use Rattle.kw_lists.proofs.Walking.{passed_stays}
 use Rattle.kw_world.specs.declared.activity.Activity.{Activity}
-use Rattle.kw_world.specs.declared.activity.Activity.TheVariants.{TakeFrom, TakeKey, TakeVersion, TakeValue, TakeRestKey, TakeRestValue, SeekFirst, Seek, SeekPass, Reclaim, TakeRow, GiveBack, WriteCount, WriteMin, WriteNext, WriteFirst, WritePend, WriteKey, WriteValue, WriteVersion, WriteAfter, Before, BeforeGuess, BeforeHead, BeforeLink, BeforeMin, Replace}
+use Rattle.kw_world.specs.declared.activity.rebalance.gather.Gather.TheVariants as Gather
+use Rattle.kw_world.specs.declared.activity.rebalance.Rebalance.TheVariants as Rebalance
+use Rattle.kw_world.specs.declared.activity.rebalance.replace.Replace.TheVariants as Replace
+use Rattle.kw_world.specs.declared.activity.rebalance.seek.Seek.TheVariants as Seek
+use Rattle.kw_world.specs.declared.activity.walk.Walk.TheVariants as Walk
 use Rattle.kw_world.specs.declared.local.Local.{Local}
 use Rattle.kw_world.specs.declared.event.Choice.{Choice}
 use Rattle.kw_world.specs.Marks.{is_marked}
@@ -42,9 +46,9 @@ pub record Gathers (z : Sizes) (row : Row) (h : History) (o : Origins) (a : Acti
 
 -- a seat with a cell of the list in hand walks along the list
 listed_listing : (a : Activity) → HasTakenListed a → IsTakeListing a
-listed_listing TakeKey x = tt
-listed_listing TakeVersion x = tt
-listed_listing TakeValue x = tt
+listed_listing (Activity.Rebalance (Rebalance.Gather Gather.Key)) x = tt
+listed_listing (Activity.Rebalance (Rebalance.Gather Gather.Version)) x = tt
+listed_listing (Activity.Rebalance (Rebalance.Gather Gather.Value)) x = tt
 listed_listing _ x = absurd x
 
 module _ (n : ℕ) (row row' : Row) (h h' : History) (o o' : Origins) (l : Local) (w : LeavesCells n row row' h h' o o' l.row) where
@@ -77,12 +81,11 @@ module _ (n : ℕ) (row row' : Row) (h h' : History) (o o' : Origins) (l : Local
 
   -- a cell that is to come
   to_take_lasts : (a : Activity) (c : ℕ) → Gathering n row h o a l → IsToTake row a l c → IsToTake row' a l c
-  to_take_lasts TakeFrom c k x = (w.list.listed c x.0, behind_same row row' w.list.cell l.link c (k.on tt) (w.list.cell c x.0) x.1)
-  to_take_lasts TakeKey c k x = from_hand_lasts c (k.behind tt).0 x
-  to_take_lasts TakeVersion c k x = from_hand_lasts c (k.behind tt).0 x
-  to_take_lasts TakeValue c k x = from_hand_lasts c (k.behind tt).0 x
-  to_take_lasts TakeRestKey c k x = x
-  to_take_lasts TakeRestValue c k x = x
+  to_take_lasts (Activity.Rebalance (Rebalance.Gather Gather.Link)) c k x = (w.list.listed c x.0, behind_same row row' w.list.cell l.link c (k.on tt) (w.list.cell c x.0) x.1)
+  to_take_lasts (Activity.Rebalance (Rebalance.Gather Gather.LeftOverKey)) c k x = x
+  to_take_lasts (Activity.Rebalance (Rebalance.Gather Gather.LeftOverValue)) c k x = x
+  to_take_lasts (Activity.Rebalance (Rebalance.Gather _)) c k x = from_hand_lasts c (k.behind tt).0 x
+  to_take_lasts (Activity.Walk Walk.First) c k x = absurd x
   to_take_lasts _ c k x = absurd x
 
   -- an attempt of a cell that is stamped now was stamped
@@ -133,37 +136,20 @@ pub record HasPassedAll (z : Sizes) (a : Activity) : Type 0 where
 
 -- as one that gathers has
 gathering_passed : (z : Sizes) (a : Activity) → IsGathering a → HasPassedAll z a
-gathering_passed z TakeFrom x = record { balances = tt; frozen = tt; all = refl }
-gathering_passed z TakeKey x = record { balances = tt; frozen = tt; all = refl }
-gathering_passed z TakeVersion x = record { balances = tt; frozen = tt; all = refl }
-gathering_passed z TakeValue x = record { balances = tt; frozen = tt; all = refl }
-gathering_passed z TakeRestKey x = record { balances = tt; frozen = tt; all = refl }
-gathering_passed z TakeRestValue x = record { balances = tt; frozen = tt; all = refl }
+gathering_passed z (Activity.Rebalance (Rebalance.Gather _)) x = record { balances = tt; frozen = tt; all = refl }
 gathering_passed z _ x = absurd x
 
 -- and one that has its plan
 pub planned_passed : (z : Sizes) (a : Activity) → HasPlanned (nursing_of a) → HasPassedAll z a
-planned_passed z SeekFirst x = record { balances = tt; frozen = tt; all = refl }
-planned_passed z Seek x = record { balances = tt; frozen = tt; all = refl }
-planned_passed z (SeekPass i) x = record { balances = tt; frozen = tt; all = refl }
-planned_passed z Reclaim x = record { balances = tt; frozen = tt; all = refl }
-planned_passed z TakeRow x = record { balances = tt; frozen = tt; all = refl }
-planned_passed z GiveBack x = record { balances = tt; frozen = tt; all = refl }
-planned_passed z WriteCount x = record { balances = tt; frozen = tt; all = refl }
-planned_passed z WriteMin x = record { balances = tt; frozen = tt; all = refl }
-planned_passed z WriteNext x = record { balances = tt; frozen = tt; all = refl }
-planned_passed z WriteFirst x = record { balances = tt; frozen = tt; all = refl }
-planned_passed z (WritePend m) x = record { balances = tt; frozen = tt; all = refl }
-planned_passed z (WriteKey j) x = record { balances = tt; frozen = tt; all = refl }
-planned_passed z (WriteValue j) x = record { balances = tt; frozen = tt; all = refl }
-planned_passed z (WriteVersion j) x = record { balances = tt; frozen = tt; all = refl }
-planned_passed z (WriteAfter j) x = record { balances = tt; frozen = tt; all = refl }
-planned_passed z Before x = record { balances = tt; frozen = tt; all = refl }
-planned_passed z BeforeGuess x = record { balances = tt; frozen = tt; all = refl }
-planned_passed z BeforeHead x = record { balances = tt; frozen = tt; all = refl }
-planned_passed z BeforeLink x = record { balances = tt; frozen = tt; all = refl }
-planned_passed z BeforeMin x = record { balances = tt; frozen = tt; all = refl }
-planned_passed z Replace x = record { balances = tt; frozen = tt; all = refl }
+planned_passed z (Activity.Rebalance (Rebalance.Seek Seek.Next)) x = record { balances = tt; frozen = tt; all = refl }
+planned_passed z (Activity.Rebalance (Rebalance.Seek _)) x = record { balances = tt; frozen = tt; all = refl }
+planned_passed z (Activity.Rebalance (Rebalance.Write _)) x = record { balances = tt; frozen = tt; all = refl }
+planned_passed z (Activity.Rebalance (Rebalance.Replace Replace.Start)) x = record { balances = tt; frozen = tt; all = refl }
+planned_passed z (Activity.Rebalance (Rebalance.Replace Replace.GuessedLeast)) x = record { balances = tt; frozen = tt; all = refl }
+planned_passed z (Activity.Rebalance (Rebalance.Replace Replace.First)) x = record { balances = tt; frozen = tt; all = refl }
+planned_passed z (Activity.Rebalance (Rebalance.Replace Replace.Next)) x = record { balances = tt; frozen = tt; all = refl }
+planned_passed z (Activity.Rebalance (Rebalance.Replace Replace.NextLeast)) x = record { balances = tt; frozen = tt; all = refl }
+planned_passed z (Activity.Rebalance (Rebalance.Replace Replace.Exchange)) x = record { balances = tt; frozen = tt; all = refl }
 planned_passed z _ x = absurd x
 
 -- so both have

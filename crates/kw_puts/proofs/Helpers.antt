@@ -9,7 +9,20 @@ use Rattle.kw_words.specs.declared.scan.ScanWord.TheVariants.{Quiet, Waiting, Dr
 use Rattle.kw_words.specs.Scan.{scan_of, scan_word}
 use Rattle.kw_words.proofs.ScanWords.{scan_word_of}
 use Rattle.kw_world.specs.declared.activity.Activity.{Activity}
-use Rattle.kw_world.specs.declared.activity.Activity.TheVariants.{ScanClock, ScanWait, ScanDraw, ScanSettle, Walk, Look, LookKey, LookClock, LookHelp, ListFrom, ListKey, ListVer, ListVal, RestKey, RestVal, ClearScan, Insert, ScanLook, HelpDraw, HelpSettle, Replace}
+use Rattle.kw_world.specs.declared.activity.draw.Draw.TheVariants as Draw
+use Rattle.kw_world.specs.declared.activity.rebalance.freeze.Freeze.TheVariants as Freeze
+use Rattle.kw_world.specs.declared.activity.insert.Insert.TheVariants as Insert
+use Rattle.kw_world.specs.declared.activity.look.Look.TheVariants as Look
+use Rattle.kw_world.specs.declared.activity.read.Read.TheVariants as Read
+use Rattle.kw_world.specs.declared.activity.rebalance.Rebalance.TheVariants as Rebalance
+use Rattle.kw_world.specs.declared.activity.rebalance.replace.Replace.TheVariants as Replace
+use Rattle.kw_world.specs.declared.activity.walk.Walk.TheVariants as Walk
+use Rattle.kw_world.specs.declared.activity.rebalance.engage.Engage.TheVariants as Engage
+use Rattle.kw_world.specs.declared.activity.enter.Enter.TheVariants as Enter
+use Rattle.kw_world.specs.declared.activity.rebalance.gather.Gather.TheVariants as Gather
+use Rattle.kw_world.specs.declared.activity.put.Put.TheVariants as Put
+use Rattle.kw_world.specs.declared.activity.rebalance.seek.Seek.TheVariants as Seek
+use Rattle.kw_world.specs.declared.activity.rebalance.write.Write.TheVariants as Write
 use Rattle.kw_world.specs.declared.event.Choice.{Choice}
 use Rattle.kw_world.specs.declared.local.Local.{Local}
 use Rattle.kw_world.specs.Sizes.{Sizes}
@@ -47,8 +60,8 @@ quiet_not c e = omega (arith, e)
 -- the seat's own scan begins to wait; or it waits no more, and the clock has gone on since it
 -- waited
 pub data ScanStep (z : Sizes) (r r' : Run) (s : ℕ) (l : Local) (a : Activity) (t : ℕ) : Type 0 where
-  is_kept : word z r'.world (name.Scan t) ≡ word z r.world (name.Scan t) → (t ≡ s → a ≢ ScanWait) → ScanStep z r r' s l a t
-  begins_to_wait : t ≡ s → a ≡ ScanWait → word z r'.world (name.Scan t) ≡ scan_word (Waiting l.waiting) → ScanStep z r r' s l a t
+  is_kept : word z r'.world (name.Scan t) ≡ word z r.world (name.Scan t) → (t ≡ s → a ≢ Activity.Draw Draw.Wait) → ScanStep z r r' s l a t
+  begins_to_wait : t ≡ s → a ≡ Activity.Draw Draw.Wait → word z r'.world (name.Scan t) ≡ scan_word (Waiting l.waiting) → ScanStep z r r' s l a t
   waits_no_more : ((c : ℕ) → word z r'.world (name.Scan t) ≢ scan_word (Waiting c)) → ((c : ℕ) → word z r.world (name.Scan t) ≡ scan_word (Waiting c) → c < word z r.world name.Clock) → ScanStep z r r' s l a t
 
 -- a seat whose scan does not wait has no word that says so
@@ -63,50 +76,58 @@ not_waiting z r i t k q n c w = which (i.positions.scans t k q)
 module _ (z : Sizes) (r r' : Run) (s : ℕ) (choice : Choice) (l l' : Local) (i : Below z r) where
   -- the seat's own scan
   own_step : (a : Activity) → Happens z r r' s choice l l' a → ScanStep z r r' s l a s
-  own_step ScanWait h = begins_to_wait refl refl h.changed.same
-  own_step ScanSettle h = settles (d.waits tt)
+  own_step (Activity.Draw Draw.Wait) h = begins_to_wait refl refl h.changed.same
+  own_step (Activity.Draw Draw.Settle) h = settles (d.waits tt)
     where
-      d : Draws (word z r.world) r.history s (r.ledger.waits s) (r.settled s) ScanSettle l (r.seats s)
+      d : Draws (word z r.world) r.history s (r.ledger.waits s) (r.settled s) (Activity.Draw Draw.Settle) l (r.seats s)
       d = subst (λ b. Draws (word z r.world) r.history s (r.ledger.waits s) (r.settled s) b l (r.seats s)) h.activity (i.positions.draws s l h.knows)
 
-      settles : (word z r.world (name.Scan s) ≡ scan_word (Waiting l.waiting)) ⊎ IsHelped (word z r.world) r.history s (r.ledger.waits s) (r.settled s) → ScanStep z r r' s l ScanSettle s
+      settles : (word z r.world (name.Scan s) ≡ scan_word (Waiting l.waiting)) ⊎ IsHelped (word z r.world) r.history s (r.ledger.waits s) (r.settled s) → ScanStep z r r' s l (Activity.Draw Draw.Settle) s
       settles (inl e) =
           waits_no_more (λ c f. drawn_not c l.drawn (sym (exchanged _ _ _ _ h.changed.same e) ∙ f))
           (λ c f. let x : scan_word (Waiting l.waiting) ≡ scan_word (Waiting c) = sym e ∙ f in omega (arith, x, d.least tt, i.positions.clocked.drawn _ Draw l.drawn tt (d.settling tt)))
       settles (inr n) = is_kept (not_exchanged _ _ _ _ h.changed.same (λ e. drawn_not l.waiting n.version (sym n.word ∙ e))) (λ x y. cc)
-  own_step (ClearScan answer) h = waits_no_more (λ c f. quiet_not c (sym h.changed.same ∙ f)) (λ c f. absurd (not_waiting z r i s l h.knows (λ x. subst IsWaiting h.activity x) c f))
-  own_step Walk h = met (is_stopped choice l) refl
+  own_step (Activity.EndScan answer) h = waits_no_more (λ c f. quiet_not c (sym h.changed.same ∙ f)) (λ c f. absurd (not_waiting z r i s l h.knows (λ x. subst IsWaiting h.activity x) c f))
+  own_step (Activity.Walk Walk.Next) h = met (is_stopped choice l) refl
     where
-      met : (b : Bool) → is_stopped choice l ≡ b → ScanStep z r r' s l Walk s
+      met : (b : Bool) → is_stopped choice l ≡ b → ScanStep z r r' s l (Activity.Walk Walk.Next) s
       met true e = waits_no_more (λ c f. quiet_not c (sym (stopped_clears h e) ∙ f)) (λ c f. absurd (not_waiting z r i s l h.knows (λ x. subst IsWaiting h.activity x) c f))
       met false e = is_kept (goes_on_walk h e) (λ x y. cc)
-  own_step Insert h = is_kept (unwritten Insert h (name.Scan s) h.seat (λ e. no_link l.row l.link (name.Scan s) refl e)) (λ x y. cc)
-  own_step (HelpSettle j) h = which (cases_eq s j)
+  own_step (Activity.Insert Insert.Exchange) h = is_kept (unwritten (Activity.Insert Insert.Exchange) h (name.Scan s) h.seat (λ e. no_link l.row l.link (name.Scan s) refl e)) (λ x y. cc)
+  own_step (Activity.Rebalance (Rebalance.Freeze (Freeze.Settle j))) h = which (cases_eq s j)
     where
-      which : (s ≡ j) ⊎ (s ≡ j → ⊥) → ScanStep z r r' s l (HelpSettle j) s
+      which : (s ≡ j) ⊎ (s ≡ j → ⊥) → ScanStep z r r' s l (Activity.Rebalance (Rebalance.Freeze (Freeze.Settle j))) s
       which (inl e) =
           let other = subst (λ q. word z r.world (name.Scan q) ≢ scan_word (Waiting l.rebalance.waiting)) e (not_waiting z r i s l h.knows (λ x. subst IsWaiting h.activity x) l.rebalance.waiting) in
           is_kept (subst (λ q. word z r'.world (name.Scan q) ≡ word z r.world (name.Scan q)) (sym e) (not_exchanged _ _ _ _ h.changed.same other)) (λ x y. cc)
-      which (inr d) = is_kept (unwritten (HelpSettle j) h (name.Scan s) h.seat (λ e. d (sym (same_scan j s e)))) (λ x y. cc)
-  own_step Replace h = is_kept (unwritten Replace h (name.Scan s) h.seat (no_scan_replaced l.rebalance.before s)) (λ x y. cc)
+      which (inr d) = is_kept (unwritten (Activity.Rebalance (Rebalance.Freeze (Freeze.Settle j))) h (name.Scan s) h.seat (λ e. d (sym (same_scan j s e)))) (λ x y. cc)
+  own_step (Activity.Rebalance (Rebalance.Replace Replace.Exchange)) h = is_kept (unwritten (Activity.Rebalance (Rebalance.Replace Replace.Exchange)) h (name.Scan s) h.seat (no_scan_replaced l.rebalance.before s)) (λ x y. cc)
+  own_step (Activity.Enter Enter.Announce) h = is_kept (unwritten (Activity.Enter Enter.Announce) h (name.Scan s) h.seat (λ e. cc)) (λ x y. cc)
+  own_step (Activity.Look Look.Key) h = is_kept (unwritten (Activity.Look Look.Key) h (name.Scan s) h.seat (λ e. cc)) (λ x y. cc)
+  own_step (Activity.Put Put.Count) h = is_kept (unwritten (Activity.Put Put.Count) h (name.Scan s) h.seat (λ e. cc)) (λ x y. cc)
+  own_step (Activity.Read Read.Link) h = is_kept (unwritten (Activity.Read Read.Link) h (name.Scan s) h.seat (λ e. cc)) (λ x y. cc)
+  own_step (Activity.Rebalance (Rebalance.Engage Engage.Clock)) h = is_kept (unwritten (Activity.Rebalance (Rebalance.Engage Engage.Clock)) h (name.Scan s) h.seat (λ e. cc)) (λ x y. cc)
+  own_step (Activity.Rebalance (Rebalance.Gather Gather.Link)) h = is_kept (unwritten (Activity.Rebalance (Rebalance.Gather Gather.Link)) h (name.Scan s) h.seat (λ e. cc)) (λ x y. cc)
+  own_step (Activity.Rebalance (Rebalance.Seek Seek.Next)) h = is_kept (unwritten (Activity.Rebalance (Rebalance.Seek Seek.Next)) h (name.Scan s) h.seat (λ e. cc)) (λ x y. cc)
+  own_step (Activity.Rebalance (Rebalance.Write Write.Count)) h = is_kept (unwritten (Activity.Rebalance (Rebalance.Write Write.Count)) h (name.Scan s) h.seat (λ e. cc)) (λ x y. cc)
   own_step a h = is_kept (unwritten a h (name.Scan s) h.seat (λ e. cc)) (λ x y. cc)
 
   -- the scan of another seat
   other_step : (a : Activity) → Happens z r r' s choice l l' a → (t : ℕ) → t < z.seats → t ≢ s → ScanStep z r r' s l a t
-  other_step (HelpSettle j) h t o d = which (cases_eq t j)
+  other_step (Activity.Rebalance (Rebalance.Freeze (Freeze.Settle j))) h t o d = which (cases_eq t j)
     where
-      n : j < z.seats → Helping z r j (HelpSettle j) l (r.seats s)
+      n : j < z.seats → Helping z r j (Activity.Rebalance (Rebalance.Freeze (Freeze.Settle j))) l (r.seats s)
       n w = subst (λ b. Helping z r j b l (r.seats s)) h.activity (i.positions.helping s l h.knows j w)
 
-      at : j < z.seats → j ≢ s → (word z r.world (name.Scan j) ≡ scan_word (Waiting l.rebalance.waiting)) ⊎ (word z r.world (name.Scan j) ≡ scan_word (Waiting l.rebalance.waiting) → ⊥) → ScanStep z r r' s l (HelpSettle j) j
+      at : j < z.seats → j ≢ s → (word z r.world (name.Scan j) ≡ scan_word (Waiting l.rebalance.waiting)) ⊎ (word z r.world (name.Scan j) ≡ scan_word (Waiting l.rebalance.waiting) → ⊥) → ScanStep z r r' s l (Activity.Rebalance (Rebalance.Freeze (Freeze.Settle j))) j
       at w f (inl e) =
           waits_no_more (λ c y. drawn_not c l.rebalance.drawn (sym (exchanged _ _ _ _ h.changed.same e) ∙ y))
           (λ c y. let x : scan_word (Waiting l.rebalance.waiting) ≡ scan_word (Waiting c) = sym e ∙ y in omega (arith, x, (n w).late refl))
       at w f (inr e) = is_kept (not_exchanged _ _ _ _ h.changed.same e) (λ x. absurd (f x))
 
-      which : (t ≡ j) ⊎ (t ≡ j → ⊥) → ScanStep z r r' s l (HelpSettle j) t
-      which (inl e) = subst (ScanStep z r r' s l (HelpSettle j)) (sym e) (at (subst (λ q. q < z.seats) e o) (subst (λ q. q ≢ s) e d) (cases_eq _ _))
-      which (inr f) = is_kept (scan_stays (HelpSettle j) h t o d f) (λ x. absurd (d x))
+      which : (t ≡ j) ⊎ (t ≡ j → ⊥) → ScanStep z r r' s l (Activity.Rebalance (Rebalance.Freeze (Freeze.Settle j))) t
+      which (inl e) = subst (ScanStep z r r' s l (Activity.Rebalance (Rebalance.Freeze (Freeze.Settle j)))) (sym e) (at (subst (λ q. q < z.seats) e o) (subst (λ q. q ≢ s) e d) (cases_eq _ _))
+      which (inr f) = is_kept (scan_stays (Activity.Rebalance (Rebalance.Freeze (Freeze.Settle j))) h t o d f) (λ x. absurd (d x))
   other_step a h t o d = is_kept (scan_stays a h t o d (λ u. u)) (λ x. absurd (d x))
 
   -- the scan of any seat
@@ -140,39 +161,42 @@ waiting_keeps z r r' s choice l a l' h i st t clock o w = which (scan_step z r r
 
 -- a seat that helps has just found that the scan waits, or has just drawn for it
 data HelpsFrom (v : Words) (l : Local) (a : Activity) (k : Local) (t : ℕ) : Type 0 where
-  has_looked : (j c : ℕ) → t ≡ j → a ≡ ScanLook j → scan_of (v (name.Scan j)) ≡ Some (Waiting c) → k ≡ record l { rebalance = record l.rebalance { waiting = c }; activity = HelpDraw j } → HelpsFrom v l a k t
-  has_drawn : (j : ℕ) → t ≡ j → a ≡ HelpDraw j → k ≡ record l { rebalance = record l.rebalance { drawn = v name.Clock }; activity = HelpSettle j } → HelpsFrom v l a k t
+  has_looked : (j c : ℕ) → t ≡ j → a ≡ Activity.Rebalance (Rebalance.Freeze (Freeze.Scan j)) → scan_of (v (name.Scan j)) ≡ Some (Waiting c) → k ≡ record l { rebalance = record l.rebalance { waiting = c }; activity = Activity.Rebalance (Rebalance.Freeze (Freeze.Draw j)) } → HelpsFrom v l a k t
+  has_drawn : (j : ℕ) → t ≡ j → a ≡ Activity.Rebalance (Rebalance.Freeze (Freeze.Draw j)) → k ≡ record l { rebalance = record l.rebalance { drawn = v name.Clock }; activity = Activity.Rebalance (Rebalance.Freeze (Freeze.Settle j)) } → HelpsFrom v l a k t
 
 -- a read row does not lead to help
 helps_not_read : (t : ℕ) (c : Activity) → HelpsScan t c → IsAfterRead c → ⊥
-helps_not_read t (HelpDraw j) x y = y
-helps_not_read t (HelpSettle j) x y = y
+helps_not_read t (Activity.Rebalance (Rebalance.Freeze (Freeze.Draw j))) x y = y
+helps_not_read t (Activity.Rebalance (Rebalance.Freeze (Freeze.Settle j))) x y = y
+helps_not_read t (Activity.Walk Walk.First) x y = x
 helps_not_read t _ x y = x
 
 helps_from : (z : Sizes) (v : Words) (s : ℕ) (choice : Choice) (l : Local) (a : Activity) (k : Local) (t : ℕ) → Arrow z v s choice l a k → HelpsScan t k.activity → HelpsFrom v l a k t
 helps_from z v s choice l a k t (builds b next y u) x = after_helps t next.activity (built_next z v choice l b next u) x
 helps_from z v s choice l a k t (helps_scan j c y) x = has_looked j c x refl y refl
 helps_from z v s choice l a k t (draws_for j) x = has_drawn j x refl refl
-helps_from z v s choice l (Look j) k t b x = absurd (helps_not_read t k.activity x (after_read z v s choice l (Look j) k b tt))
-helps_from z v s choice l LookKey k t b x = absurd (helps_not_read t k.activity x (after_read z v s choice l LookKey k b tt))
-helps_from z v s choice l LookClock k t b x = absurd (helps_not_read t k.activity x (after_read z v s choice l LookClock k b tt))
-helps_from z v s choice l LookHelp k t b x = absurd (helps_not_read t k.activity x (after_read z v s choice l LookHelp k b tt))
-helps_from z v s choice l ListFrom k t b x = absurd (helps_not_read t k.activity x (after_read z v s choice l ListFrom k b tt))
-helps_from z v s choice l ListKey k t b x = absurd (helps_not_read t k.activity x (after_read z v s choice l ListKey k b tt))
-helps_from z v s choice l ListVer k t b x = absurd (helps_not_read t k.activity x (after_read z v s choice l ListVer k b tt))
-helps_from z v s choice l ListVal k t b x = absurd (helps_not_read t k.activity x (after_read z v s choice l ListVal k b tt))
-helps_from z v s choice l RestKey k t b x = absurd (helps_not_read t k.activity x (after_read z v s choice l RestKey k b tt))
-helps_from z v s choice l RestVal k t b x = absurd (helps_not_read t k.activity x (after_read z v s choice l RestVal k b tt))
+helps_from z v s choice l (Activity.Look (Look.Entry j)) k t b x = absurd (helps_not_read t k.activity x (after_read z v s choice l (Activity.Look (Look.Entry j)) k b tt))
+helps_from z v s choice l (Activity.Look Look.Key) k t b x = absurd (helps_not_read t k.activity x (after_read z v s choice l (Activity.Look Look.Key) k b tt))
+helps_from z v s choice l (Activity.Look Look.Clock) k t b x = absurd (helps_not_read t k.activity x (after_read z v s choice l (Activity.Look Look.Clock) k b tt))
+helps_from z v s choice l (Activity.Look Look.Help) k t b x = absurd (helps_not_read t k.activity x (after_read z v s choice l (Activity.Look Look.Help) k b tt))
+helps_from z v s choice l (Activity.Read Read.Link) k t b x = absurd (helps_not_read t k.activity x (after_read z v s choice l (Activity.Read Read.Link) k b tt))
+helps_from z v s choice l (Activity.Read Read.Key) k t b x = absurd (helps_not_read t k.activity x (after_read z v s choice l (Activity.Read Read.Key) k b tt))
+helps_from z v s choice l (Activity.Read Read.Version) k t b x = absurd (helps_not_read t k.activity x (after_read z v s choice l (Activity.Read Read.Version) k b tt))
+helps_from z v s choice l (Activity.Read Read.Value) k t b x = absurd (helps_not_read t k.activity x (after_read z v s choice l (Activity.Read Read.Value) k b tt))
+helps_from z v s choice l (Activity.Read Read.LeftOverKey) k t b x = absurd (helps_not_read t k.activity x (after_read z v s choice l (Activity.Read Read.LeftOverKey) k b tt))
+helps_from z v s choice l (Activity.Read Read.LeftOverValue) k t b x = absurd (helps_not_read t k.activity x (after_read z v s choice l (Activity.Read Read.LeftOverValue) k b tt))
+helps_from z v s choice l (Activity.Rebalance (Rebalance.Freeze Freeze.Count)) k t b x = absurd x
 helps_from z v s choice l a k t b x = absurd x
 
 -- a scan that is about to wait does not wait yet
 to_wait_not : (a : Activity) → IsToWait a → IsWaiting a → ⊥
-to_wait_not ScanWait x y = y
+to_wait_not (Activity.Draw Draw.Wait) x y = y
+to_wait_not (Activity.Rebalance (Rebalance.Engage Engage.Clock)) x y = x
 to_wait_not _ x y = x
 
 -- what is helped is known of the seat that is helped
 helped_by : (t : ℕ) (a : Activity) → HasDrawnFor t a → HelpsScan t a
-helped_by t (HelpSettle j) x = x
+helped_by t (Activity.Rebalance (Rebalance.Freeze (Freeze.Settle j))) x = x
 helped_by t _ x = absurd x
 
 module _ (z : Sizes) (r r' : Run) (s : ℕ) (choice : Choice) (l : Local) (a : Activity) (l' : Local) (h : Happens z r r' s choice l l' a) (i : Below z r) (st : Step r.history r'.history (log_entry z r a s choice l)) where
@@ -197,11 +221,11 @@ module _ (z : Sizes) (r r' : Run) (s : ℕ) (choice : Choice) (l : Local) (a : A
       step = scan_step z r r' s choice l l' i a h t o
 
       -- the clock that a scan is about to store is past
-      stored : a ≡ ScanWait → l.waiting ≤ word z r.world name.Clock
+      stored : a ≡ Activity.Draw Draw.Wait → l.waiting ≤ word z r.world name.Clock
       stored is = (i.positions.draws s l h.knows).loaded (subst HasLoaded (sym (h.activity ∙ is)) tt)
 
       -- and later than that of the helper
-      later : t ≡ s → a ≡ ScanWait → ((m : Local) → slice_get r.world.locals t ≡ Some m → IsToWait m.activity → k.rebalance.waiting < m.waiting) → k.rebalance.waiting < l.waiting
+      later : t ≡ s → a ≡ Activity.Draw Draw.Wait → ((m : Local) → slice_get r.world.locals t ≡ Some m → IsToWait m.activity → k.rebalance.waiting < m.waiting) → k.rebalance.waiting < l.waiting
       later e is f = f l (subst (λ c. slice_get r.world.locals c ≡ Some l) (sym e) h.knows) (subst IsToWait (sym (h.activity ∙ is)) tt)
 
       waits : ScanStep z r r' s l a t → (word z r.world (name.Scan t) ≡ scan_word (Waiting k.rebalance.waiting)) ⊎ (k.rebalance.waiting < word z r.world name.Clock) → ((m : Local) → slice_get r.world.locals t ≡ Some m → IsToWait m.activity → k.rebalance.waiting < m.waiting) →
@@ -227,13 +251,14 @@ module _ (z : Sizes) (r r' : Run) (s : ℕ) (choice : Choice) (l : Local) (a : A
               same = same_Some l' m (sym (knows_next h) ∙ subst (λ c. slice_get r'.world.locals c ≡ Some m) e g)
 
               to_loaded : (c : Activity) → IsToWait c → HasLoaded c
-              to_loaded ScanWait x = tt
+              to_loaded (Activity.Draw Draw.Wait) x = tt
+              to_loaded (Activity.Rebalance (Rebalance.Engage Engage.Clock)) x = absurd x
               to_loaded _ x = absurd x
 
-              acts : ((a ≡ ScanClock) × (l' ≡ record l { waiting = word z r.world name.Clock; activity = ScanWait })) ⊎ ((a ≡ ScanWait) × (l' ≡ record l { activity = ScanDraw })) → (word z r.world (name.Scan t) ≡ scan_word (Waiting k.rebalance.waiting)) ⊎ (k.rebalance.waiting < word z r.world name.Clock) → k.rebalance.waiting < m.waiting
+              acts : ((a ≡ Activity.Draw Draw.Clock) × (l' ≡ record l { waiting = word z r.world name.Clock; activity = Activity.Draw Draw.Wait })) ⊎ ((a ≡ Activity.Draw Draw.Wait) × (l' ≡ record l { activity = Activity.Draw Draw.Version })) → (word z r.world (name.Scan t) ≡ scan_word (Waiting k.rebalance.waiting)) ⊎ (k.rebalance.waiting < word z r.world name.Clock) → k.rebalance.waiting < m.waiting
               acts (inl b) (inr c) = omega (arith, c, ap (λ (q : Local). q.waiting) (sym same ∙ b.1))
               acts (inl b) (inl c) = absurd (not_waiting z r i s l h.knows (λ x. subst IsWaiting (h.activity ∙ b.0) x) k.rebalance.waiting (subst (λ q. word z r.world (name.Scan q) ≡ scan_word (Waiting k.rebalance.waiting)) e c))
-              acts (inr b) c = let x : IsToWait ScanDraw = subst (λ (q : Local). IsToWait q.activity) (sym same ∙ b.1) y in absurd x
+              acts (inr b) c = let x : IsToWait (Activity.Draw Draw.Version) = subst (λ (q : Local). IsToWait q.activity) (sym same ∙ b.1) y in absurd x
 
       after : word z r'.world (name.Scan t) ≡ scan_word (Waiting k.rebalance.waiting) → ScanStep z r r' s l a t → (word z r.world (name.Scan t) ≡ scan_word (Waiting k.rebalance.waiting) → r.ledger.waits t < (r.seats u).drawn) → ((m : Local) → slice_get r.world.locals t ≡ Some m → IsToWait m.activity → k.rebalance.waiting < m.waiting) → r'.ledger.waits t < (r'.seats u).drawn
       after w (is_kept e g) b f = omega (arith, b (sym e ∙ w), waits_stay z r r' s choice l a l' h t g, ap (λ (q : SeatLog). q.drawn) (h.logs u d))
@@ -255,12 +280,12 @@ module _ (z : Sizes) (r r' : Run) (s : ℕ) (choice : Choice) (l : Local) (a : A
       own_not : (j : ℕ) (c : Activity) → l'.activity ≡ c → (IsToWait c → ⊥) → (m : Local) → slice_get r'.world.locals j ≡ Some m → IsToWait m.activity → j ≢ s
       own_not j c is f m g y e = f (subst IsToWait (ap (λ (q : Local). q.activity) (sym (same_Some l' m (sym (knows_next h) ∙ subst (λ b. slice_get r'.world.locals b ≡ Some m) e g))) ∙ is) y)
 
-      looked : (j c : ℕ) → a ≡ ScanLook j → scan_of (word z r.world (name.Scan j)) ≡ Some (Waiting c) → l' ≡ record l { rebalance = record l.rebalance { waiting = c }; activity = HelpDraw j } → Helping z r' j l'.activity l' (r'.seats s)
+      looked : (j c : ℕ) → a ≡ Activity.Rebalance (Rebalance.Freeze (Freeze.Scan j)) → scan_of (word z r.world (name.Scan j)) ≡ Some (Waiting c) → l' ≡ record l { rebalance = record l.rebalance { waiting = c }; activity = Activity.Rebalance (Rebalance.Freeze (Freeze.Draw j)) } → Helping z r' j l'.activity l' (r'.seats s)
       looked j c is y k = subst (λ (m : Local). Helping z r' j m.activity m (r'.seats s)) (sym k) (record {
         waits = λ x. inl now;
         least = λ x q w. let e : scan_word (Waiting c) ≡ scan_word (Waiting q) = sym now ∙ w in omega (arith, e);
         loads = λ x m g q.
-            let d = own_not j (HelpDraw j) (ap (λ (b : Local). b.activity) k) (λ b. b) m g q in
+            let d = own_not j (Activity.Rebalance (Rebalance.Freeze (Freeze.Draw j))) (ap (λ (b : Local). b.activity) k) (λ b. b) m g q in
             absurd (not_waiting z r i j m (sym (knows_other h j d) ∙ g) (to_wait_not m.activity q) c was);
         late = λ x. absurd x;
         drew = λ x. absurd x;
@@ -273,26 +298,26 @@ module _ (z : Sizes) (r r' : Run) (s : ℕ) (choice : Choice) (l : Local) (a : A
           now : word z r'.world (name.Scan j) ≡ scan_word (Waiting c)
           now = (subst (Happens z r r' s choice l l') is h).changed.loaded refl (name.Scan j) ∙ was
 
-      drew : (j : ℕ) → j < z.seats → a ≡ HelpDraw j → l' ≡ record l { rebalance = record l.rebalance { drawn = word z r.world name.Clock }; activity = HelpSettle j } → Helping z r' j l'.activity l' (r'.seats s)
+      drew : (j : ℕ) → j < z.seats → a ≡ Activity.Rebalance (Rebalance.Freeze (Freeze.Draw j)) → l' ≡ record l { rebalance = record l.rebalance { drawn = word z r.world name.Clock }; activity = Activity.Rebalance (Rebalance.Freeze (Freeze.Settle j)) } → Helping z r' j l'.activity l' (r'.seats s)
       drew j w is k = subst (λ (m : Local). Helping z r' j m.activity m (r'.seats s)) (sym k) (record {
         waits = λ x. inr (omega (arith, past (n.waits refl), g.changed.same));
         least = λ x q e. n.least refl q (sym same ∙ e);
         loads = λ x m y q.
-            let d = own_not j (HelpSettle j) (ap (λ (b : Local). b.activity) k) (λ b. b) m y q in
+            let d = own_not j (Activity.Rebalance (Rebalance.Freeze (Freeze.Settle j))) (ap (λ (b : Local). b.activity) k) (λ b. b) m y q in
             n.loads refl m (sym (knows_other h j d) ∙ y) q;
         late = λ x. omega (arith, past (n.waits refl), g.changed.same);
         drew = λ x. subst (λ q. Stands r'.history q kind.HelpDraw (word z r.world name.Clock)) (sym drawn) (new_stands r.history r'.history _ (subst (λ q. Step r.history r'.history (log_entry z r q s choice l)) is st));
-        after = λ x e. omega (arith, (i.positions.waiting j l.rebalance.waiting w (sym same ∙ e)).1, drawn, waits_stay z r r' s choice l (HelpDraw j) l' g j (λ q y. cc));
+        after = λ x e. omega (arith, (i.positions.waiting j l.rebalance.waiting w (sym same ∙ e)).1, drawn, waits_stay z r r' s choice l (Activity.Rebalance (Rebalance.Freeze (Freeze.Draw j))) l' g j (λ q y. cc));
       })
         where
-          g : Happens z r r' s choice l l' (HelpDraw j)
+          g : Happens z r r' s choice l l' (Activity.Rebalance (Rebalance.Freeze (Freeze.Draw j)))
           g = subst (Happens z r r' s choice l l') is h
 
-          n : Helping z r j (HelpDraw j) l (r.seats s)
+          n : Helping z r j (Activity.Rebalance (Rebalance.Freeze (Freeze.Draw j))) l (r.seats s)
           n = subst (λ b. Helping z r j b l (r.seats s)) g.activity (i.positions.helping s l h.knows j w)
 
           same : word z r'.world (name.Scan j) ≡ word z r.world (name.Scan j)
-          same = unwritten (HelpDraw j) g (name.Scan j) w (λ e. cc)
+          same = unwritten (Activity.Rebalance (Rebalance.Freeze (Freeze.Draw j))) g (name.Scan j) w (λ e. cc)
 
           drawn : (r'.seats s).drawn ≡ length r.history.log
           drawn = ap (λ (q : SeatLog). q.drawn) g.log

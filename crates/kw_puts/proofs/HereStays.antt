@@ -8,7 +8,7 @@ use Rattle.kw_rows.proofs.Named.{held_by}
 use Rattle.kw_words.specs.declared.layout.Name.TheVariants as name
 use Rattle.kw_words.specs.Count.{count_of}
 use Rattle.kw_world.specs.declared.activity.Activity.{Activity}
-use Rattle.kw_world.specs.declared.activity.Activity.TheVariants.{PutAdd}
+use Rattle.kw_world.specs.declared.activity.put.Put.TheVariants as Put
 use Rattle.kw_world.specs.declared.event.Choice.{Choice}
 use Rattle.kw_world.specs.declared.local.Local.{Local}
 use Rattle.kw_world.specs.PutTransitions.{has_room}
@@ -38,7 +38,7 @@ use Rattle.kw_puts.proofs.RelyProof.{goes_on_by}
 -- now
 pub data PutsFrom (z : Sizes) (r r' : Run) (s : ℕ) (l : Local) (a : Activity) : Type 0 where
   puts_on : IsPutting a → (r'.seats s).own ≡ (r.seats s).own → PutsFrom z r r' s l a
-  takes_now : a ≡ PutAdd → has_room z (count_of (word z r.world (name.Count l.row))) ≡ true → PutsFrom z r r' s l a
+  takes_now : a ≡ Activity.Put Put.Add → has_room z (count_of (word z r.world (name.Count l.row))) ≡ true → PutsFrom z r r' s l a
 
 -- by what it does
 puts_from : (z : Sizes) (r r' : Run) (s : ℕ) (choice : Choice) (l : Local) (a : Activity) (l' : Local) → Arrow z (word z r.world) s choice l a l' → Happens z r r' s choice l l' a → IsPutting l'.activity → PutsFrom z r r' s l a
@@ -118,7 +118,7 @@ module _ {z : Sizes} {r r' : Run} {s : ℕ} {choice : Choice} {l l' : Local} whe
     born = subst (λ q. (r'.ledger.rows.fates q).born ≤ (attempt r'.history p).add) (sym row) (omega (arith, ap (λ (f : Fate). f.born) fate, ap (λ (x : Attempt). x.add) n.is, i.puts.born l.row linked));
   }
     where
-      taking : Happens z r r' s choice l l' PutAdd
+      taking : Happens z r r' s choice l l' (Activity.Put Put.Add)
       taking = subst (λ x. Happens z r r' s choice l l' x) n.gives.takes h
 
       linked : WasLinked r.ledger.rows l.row
@@ -128,7 +128,7 @@ module _ {z : Sizes} {r r' : Run} {s : ℕ} {choice : Choice} {l l' : Local} whe
       row = ap (λ (x : Attempt). x.row) n.is
 
       fate : r'.ledger.rows.fates l.row ≡ r.ledger.rows.fates l.row
-      fate = fate_stays PutAdd taking l.row (λ x. x)
+      fate = fate_stays (Activity.Put Put.Add) taking l.row (λ x. x)
 
       still : WasLinked r.ledger.rows l.row → WasLinked r'.ledger.rows l.row
       still (inl e) = inl (ap (λ (f : Fate). f.status) fate ∙ e)
@@ -146,7 +146,7 @@ module _ {z : Sizes} {r r' : Run} {s : ℕ} {choice : Choice} {l l' : Local} whe
           let fresh : IsFresh r.ledger.rows s (attempt r.history (r.seats s).own).row = subst (IsFresh r.ledger.rows s) (sym own.row) ((i.shape.walks s l h.knows).at (puts_at_row l.activity m)).fresh in
           subst (IsHere r'.ledger.rows r'.history) (sym e) (held_here a h i st s (r.seats s).own own.within fresh (i.puts.present s l h.knows m))
 
-      given : a ≡ PutAdd → has_room z (count_of (word z r.world (name.Count l.row))) ≡ true → IsHere r'.ledger.rows r'.history (r'.seats s).own
+      given : a ≡ Activity.Put Put.Add → has_room z (count_of (word z r.world (name.Count l.row))) ≡ true → IsHere r'.ledger.rows r'.history (r'.seats s).own
       given e m =
           let taking = subst (λ x. Happens z r r' s choice l l' x) e h in
           let own : (r'.seats s).own ≡ length r.history.attempts = ap (λ (x : SeatLog). x.own) (rw m at taking.log) in

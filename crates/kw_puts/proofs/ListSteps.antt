@@ -16,7 +16,10 @@ use Rattle.kw_lists.proofs.Agreeing.{agreeing_sound}
 use Rattle.kw_lists.proofs.Inserting.{inserted_sound}
 use Rattle.kw_lists.proofs.Putting.{put_inserts}
 use Rattle.kw_world.specs.declared.activity.Activity.{Activity}
-use Rattle.kw_world.specs.declared.activity.Activity.TheVariants.{PutKey, PutVersion, InsSet, Insert, WriteCount, WriteAfter}
+use Rattle.kw_world.specs.declared.activity.insert.Insert.TheVariants as Insert
+use Rattle.kw_world.specs.declared.activity.put.Put.TheVariants as Put
+use Rattle.kw_world.specs.declared.activity.rebalance.Rebalance.TheVariants as Rebalance
+use Rattle.kw_world.specs.declared.activity.rebalance.write.Write.TheVariants as Write
 use Rattle.kw_world.specs.declared.local.Local.{Local}
 use Rattle.kw_world.specs.declared.event.Choice.{Choice}
 use Rattle.kw_world.specs.ListTransitions.{link_name}
@@ -68,15 +71,15 @@ stays_sound n row row' (gains at c m o a) s = agreeing_sound (inserted row at c)
 -- put whose own cell is not listed.
 
 writes_key_unlisted : (a : Activity) → WritesKey a → IsUnlisted a
-writes_key_unlisted PutKey x = tt
+writes_key_unlisted (Activity.Put Put.Key) x = tt
 writes_key_unlisted _ x = absurd x
 
 stores_version_unlisted : (a : Activity) → IsPutVersion a → IsUnlisted a
-stores_version_unlisted PutVersion x = tt
+stores_version_unlisted (Activity.Put Put.Version) x = tt
 stores_version_unlisted _ x = absurd x
 
 stores_after_unlisted : (a : Activity) → IsInsSet a → IsUnlisted a
-stores_after_unlisted InsSet x = tt
+stores_after_unlisted (Activity.Insert Insert.Set) x = tt
 stores_after_unlisted _ x = absurd x
 
 module _ (z : Sizes) (r r' : Run) (s : ℕ) (choice : Choice) (l : Local) (a : Activity) (l' : Local) (h : Happens z r r' s choice l l' a) (i : Below z r) where
@@ -109,14 +112,14 @@ module _ (z : Sizes) (r r' : Run) (s : ℕ) (choice : Choice) (l : Local) (a : A
 
 -- The exchange of a put that inserts its cell.
 
-module _ (z : Sizes) (r r' : Run) (s : ℕ) (choice : Choice) (l : Local) (l' : Local) (h : Happens z r r' s choice l l' Insert) (i : Below z r) where
+module _ (z : Sizes) (r r' : Run) (s : ℕ) (choice : Choice) (l : Local) (l' : Local) (h : Happens z r r' s choice l l' (Activity.Insert Insert.Exchange)) (i : Below z r) where
   -- what the put knows there
   pub is_set : IsSet z.cells (list_in (word z r.world) r.listed l.row) l.cell l.lost l.link l.held
   is_set = subst (λ q. Inserts z.cells (list_in (word z r.world) r.listed l.row) q l) h.activity (i.lists.inserts s l h.knows)
 
   -- no cell's key or version changes
   pub insert_words : (q c : ℕ) → WasLinked r.ledger.rows q → c < z.cells → SameWords (word z r.world) (word z r'.world) q c
-  insert_words q c k o = record { key = linked_key Insert h i.shape q c k o (λ x e f. x); version = linked_version Insert h i.shape q c k o (λ x e f. x) }
+  insert_words q c k o = record { key = linked_key (Activity.Insert Insert.Exchange) h i.shape q c k o (λ x e f. x); version = linked_version (Activity.Insert Insert.Exchange) h i.shape q c k o (λ x e f. x) }
 
   -- where the exchange is lost, every link is what it was
   lost_link : word z r.world (link_name l.row l.link) ≢ cell_link_word l.held → (q : ℕ) (at : Option ℕ) → WasLinked r.ledger.rows q → IsCellBelow z.cells at → word z r'.world (link_name q at) ≡ word z r.world (link_name q at)
@@ -124,8 +127,8 @@ module _ (z : Sizes) (r r' : Run) (s : ℕ) (choice : Choice) (l : Local) (l' : 
     where
       which : (q ≡ l.row) ⊎ (q ≡ l.row → ⊥) → (at ≡ l.link) ⊎ (at ≢ l.link) → word z r'.world (link_name q at) ≡ word z r.world (link_name q at)
       which (inl e) (inl f) = rw (e, f) (not_exchanged _ _ _ _ h.changed.same n)
-      which (inr d) f = linked_link Insert h i.shape q at k o (λ x e g. x) (λ x e g. d e)
-      which (inl e) (inr d) = linked_link Insert h i.shape q at k o (λ x e g. x) (λ x e g. d g)
+      which (inr d) f = linked_link (Activity.Insert Insert.Exchange) h i.shape q at k o (λ x e g. x) (λ x e g. d e)
+      which (inl e) (inr d) = linked_link (Activity.Insert Insert.Exchange) h i.shape q at k o (λ x e g. x) (λ x e g. d g)
 
   lost_list : word z r.world (link_name l.row l.link) ≢ cell_link_word l.held → (q : ℕ) → WasLinked r.ledger.rows q → KeepsList (word z r.world) (word z r'.world) q (r.listed q)
   lost_list n q k = record {
@@ -138,8 +141,8 @@ module _ (z : Sizes) (r r' : Run) (s : ℕ) (choice : Choice) (l : Local) (l' : 
   made_links : word z r.world (link_name l.row l.link) ≡ cell_link_word l.held → WasLinked r.ledger.rows l.row → LinksIn (word z r.world) (word z r'.world) l.row (r.listed l.row) l.link l.cell
   made_links e k = record {
     new = leads_there (word z r'.world) l.row l.link (Some l.cell) z.cells known.ranges.cell i.shape.sane.sized.few_cells (exchanged _ _ _ _ h.changed.same e);
-    first = λ a f. linked_link Insert h i.shape l.row None k tt (λ x u g. x) (λ x u g. let y : None ≡ Some a = g ∙ f in cc);
-    after = λ d t n. linked_link Insert h i.shape l.row (Some d) k (inside d (cell_or (r.listed l.row) l.cell d t)) (λ x u g. x) (λ x u g. n (sym g));
+    first = λ a f. linked_link (Activity.Insert Insert.Exchange) h i.shape l.row None k tt (λ x u g. x) (λ x u g. let y : None ≡ Some a = g ∙ f in cc);
+    after = λ d t n. linked_link (Activity.Insert Insert.Exchange) h i.shape l.row (Some d) k (inside d (cell_or (r.listed l.row) l.cell d t)) (λ x u g. x) (λ x u g. n (sym g));
     cell = λ d t. insert_words l.row d k (inside d (cell_or (r.listed l.row) l.cell d t));
   }
     where
@@ -174,45 +177,45 @@ module _ (z : Sizes) (r r' : Run) (s : ℕ) (choice : Choice) (l : Local) (l' : 
       which : (word z r.world (link_name l.row l.link) ≡ cell_link_word l.held) ⊎ (word z r.world (link_name l.row l.link) ≡ cell_link_word l.held → ⊥) → (q ≡ l.row) ⊎ (q ≡ l.row → ⊥) → ListStep z.cells (list_in (word z r.world) r.listed q) (list_in (word z r'.world) r'.listed q)
       which (inl e) (inl f) = subst (λ x. ListStep z.cells (list_in (word z r.world) r.listed x) (list_in (word z r'.world) r'.listed x)) (sym f) (gained e (subst (WasLinked r.ledger.rows) f k))
       which (inl e) (inr d) = subst (λ f. ListStep z.cells (list_in (word z r.world) r.listed q) (row_in (word z r'.world) q f)) (sym (ap (λ f. f q) (made_listed e) ∙ with_listed_else r.listed l.row l.cell q d))
-          (stays (keeping_agrees (word z r.world) (word z r'.world) q (r.listed q) (list_kept z r r' s choice l Insert l' h i q k (λ at x u g. d u))))
+          (stays (keeping_agrees (word z r.world) (word z r'.world) q (r.listed q) (list_kept z r r' s choice l (Activity.Insert Insert.Exchange) l' h i q k (λ at x u g. d u))))
       which (inr n) f = subst (λ f. ListStep z.cells (list_in (word z r.world) r.listed q) (row_in (word z r'.world) q f)) (sym (ap (λ f. f q) (lost_listed n))) (stays (keeping_agrees (word z r.world) (word z r'.world) q (r.listed q) (lost_list n q k)))
 
 -- which cells of a row that is or was linked are listed changes by an insertion alone: new rows are
 -- none of them
-listed_same : (z : Sizes) (r r' : Run) (s : ℕ) (choice : Choice) (l : Local) (a : Activity) (l' : Local) → Happens z r r' s choice l l' a → Below z r → (q : ℕ) → WasLinked r.ledger.rows q → (a ≡ Insert → ⊥) → r'.listed q ≡ r.listed q
-listed_same z r r' s choice l Insert l' h i q k n = absurd (n refl)
-listed_same z r r' s choice l WriteCount l' h i q k n = ap (λ f. f q) h.listed ∙ without_listed_else r.listed (infant l) q (not_hand WriteCount h i.shape tt q k)
-listed_same z r r' s choice l (WriteAfter j) l' h i q k n = ap (λ f. f q) h.listed ∙ copies (nat_lt j (length (infant_cells l)))
+listed_same : (z : Sizes) (r r' : Run) (s : ℕ) (choice : Choice) (l : Local) (a : Activity) (l' : Local) → Happens z r r' s choice l l' a → Below z r → (q : ℕ) → WasLinked r.ledger.rows q → (a ≡ Activity.Insert Insert.Exchange → ⊥) → r'.listed q ≡ r.listed q
+listed_same z r r' s choice l (Activity.Insert Insert.Exchange) l' h i q k n = absurd (n refl)
+listed_same z r r' s choice l (Activity.Rebalance (Rebalance.Write Write.Count)) l' h i q k n = ap (λ f. f q) h.listed ∙ without_listed_else r.listed (infant l) q (not_hand (Activity.Rebalance (Rebalance.Write Write.Count)) h i.shape tt q k)
+listed_same z r r' s choice l (Activity.Rebalance (Rebalance.Write (Write.After j))) l' h i q k n = ap (λ f. f q) h.listed ∙ copies (nat_lt j (length (infant_cells l)))
   where
     copies : (b : Bool) → (let f : Listed = if b then with_listed r.listed (infant l) j else r.listed in f q) ≡ r.listed q
-    copies true = with_listed_else r.listed (infant l) j q (not_hand (WriteAfter j) h i.shape tt q k)
+    copies true = with_listed_else r.listed (infant l) j q (not_hand (Activity.Rebalance (Rebalance.Write (Write.After j))) h i.shape tt q k)
     copies false = refl
 listed_same z r r' s choice l a l' h i q k n = ap (λ f. f q) h.listed
 
 -- what an event leaves of the list of a row that is or was linked
 pub list_step : (z : Sizes) (r r' : Run) (s : ℕ) (choice : Choice) (l : Local) (a : Activity) (l' : Local) → Happens z r r' s choice l l' a → Below z r → (q : ℕ) → WasLinked r.ledger.rows q → ListStep z.cells (list_in (word z r.world) r.listed q) (list_in (word z r'.world) r'.listed q)
-list_step z r r' s choice l Insert l' h i q k = insert_step z r r' s choice l l' h i q k
+list_step z r r' s choice l (Activity.Insert Insert.Exchange) l' h i q k = insert_step z r r' s choice l l' h i q k
 list_step z r r' s choice l a l' h i q k = subst (λ f. ListStep z.cells (list_in (word z r.world) r.listed q) (row_in (word z r'.world) q f)) (sym (listed_same z r r' s choice l a l' h i q k (λ e. cc)))
     (stays (keeping_agrees (word z r.world) (word z r'.world) q (r.listed q) (list_kept z r r' s choice l a l' h i q k (λ at x e g. x))))
 
 -- a cell of such a row that is listed after the event was listed, or it is that of a put which
 -- inserts it now
-pub listed_was : (z : Sizes) (r r' : Run) (s : ℕ) (choice : Choice) (l : Local) (a : Activity) (l' : Local) → Happens z r r' s choice l l' a → Below z r → (q c : ℕ) → WasLinked r.ledger.rows q → r'.listed q c ≡ true → (r.listed q c ≡ true) ⊎ (a ≡ Insert) × (q ≡ l.row) × (c ≡ l.cell)
-listed_was z r r' s choice l Insert l' h i q c k t = which (cases_eq (word z r.world (link_name l.row l.link)) (cell_link_word l.held)) (cases_eq q l.row)
+pub listed_was : (z : Sizes) (r r' : Run) (s : ℕ) (choice : Choice) (l : Local) (a : Activity) (l' : Local) → Happens z r r' s choice l l' a → Below z r → (q c : ℕ) → WasLinked r.ledger.rows q → r'.listed q c ≡ true → (r.listed q c ≡ true) ⊎ (a ≡ Activity.Insert Insert.Exchange) × (q ≡ l.row) × (c ≡ l.cell)
+listed_was z r r' s choice l (Activity.Insert Insert.Exchange) l' h i q c k t = which (cases_eq (word z r.world (link_name l.row l.link)) (cell_link_word l.held)) (cases_eq q l.row)
   where
-    which : (word z r.world (link_name l.row l.link) ≡ cell_link_word l.held) ⊎ (word z r.world (link_name l.row l.link) ≡ cell_link_word l.held → ⊥) → (q ≡ l.row) ⊎ (q ≡ l.row → ⊥) → (r.listed q c ≡ true) ⊎ (Insert ≡ Insert) × (q ≡ l.row) × (c ≡ l.cell)
+    which : (word z r.world (link_name l.row l.link) ≡ cell_link_word l.held) ⊎ (word z r.world (link_name l.row l.link) ≡ cell_link_word l.held → ⊥) → (q ≡ l.row) ⊎ (q ≡ l.row → ⊥) → (r.listed q c ≡ true) ⊎ ((Activity.Insert Insert.Exchange) ≡ Activity.Insert Insert.Exchange) × (q ≡ l.row) × (c ≡ l.cell)
     which (inr n) f = inl (sym (ap (λ f. f q c) (h.listed ∙ not_chosen _ _ _ _ n)) ∙ t)
     which (inl e) (inr d) = inl (sym (ap (λ f. f c) (ap (λ f. f q) (h.listed ∙ chosen _ _ _ _ e) ∙ with_listed_else r.listed l.row l.cell q d)) ∙ t)
     which (inl e) (inl f) = met (cell_or (r.listed l.row) l.cell c (sym (ap (λ f. f c) (ap (λ f. f l.row) (h.listed ∙ chosen _ _ _ _ e) ∙ with_listed_here r.listed l.row l.cell)) ∙ subst (λ x. r'.listed x c ≡ true) f t))
       where
-        met : (c ≡ l.cell) ⊎ (r.listed l.row c ≡ true) → (r.listed q c ≡ true) ⊎ (Insert ≡ Insert) × (q ≡ l.row) × (c ≡ l.cell)
+        met : (c ≡ l.cell) ⊎ (r.listed l.row c ≡ true) → (r.listed q c ≡ true) ⊎ ((Activity.Insert Insert.Exchange) ≡ Activity.Insert Insert.Exchange) × (q ≡ l.row) × (c ≡ l.cell)
         met (inl x) = inr (refl, f, x)
         met (inr x) = inl (rw f x)
 listed_was z r r' s choice l a l' h i q c k t = inl (sym (ap (λ f. f c) (listed_same z r r' s choice l a l' h i q k (λ e. cc))) ∙ t)
 
 -- a cell of such a row that is listed stays listed
 pub listed_stays : (z : Sizes) (r r' : Run) (s : ℕ) (choice : Choice) (l : Local) (a : Activity) (l' : Local) → Happens z r r' s choice l l' a → Below z r → (q c : ℕ) → WasLinked r.ledger.rows q → r.listed q c ≡ true → r'.listed q c ≡ true
-listed_stays z r r' s choice l Insert l' h i q c k t = which (cases_eq (word z r.world (link_name l.row l.link)) (cell_link_word l.held)) (cases_eq q l.row)
+listed_stays z r r' s choice l (Activity.Insert Insert.Exchange) l' h i q c k t = which (cases_eq (word z r.world (link_name l.row l.link)) (cell_link_word l.held)) (cases_eq q l.row)
   where
     which : (word z r.world (link_name l.row l.link) ≡ cell_link_word l.held) ⊎ (word z r.world (link_name l.row l.link) ≡ cell_link_word l.held → ⊥) → (q ≡ l.row) ⊎ (q ≡ l.row → ⊥) → r'.listed q c ≡ true
     which (inr n) f = ap (λ f. f q c) (h.listed ∙ not_chosen _ _ _ _ n) ∙ t

@@ -4,7 +4,8 @@ use Rattle.std.proofs.Common.{ℕ, ◌≡◌, ◌≢◌, ◌⊎◌, inl, inr, �
 use Rattle.kw_words.specs.declared.layout.Name.TheVariants as name
 use Rattle.kw_lists.proofs.Agreeing.{empty_sound}
 use Rattle.kw_world.specs.declared.activity.Activity.{Activity}
-use Rattle.kw_world.specs.declared.activity.Activity.TheVariants.{Insert, PutClear}
+use Rattle.kw_world.specs.declared.activity.insert.Insert.TheVariants as Insert
+use Rattle.kw_world.specs.declared.activity.put.Put.TheVariants as Put
 use Rattle.kw_world.specs.declared.local.Local.{Local}
 use Rattle.kw_world.specs.declared.event.Choice.{Choice}
 use Rattle.kw_world.specs.declared.opening.Opening.{Opening}
@@ -65,14 +66,14 @@ module _ (z : Sizes) (r r' : Run) (s : ℕ) (choice : Choice) (l : Local) (a : A
   cells_keep : (q c : ℕ) → WasLinked r.ledger.rows q → WasLinked r'.ledger.rows q → r'.listed q c ≡ true → IsListedCell (word z r'.world) r'.history r'.origin q c
   cells_keep q c k k' t = which (listed_was z r r' s choice l a l' h i q c k t)
     where
-      which : (r.listed q c ≡ true) ⊎ (a ≡ Insert) × (q ≡ l.row) × (c ≡ l.cell) → IsListedCell (word z r'.world) r'.history r'.origin q c
+      which : (r.listed q c ≡ true) ⊎ (a ≡ Activity.Insert Insert.Exchange) × (q ≡ l.row) × (c ≡ l.cell) → IsListedCell (word z r'.world) r'.history r'.origin q c
       which (inl x) =
           let cell = i.lists.cells q c k x in
           let inside : c < z.cells = (i.lists.leads q k).below c x in
           stamped_cell q c cell.put k k' inside cell.origin cell.stamped ((listed_words z r r' s choice l a l' h i q c k inside (λ u e f. not_listed z r r' s choice l a l' h i u q c x e f)).version ∙ cell.version)
       which (inr x) =
           let inserting = subst (λ b. Happens z r r' s choice l l' b) x.0 h in
-          let own = acting_own z r r' s choice l Insert l' inserting i tt in
+          let own = acting_own z r r' s choice l (Activity.Insert Insert.Exchange) l' inserting i tt in
           let known = i.shape.sane.locals s l h.knows in
           let here : WasLinked r.ledger.rows l.row = subst (WasLinked r.ledger.rows) x.1 k in
           let then : WasLinked r'.ledger.rows l.row = subst (WasLinked r'.ledger.rows) x.1 k' in
@@ -97,10 +98,10 @@ module _ (z : Sizes) (r r' : Run) (s : ℕ) (choice : Choice) (l : Local) (a : A
           let was = here_was a h i st p w y in
           rw (same.row, same.cell) (listed_stays z r r' s choice l a l' h i (attempt r.history p).row (attempt r.history p).cell was.linked (x was))
 
-      cleared : a ≡ PutClear → (IsHere r'.ledger.rows r'.history (r.seats s).own → r'.listed (attempt r'.history (r.seats s).own).row (attempt r'.history (r.seats s).own).cell ≡ true) ⊎ IsOver r'.history (r.seats s).own
+      cleared : a ≡ Activity.Put Put.Clear → (IsHere r'.ledger.rows r'.history (r.seats s).own → r'.listed (attempt r'.history (r.seats s).own).row (attempt r'.history (r.seats s).own).cell ≡ true) ⊎ IsOver r'.history (r.seats s).own
       cleared e =
           let clearing = subst (λ b. Happens z r r' s choice l l' b) e h in
-          let own = acting_own z r r' s choice l PutClear l' clearing i tt in
+          let own = acting_own z r r' s choice l (Activity.Put Put.Clear) l' clearing i tt in
           inl (stays (r.seats s).own own.within (λ y. rw (own.row, own.cell) ((i.lists.own s l h.knows).listed (subst IsPutClear (sym clearing.activity) tt))))
 
       was : p < length r.history.attempts → IsCurrent (slice_get r.world.locals) r.seats r.history p ⊎ (IsHere r.ledger.rows r.history p → r.listed (attempt r.history p).row (attempt r.history p).cell ≡ true) ⊎ IsOver r.history p → IsCurrent (slice_get r'.world.locals) r'.seats r'.history p ⊎ (IsHere r'.ledger.rows r'.history p → r'.listed (attempt r'.history p).row (attempt r'.history p).cell ≡ true) ⊎ IsOver r'.history p

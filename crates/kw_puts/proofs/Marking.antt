@@ -11,7 +11,13 @@ use Rattle.kw_words.specs.declared.pend.Pend.TheVariants as pend
 use Rattle.kw_words.specs.Pend.{pend_of, pend_word}
 use Rattle.kw_words.proofs.PendWords.{pend_of-Idle, pend_of-Pending, pend_of-Stamped, pend_of-Frozen}
 use Rattle.kw_world.specs.declared.activity.Activity.{Activity}
-use Rattle.kw_world.specs.declared.activity.Activity.TheVariants.{LookHelp, Stamp, FreezeLook, Freeze, ScanLook, HelpDraw, HelpSettle, TakeFrom, TakeKey, TakeVersion, TakeValue, TakeRestKey, TakeRestValue}
+use Rattle.kw_world.specs.declared.activity.rebalance.freeze.Freeze.TheVariants as Freeze
+use Rattle.kw_world.specs.declared.activity.rebalance.gather.Gather.TheVariants as Gather
+use Rattle.kw_world.specs.declared.activity.look.Look.TheVariants as Look
+use Rattle.kw_world.specs.declared.activity.put.Put.TheVariants as Put
+use Rattle.kw_world.specs.declared.activity.rebalance.Rebalance.TheVariants as Rebalance
+use Rattle.kw_world.specs.declared.activity.rebalance.engage.Engage.TheVariants as Engage
+use Rattle.kw_world.specs.declared.activity.rebalance.replace.Replace.TheVariants as Replace
 use Rattle.kw_world.specs.declared.local.Local.{Local}
 use Rattle.kw_world.specs.declared.marks.Mark.{Mark}
 use Rattle.kw_world.specs.declared.event.Choice.{Choice}
@@ -121,8 +127,8 @@ module _ (z : Sizes) (r : Run) (i : Below z r) where
 
 -- the seat may stamp an attempt
 abbrev IsStamping : Activity → Type 0
-IsStamping Stamp = Unit {0}
-IsStamping LookHelp = Unit {0}
+IsStamping (Activity.Put Put.Stamp) = Unit {0}
+IsStamping (Activity.Look Look.Help) = Unit {0}
 IsStamping _ = ⊥
 
 module _ (z : Sizes) (r r' : Run) (s : ℕ) (choice : Choice) (l : Local) (a : Activity) (l' : Local) (h : Happens z r r' s choice l l' a) (i : Below z r) where
@@ -227,11 +233,11 @@ module _ (z : Sizes) (r r' : Run) (s : ℕ) (choice : Choice) (l : Local) (a : A
     }
       where
         before_frozen : (b : Activity) → IsBeforeTaking b → HasFrozen b
-        before_frozen (FreezeLook m) x = tt
-        before_frozen (Freeze m) x = tt
-        before_frozen (ScanLook m) x = tt
-        before_frozen (HelpDraw m) x = tt
-        before_frozen (HelpSettle m) x = tt
+        before_frozen (Activity.Rebalance (Rebalance.Freeze (Freeze.Look m))) x = tt
+        before_frozen (Activity.Rebalance (Rebalance.Freeze (Freeze.Entry m))) x = tt
+        before_frozen (Activity.Rebalance (Rebalance.Freeze (Freeze.Scan m))) x = tt
+        before_frozen (Activity.Rebalance (Rebalance.Freeze (Freeze.Draw m))) x = tt
+        before_frozen (Activity.Rebalance (Rebalance.Freeze (Freeze.Settle m))) x = tt
         before_frozen _ x = absurd x
 
     -- The acting seat.
@@ -289,11 +295,12 @@ module _ (z : Sizes) (r r' : Run) (s : ℕ) (choice : Choice) (l : Local) (a : A
     unfrozen b k n m = record { marks = λ x. absurd (n x); noted = λ x. absurd (m x) }
 
 before_taking : (a : Activity) → (HasFrozen a → ⊥) → IsBeforeTaking a → ⊥
-before_taking (FreezeLook m) n x = n tt
-before_taking (Freeze m) n x = n tt
-before_taking (ScanLook m) n x = n tt
-before_taking (HelpDraw m) n x = n tt
-before_taking (HelpSettle m) n x = n tt
+before_taking (Activity.Rebalance (Rebalance.Freeze (Freeze.Look m))) n x = n tt
+before_taking (Activity.Rebalance (Rebalance.Freeze (Freeze.Entry m))) n x = n tt
+before_taking (Activity.Rebalance (Rebalance.Freeze (Freeze.Scan m))) n x = n tt
+before_taking (Activity.Rebalance (Rebalance.Freeze (Freeze.Draw m))) n x = n tt
+before_taking (Activity.Rebalance (Rebalance.Freeze (Freeze.Settle m))) n x = n tt
+before_taking (Activity.Rebalance (Rebalance.Replace Replace.First)) n x = x
 before_taking _ n x = x
 
 -- The entry that the acting seat passes.
@@ -317,11 +324,12 @@ module _ (z : Sizes) (r : Run) (i : Below z r) (l : Local) (m : ℕ) where
 
 -- a seat that builds new rows has passed the entries and the scans
 built_takes : (a : Activity) → IsAfterBuilding a → IsBeforeTaking a → ⊥
-built_takes (FreezeLook i) n x = n
-built_takes (Freeze i) n x = n
-built_takes (ScanLook i) n x = n
-built_takes (HelpDraw i) n x = n
-built_takes (HelpSettle i) n x = n
+built_takes (Activity.Rebalance (Rebalance.Freeze (Freeze.Look i))) n x = n
+built_takes (Activity.Rebalance (Rebalance.Freeze (Freeze.Entry i))) n x = n
+built_takes (Activity.Rebalance (Rebalance.Freeze (Freeze.Scan i))) n x = n
+built_takes (Activity.Rebalance (Rebalance.Freeze (Freeze.Draw i))) n x = n
+built_takes (Activity.Rebalance (Rebalance.Freeze (Freeze.Settle i))) n x = n
+built_takes (Activity.Rebalance (Rebalance.Engage Engage.Clock)) n x = x
 built_takes _ n x = x
 
 -- what the acting seat remembers
@@ -336,36 +344,36 @@ remembers_own z r r' s choice l a l' (builds b next y t) h i st = record { marks
         let keeps = built_keeps z (word z r.world) choice l b next t (frozen_builds next.activity after x) in
         rw (keeps.row, keeps.marks) (own_marks z r r' s choice l b next h i st (built_frozen z (word z r.world) choice l b next t x))
 remembers_own z r r' s choice l a l' freezes_count h i st = record { marks = λ x. All-nil (IsMarkOf r'.history r'.origin l.row); noted = λ x p w e y b. absurd (omega (arith, b)) }
-remembers_own z r r' s choice l a l' (meets_idle m e) h i st = goes_on z r r' s choice l (FreezeLook m) l' h i st _ l' refl refl tt (λ x. x) (λ x. (tt, refl))
-remembers_own z r r' s choice l a l' (meets_unstamped m c e) h i st = goes_on z r r' s choice l (FreezeLook m) l' h i st _ l' refl refl tt (λ x. x) (λ x. (tt, refl))
-remembers_own z r r' s choice l a l' (remembers m c version e u) h i st = passes_one z r r' s choice l (FreezeLook m) l' h i st _ l' m (m + 1) refl tt (λ x. x) tt refl refl (omega arith) (All-push (IsMarkOf r'.history r'.origin l.row) l.rebalance.marks (mark_of c version) (own_marks z r r' s choice l (FreezeLook m) l' h i st tt) (mark_lasts r.history r'.history r.origin r'.origin r.ledger.rows (goes z r r' s choice l (FreezeLook m) l' h i st) l.row (frozen_linked z r i.shape s l h.knows (subst HasFrozen (sym h.activity) tt)) (mark_of c version) (stamped_mark z r i l.row m c version (i.shape.sane.locals s l h.knows).below.row (subst (IsActivity z) h.activity (i.shape.sane.locals s l h.knows).ranges.activity) e))) (λ d x. marked_more d l.rebalance.marks (mark_of c version) x) (stamped_here z r i l m c version l.rebalance.marks e)
-remembers_own z r r' s choice l a l' (remembers_last m c version e u) h i st = passes_one z r r' s choice l (FreezeLook m) l' h i st _ l' m z.seats refl tt (λ x. x) tt refl refl (u) (All-push (IsMarkOf r'.history r'.origin l.row) l.rebalance.marks (mark_of c version) (own_marks z r r' s choice l (FreezeLook m) l' h i st tt) (mark_lasts r.history r'.history r.origin r'.origin r.ledger.rows (goes z r r' s choice l (FreezeLook m) l' h i st) l.row (frozen_linked z r i.shape s l h.knows (subst HasFrozen (sym h.activity) tt)) (mark_of c version) (stamped_mark z r i l.row m c version (i.shape.sane.locals s l h.knows).below.row (subst (IsActivity z) h.activity (i.shape.sane.locals s l h.knows).ranges.activity) e))) (λ d x. marked_more d l.rebalance.marks (mark_of c version) x) (stamped_here z r i l m c version l.rebalance.marks e)
-remembers_own z r r' s choice l a l' (meets_frozen m e u) h i st = passes_one z r r' s choice l (FreezeLook m) l' h i st _ l' m (m + 1) refl tt (λ x. x) tt refl refl (omega arith) (own_marks z r r' s choice l (FreezeLook m) l' h i st tt) (λ d x. x) (λ p w y x. frozen_here z r i l m e p w y x)
-remembers_own z r r' s choice l a l' (meets_frozen_last m e u) h i st = passes_one z r r' s choice l (FreezeLook m) l' h i st _ l' m z.seats refl tt (λ x. x) tt refl refl (u) (own_marks z r r' s choice l (FreezeLook m) l' h i st tt) (λ d x. x) (λ p w y x. frozen_here z r i l m e p w y x)
-remembers_own z r r' s choice l a l' (freezes_entry m e u) h i st = passes_one z r r' s choice l (Freeze m) l' h i st _ l' m (m + 1) refl tt (λ x. x) tt refl refl (omega arith) (own_marks z r r' s choice l (Freeze m) l' h i st tt) (λ d x. x) (λ p w y x. froze_here z r i l m (subst (λ x. IsToFreeze x l) h.activity (i.puts.tries s l h.knows)) e _ _ x)
-remembers_own z r r' s choice l a l' (freezes_last m e u) h i st = passes_one z r r' s choice l (Freeze m) l' h i st _ l' m z.seats refl tt (λ x. x) tt refl refl (u) (own_marks z r r' s choice l (Freeze m) l' h i st tt) (λ d x. x) (λ p w y x. froze_here z r i l m (subst (λ x. IsToFreeze x l) h.activity (i.puts.tries s l h.knows)) e _ _ x)
-remembers_own z r r' s choice l a l' (looks_again m e) h i st = goes_on z r r' s choice l (Freeze m) l' h i st _ l' refl refl tt (λ x. x) (λ x. (tt, refl))
-remembers_own z r r' s choice l a l' (meets_quiet m e u) h i st = goes_on z r r' s choice l (ScanLook m) l' h i st _ l' refl refl tt (λ x. x) (λ x. (tt, refl))
-remembers_own z r r' s choice l a l' (helps_scan m clock e) h i st = goes_on z r r' s choice l (ScanLook m) l' h i st _ l' refl refl tt (λ x. x) (λ x. (tt, refl))
-remembers_own z r r' s choice l a l' (meets_drawn m version e u) h i st = goes_on z r r' s choice l (ScanLook m) l' h i st _ l' refl refl tt (λ x. x) (λ x. (tt, refl))
-remembers_own z r r' s choice l a l' (draws_for m) h i st = goes_on z r r' s choice l (HelpDraw m) l' h i st _ l' refl refl tt (λ x. x) (λ x. (tt, refl))
-remembers_own z r r' s choice l a l' (settles_scan m e u) h i st = goes_on z r r' s choice l (HelpSettle m) l' h i st _ l' refl refl tt (λ x. x) (λ x. (tt, refl))
-remembers_own z r r' s choice l a l' (finds_drawn m version e u) h i st = goes_on z r r' s choice l (HelpSettle m) l' h i st _ l' refl refl tt (λ x. x) (λ x. (tt, refl))
-remembers_own z r r' s choice l a l' (finds_no_scan m e u) h i st = goes_on z r r' s choice l (HelpSettle m) l' h i st _ l' refl refl tt (λ x. x) (λ x. (tt, refl))
-remembers_own z r r' s choice l a l' (meets_quiet_last m e u) h i st = takes_on z r r' s choice l (ScanLook m) l' h i st _ l' refl (λ x. x) (own_marks z r r' s choice l (ScanLook m) l' h i st tt)
-remembers_own z r r' s choice l a l' (meets_drawn_last m version e u) h i st = takes_on z r r' s choice l (ScanLook m) l' h i st _ l' refl (λ x. x) (own_marks z r r' s choice l (ScanLook m) l' h i st tt)
-remembers_own z r r' s choice l a l' (settles_last m e u) h i st = takes_on z r r' s choice l (HelpSettle m) l' h i st _ l' refl (λ x. x) (own_marks z r r' s choice l (HelpSettle m) l' h i st tt)
-remembers_own z r r' s choice l a l' (finds_drawn_last m version e u) h i st = takes_on z r r' s choice l (HelpSettle m) l' h i st _ l' refl (λ x. x) (own_marks z r r' s choice l (HelpSettle m) l' h i st tt)
-remembers_own z r r' s choice l a l' (finds_no_scan_last m e u) h i st = takes_on z r r' s choice l (HelpSettle m) l' h i st _ l' refl (λ x. x) (own_marks z r r' s choice l (HelpSettle m) l' h i st tt)
-remembers_own z r r' s choice l a l' (takes_no_more e u) h i st = takes_on z r r' s choice l TakeFrom l' h i st _ l' refl (λ x. x) (own_marks z r r' s choice l TakeFrom l' h i st tt)
-remembers_own z r r' s choice l a l' takes_key h i st = takes_on z r r' s choice l TakeKey l' h i st _ l' refl (λ x. x) (own_marks z r r' s choice l TakeKey l' h i st tt)
-remembers_own z r r' s choice l a l' takes_version h i st = takes_on z r r' s choice l TakeVersion l' h i st _ l' refl (λ x. x) (own_marks z r r' s choice l TakeVersion l' h i st tt)
-remembers_own z r r' s choice l a l' keeps_taken h i st = takes_on z r r' s choice l TakeValue l' h i st _ l' refl (λ x. x) (own_marks z r r' s choice l TakeValue l' h i st tt)
-remembers_own z r r' s choice l a l' takes_left_key h i st = takes_on z r r' s choice l TakeRestKey l' h i st _ l' refl (λ x. x) (own_marks z r r' s choice l TakeRestKey l' h i st tt)
-remembers_own z r r' s choice l a l' (keeps_no_more e) h i st = takes_on z r r' s choice l TakeRestValue l' h i st _ l' refl (λ x. x) (own_marks z r r' s choice l TakeRestValue l' h i st tt)
-remembers_own z r r' s choice l a l' (take_leads c e) h i st = takes_on z r r' s choice l TakeFrom l' h i st _ l' refl (λ x. x) (unmarked_in_range (IsMarkOf r'.history r'.origin l.row) c l.rebalance.marks (own_marks z r r' s choice l TakeFrom l' h i st tt))
-remembers_own z r r' s choice l a l' (takes_left m e u) h i st = takes_on z r r' s choice l TakeFrom l' h i st _ l' refl (λ x. x) (unmarked_in_range (IsMarkOf r'.history r'.origin l.row) m.cell l.rebalance.marks (own_marks z r r' s choice l TakeFrom l' h i st tt))
-remembers_own z r r' s choice l a l' (keeps_left m e) h i st = takes_on z r r' s choice l TakeRestValue l' h i st _ l' refl (λ x. x) (unmarked_in_range (IsMarkOf r'.history r'.origin l.row) m.cell l.rebalance.marks (own_marks z r r' s choice l TakeRestValue l' h i st tt))
+remembers_own z r r' s choice l a l' (meets_idle m e) h i st = goes_on z r r' s choice l (Activity.Rebalance (Rebalance.Freeze (Freeze.Look m))) l' h i st _ l' refl refl tt (λ x. x) (λ x. (tt, refl))
+remembers_own z r r' s choice l a l' (meets_unstamped m c e) h i st = goes_on z r r' s choice l (Activity.Rebalance (Rebalance.Freeze (Freeze.Look m))) l' h i st _ l' refl refl tt (λ x. x) (λ x. (tt, refl))
+remembers_own z r r' s choice l a l' (remembers m c version e u) h i st = passes_one z r r' s choice l (Activity.Rebalance (Rebalance.Freeze (Freeze.Look m))) l' h i st _ l' m (m + 1) refl tt (λ x. x) tt refl refl (omega arith) (All-push (IsMarkOf r'.history r'.origin l.row) l.rebalance.marks (mark_of c version) (own_marks z r r' s choice l (Activity.Rebalance (Rebalance.Freeze (Freeze.Look m))) l' h i st tt) (mark_lasts r.history r'.history r.origin r'.origin r.ledger.rows (goes z r r' s choice l (Activity.Rebalance (Rebalance.Freeze (Freeze.Look m))) l' h i st) l.row (frozen_linked z r i.shape s l h.knows (subst HasFrozen (sym h.activity) tt)) (mark_of c version) (stamped_mark z r i l.row m c version (i.shape.sane.locals s l h.knows).below.row (subst (IsActivity z) h.activity (i.shape.sane.locals s l h.knows).ranges.activity) e))) (λ d x. marked_more d l.rebalance.marks (mark_of c version) x) (stamped_here z r i l m c version l.rebalance.marks e)
+remembers_own z r r' s choice l a l' (remembers_last m c version e u) h i st = passes_one z r r' s choice l (Activity.Rebalance (Rebalance.Freeze (Freeze.Look m))) l' h i st _ l' m z.seats refl tt (λ x. x) tt refl refl (u) (All-push (IsMarkOf r'.history r'.origin l.row) l.rebalance.marks (mark_of c version) (own_marks z r r' s choice l (Activity.Rebalance (Rebalance.Freeze (Freeze.Look m))) l' h i st tt) (mark_lasts r.history r'.history r.origin r'.origin r.ledger.rows (goes z r r' s choice l (Activity.Rebalance (Rebalance.Freeze (Freeze.Look m))) l' h i st) l.row (frozen_linked z r i.shape s l h.knows (subst HasFrozen (sym h.activity) tt)) (mark_of c version) (stamped_mark z r i l.row m c version (i.shape.sane.locals s l h.knows).below.row (subst (IsActivity z) h.activity (i.shape.sane.locals s l h.knows).ranges.activity) e))) (λ d x. marked_more d l.rebalance.marks (mark_of c version) x) (stamped_here z r i l m c version l.rebalance.marks e)
+remembers_own z r r' s choice l a l' (meets_frozen m e u) h i st = passes_one z r r' s choice l (Activity.Rebalance (Rebalance.Freeze (Freeze.Look m))) l' h i st _ l' m (m + 1) refl tt (λ x. x) tt refl refl (omega arith) (own_marks z r r' s choice l (Activity.Rebalance (Rebalance.Freeze (Freeze.Look m))) l' h i st tt) (λ d x. x) (λ p w y x. frozen_here z r i l m e p w y x)
+remembers_own z r r' s choice l a l' (meets_frozen_last m e u) h i st = passes_one z r r' s choice l (Activity.Rebalance (Rebalance.Freeze (Freeze.Look m))) l' h i st _ l' m z.seats refl tt (λ x. x) tt refl refl (u) (own_marks z r r' s choice l (Activity.Rebalance (Rebalance.Freeze (Freeze.Look m))) l' h i st tt) (λ d x. x) (λ p w y x. frozen_here z r i l m e p w y x)
+remembers_own z r r' s choice l a l' (freezes_entry m e u) h i st = passes_one z r r' s choice l (Activity.Rebalance (Rebalance.Freeze (Freeze.Entry m))) l' h i st _ l' m (m + 1) refl tt (λ x. x) tt refl refl (omega arith) (own_marks z r r' s choice l (Activity.Rebalance (Rebalance.Freeze (Freeze.Entry m))) l' h i st tt) (λ d x. x) (λ p w y x. froze_here z r i l m (subst (λ x. IsToFreeze x l) h.activity (i.puts.tries s l h.knows)) e _ _ x)
+remembers_own z r r' s choice l a l' (freezes_last m e u) h i st = passes_one z r r' s choice l (Activity.Rebalance (Rebalance.Freeze (Freeze.Entry m))) l' h i st _ l' m z.seats refl tt (λ x. x) tt refl refl (u) (own_marks z r r' s choice l (Activity.Rebalance (Rebalance.Freeze (Freeze.Entry m))) l' h i st tt) (λ d x. x) (λ p w y x. froze_here z r i l m (subst (λ x. IsToFreeze x l) h.activity (i.puts.tries s l h.knows)) e _ _ x)
+remembers_own z r r' s choice l a l' (looks_again m e) h i st = goes_on z r r' s choice l (Activity.Rebalance (Rebalance.Freeze (Freeze.Entry m))) l' h i st _ l' refl refl tt (λ x. x) (λ x. (tt, refl))
+remembers_own z r r' s choice l a l' (meets_quiet m e u) h i st = goes_on z r r' s choice l (Activity.Rebalance (Rebalance.Freeze (Freeze.Scan m))) l' h i st _ l' refl refl tt (λ x. x) (λ x. (tt, refl))
+remembers_own z r r' s choice l a l' (helps_scan m clock e) h i st = goes_on z r r' s choice l (Activity.Rebalance (Rebalance.Freeze (Freeze.Scan m))) l' h i st _ l' refl refl tt (λ x. x) (λ x. (tt, refl))
+remembers_own z r r' s choice l a l' (meets_drawn m version e u) h i st = goes_on z r r' s choice l (Activity.Rebalance (Rebalance.Freeze (Freeze.Scan m))) l' h i st _ l' refl refl tt (λ x. x) (λ x. (tt, refl))
+remembers_own z r r' s choice l a l' (draws_for m) h i st = goes_on z r r' s choice l (Activity.Rebalance (Rebalance.Freeze (Freeze.Draw m))) l' h i st _ l' refl refl tt (λ x. x) (λ x. (tt, refl))
+remembers_own z r r' s choice l a l' (settles_scan m e u) h i st = goes_on z r r' s choice l (Activity.Rebalance (Rebalance.Freeze (Freeze.Settle m))) l' h i st _ l' refl refl tt (λ x. x) (λ x. (tt, refl))
+remembers_own z r r' s choice l a l' (finds_drawn m version e u) h i st = goes_on z r r' s choice l (Activity.Rebalance (Rebalance.Freeze (Freeze.Settle m))) l' h i st _ l' refl refl tt (λ x. x) (λ x. (tt, refl))
+remembers_own z r r' s choice l a l' (finds_no_scan m e u) h i st = goes_on z r r' s choice l (Activity.Rebalance (Rebalance.Freeze (Freeze.Settle m))) l' h i st _ l' refl refl tt (λ x. x) (λ x. (tt, refl))
+remembers_own z r r' s choice l a l' (meets_quiet_last m e u) h i st = takes_on z r r' s choice l (Activity.Rebalance (Rebalance.Freeze (Freeze.Scan m))) l' h i st _ l' refl (λ x. x) (own_marks z r r' s choice l (Activity.Rebalance (Rebalance.Freeze (Freeze.Scan m))) l' h i st tt)
+remembers_own z r r' s choice l a l' (meets_drawn_last m version e u) h i st = takes_on z r r' s choice l (Activity.Rebalance (Rebalance.Freeze (Freeze.Scan m))) l' h i st _ l' refl (λ x. x) (own_marks z r r' s choice l (Activity.Rebalance (Rebalance.Freeze (Freeze.Scan m))) l' h i st tt)
+remembers_own z r r' s choice l a l' (settles_last m e u) h i st = takes_on z r r' s choice l (Activity.Rebalance (Rebalance.Freeze (Freeze.Settle m))) l' h i st _ l' refl (λ x. x) (own_marks z r r' s choice l (Activity.Rebalance (Rebalance.Freeze (Freeze.Settle m))) l' h i st tt)
+remembers_own z r r' s choice l a l' (finds_drawn_last m version e u) h i st = takes_on z r r' s choice l (Activity.Rebalance (Rebalance.Freeze (Freeze.Settle m))) l' h i st _ l' refl (λ x. x) (own_marks z r r' s choice l (Activity.Rebalance (Rebalance.Freeze (Freeze.Settle m))) l' h i st tt)
+remembers_own z r r' s choice l a l' (finds_no_scan_last m e u) h i st = takes_on z r r' s choice l (Activity.Rebalance (Rebalance.Freeze (Freeze.Settle m))) l' h i st _ l' refl (λ x. x) (own_marks z r r' s choice l (Activity.Rebalance (Rebalance.Freeze (Freeze.Settle m))) l' h i st tt)
+remembers_own z r r' s choice l a l' (takes_no_more e u) h i st = takes_on z r r' s choice l (Activity.Rebalance (Rebalance.Gather Gather.Link)) l' h i st _ l' refl (λ x. x) (own_marks z r r' s choice l (Activity.Rebalance (Rebalance.Gather Gather.Link)) l' h i st tt)
+remembers_own z r r' s choice l a l' takes_key h i st = takes_on z r r' s choice l (Activity.Rebalance (Rebalance.Gather Gather.Key)) l' h i st _ l' refl (λ x. x) (own_marks z r r' s choice l (Activity.Rebalance (Rebalance.Gather Gather.Key)) l' h i st tt)
+remembers_own z r r' s choice l a l' takes_version h i st = takes_on z r r' s choice l (Activity.Rebalance (Rebalance.Gather Gather.Version)) l' h i st _ l' refl (λ x. x) (own_marks z r r' s choice l (Activity.Rebalance (Rebalance.Gather Gather.Version)) l' h i st tt)
+remembers_own z r r' s choice l a l' keeps_taken h i st = takes_on z r r' s choice l (Activity.Rebalance (Rebalance.Gather Gather.Value)) l' h i st _ l' refl (λ x. x) (own_marks z r r' s choice l (Activity.Rebalance (Rebalance.Gather Gather.Value)) l' h i st tt)
+remembers_own z r r' s choice l a l' takes_left_key h i st = takes_on z r r' s choice l (Activity.Rebalance (Rebalance.Gather Gather.LeftOverKey)) l' h i st _ l' refl (λ x. x) (own_marks z r r' s choice l (Activity.Rebalance (Rebalance.Gather Gather.LeftOverKey)) l' h i st tt)
+remembers_own z r r' s choice l a l' (keeps_no_more e) h i st = takes_on z r r' s choice l (Activity.Rebalance (Rebalance.Gather Gather.LeftOverValue)) l' h i st _ l' refl (λ x. x) (own_marks z r r' s choice l (Activity.Rebalance (Rebalance.Gather Gather.LeftOverValue)) l' h i st tt)
+remembers_own z r r' s choice l a l' (take_leads c e) h i st = takes_on z r r' s choice l (Activity.Rebalance (Rebalance.Gather Gather.Link)) l' h i st _ l' refl (λ x. x) (unmarked_in_range (IsMarkOf r'.history r'.origin l.row) c l.rebalance.marks (own_marks z r r' s choice l (Activity.Rebalance (Rebalance.Gather Gather.Link)) l' h i st tt))
+remembers_own z r r' s choice l a l' (takes_left m e u) h i st = takes_on z r r' s choice l (Activity.Rebalance (Rebalance.Gather Gather.Link)) l' h i st _ l' refl (λ x. x) (unmarked_in_range (IsMarkOf r'.history r'.origin l.row) m.cell l.rebalance.marks (own_marks z r r' s choice l (Activity.Rebalance (Rebalance.Gather Gather.Link)) l' h i st tt))
+remembers_own z r r' s choice l a l' (keeps_left m e) h i st = takes_on z r r' s choice l (Activity.Rebalance (Rebalance.Gather Gather.LeftOverValue)) l' h i st _ l' refl (λ x. x) (unmarked_in_range (IsMarkOf r'.history r'.origin l.row) m.cell l.rebalance.marks (own_marks z r r' s choice l (Activity.Rebalance (Rebalance.Gather Gather.LeftOverValue)) l' h i st tt))
 remembers_own z r r' s choice l a l' (meets_stamped j c version next e n) h i st = unfrozen z r r' s choice l _ l' h i st next l' (look_freezes z _ next n) (before_taking next (look_freezes z _ next n))
 remembers_own z r r' s choice l a l' (meets_neither j next e n) h i st = unfrozen z r r' s choice l _ l' h i st next l' (look_freezes z _ next n) (before_taking next (look_freezes z _ next n))
 remembers_own z r r' s choice l a l' (is_passed next e n) h i st = unfrozen z r r' s choice l _ l' h i st next l' (look_freezes z _ next n) (before_taking next (look_freezes z _ next n))

@@ -7,7 +7,10 @@ use Rattle.kw_words.specs.declared.layout.Name.TheVariants as name
 use Rattle.kw_words.specs.declared.count.Count.{Count as Counted}
 use Rattle.kw_words.specs.Count.{count_of}
 use Rattle.kw_world.specs.declared.activity.Activity.{Activity}
-use Rattle.kw_world.specs.declared.activity.Activity.TheVariants.{Announce, PutAdd, WriteVersion, FreezeCount}
+use Rattle.kw_world.specs.declared.activity.rebalance.freeze.Freeze.TheVariants as Freeze
+use Rattle.kw_world.specs.declared.activity.put.Put.TheVariants as Put
+use Rattle.kw_world.specs.declared.activity.rebalance.Rebalance.TheVariants as Rebalance
+use Rattle.kw_world.specs.declared.activity.rebalance.write.Write.TheVariants as Write
 use Rattle.kw_world.specs.declared.local.Local.{Local}
 use Rattle.kw_world.specs.declared.event.Choice.{Choice}
 use Rattle.kw_world.specs.Sizes.{Sizes}
@@ -48,7 +51,7 @@ added r v s l = record { call = (r.seats s).call; seat = s; key = first_key l.ca
 
 -- the event gives the seat a cell
 pub record IsGiving (z : Sizes) (r : Run) (l : Local) (a : Activity) : Type 0 where
-  pub takes : a ≡ PutAdd
+  pub takes : a ≡ Activity.Put Put.Add
   pub room : has_room z (count_of (word z r.world (name.Count l.row))) ≡ true
 
 -- the attempt is the one that this event adds
@@ -98,13 +101,13 @@ lost_was h h' e q n p w x = which (cases_eq p q)
     which (inr y) = sym (ap (λ k. k.is_announced) (attempt_left h h' e p (Loses q) y n w)) ∙ x
 
 -- over a change: an attempt that is announced was so, or is the seat's own and is announced now
-announced_or_now : (z : Sizes) (r r' : Run) (s : ℕ) (choice : Choice) (l : Local) (a : Activity) (c : Change) (e : Logged) → Makes z (word z r.world) s choice l (r.seats s) r.origin a c → r'.history ≡ noted r.history e c → (p : ℕ) → p < length r.history.attempts → (attempt r'.history p).is_announced ≡ true → ((attempt r.history p).is_announced ≡ true) ⊎ (a ≡ Announce) × (p ≡ (r.seats s).own)
+announced_or_now : (z : Sizes) (r r' : Run) (s : ℕ) (choice : Choice) (l : Local) (a : Activity) (c : Change) (e : Logged) → Makes z (word z r.world) s choice l (r.seats s) r.origin a c → r'.history ≡ noted r.history e c → (p : ℕ) → p < length r.history.attempts → (attempt r'.history p).is_announced ≡ true → ((attempt r.history p).is_announced ≡ true) ⊎ (a ≡ Activity.Put Put.Announce) × (p ≡ (r.seats s).own)
 announced_or_now z r r' s choice l a c e (makes_nothing b) n p w x = inl (sym (ap (λ k. k.is_announced) (attempt_left r.history r'.history e p Nothing tt n w)) ∙ x)
 announced_or_now z r r' s choice l a c e (makes_begin call m) n p w x = inl (sym (ap (λ k. k.is_announced) (attempt_left r.history r'.history e p (Begins s (l.number + 1) call) tt n w)) ∙ x)
 announced_or_now z r r' s choice l a c e (makes_add m) n p w x = inl (sym (ap (λ k. k.is_announced) (attempt_left r.history r'.history e p (Adds (r.seats s).call s (first_key l.call) (put_value l.call) l.row (given_in (word z r.world) l.row)) tt n w)) ∙ x)
 announced_or_now z r r' s choice l a c e (makes_announce m) n p w x = which (cases_eq p (r.seats s).own)
   where
-    which : (p ≡ (r.seats s).own) ⊎ (p ≡ (r.seats s).own → ⊥) → ((attempt r.history p).is_announced ≡ true) ⊎ (Announce ≡ Announce) × (p ≡ (r.seats s).own)
+    which : (p ≡ (r.seats s).own) ⊎ (p ≡ (r.seats s).own → ⊥) → ((attempt r.history p).is_announced ≡ true) ⊎ ((Activity.Put Put.Announce) ≡ Activity.Put Put.Announce) × (p ≡ (r.seats s).own)
     which (inl y) = inr (refl, y)
     which (inr y) = inl (sym (ap (λ k. k.is_announced) (attempt_left r.history r'.history e p (Announces (r.seats s).own) y n w)) ∙ x)
 announced_or_now z r r' s choice l a c e (makes_stamp m) n p w x = inl (stamped_was r.history r'.history e (r.seats s).own l.version (r.seats s).loaded n p w x)
@@ -131,30 +134,30 @@ module _ {z : Sizes} {r r' : Run} {s : ℕ} {choice : Choice} {l l' : Local} whe
   attempt_was a h = old_or_new z r r' s choice l a _ _ (made z (word z r.world) s choice l (r.seats s) r.origin a) h.history
 
   -- an announced attempt was so, or is the seat's own
-  pub announced_was : (a : Activity) → Happens z r r' s choice l l' a → (p : ℕ) → p < length r.history.attempts → (attempt r'.history p).is_announced ≡ true → ((attempt r.history p).is_announced ≡ true) ⊎ (a ≡ Announce) × (p ≡ (r.seats s).own)
+  pub announced_was : (a : Activity) → Happens z r r' s choice l l' a → (p : ℕ) → p < length r.history.attempts → (attempt r'.history p).is_announced ≡ true → ((attempt r.history p).is_announced ≡ true) ⊎ (a ≡ Activity.Put Put.Announce) × (p ≡ (r.seats s).own)
   announced_was a h = announced_or_now z r r' s choice l a _ _ (made z (word z r.world) s choice l (r.seats s) r.origin a) h.history
 
   -- the attempts of a seat that is given a cell are one more
-  pub one_more : Happens z r r' s choice l l' PutAdd → has_room z (count_of (word z r.world (name.Count l.row))) ≡ true → r'.history.attempts ≡ r.history.attempts ++ added r (word z r.world) s l ∷ []
+  pub one_more : Happens z r r' s choice l l' (Activity.Put Put.Add) → has_room z (count_of (word z r.world (name.Count l.row))) ≡ true → r'.history.attempts ≡ r.history.attempts ++ added r (word z r.world) s l ∷ []
   one_more h m = ap (λ x. x.attempts) (rw m at h.history)
 
   -- it is the last one
-  pub one_more_is : Happens z r r' s choice l l' PutAdd → has_room z (count_of (word z r.world (name.Count l.row))) ≡ true → attempt r'.history (length r.history.attempts) ≡ added r (word z r.world) s l
+  pub one_more_is : Happens z r r' s choice l l' (Activity.Put Put.Add) → has_room z (count_of (word z r.world (name.Count l.row))) ≡ true → attempt r'.history (length r.history.attempts) ≡ added r (word z r.world) s l
   one_more_is h m = attempt_push_new r.history r'.history (length r.history.attempts) _ (one_more h m) refl
 
   -- and is one of the list
-  pub one_more_within : Happens z r r' s choice l l' PutAdd → has_room z (count_of (word z r.world (name.Count l.row))) ≡ true → length r.history.attempts < length r'.history.attempts
+  pub one_more_within : Happens z r r' s choice l l' (Activity.Put Put.Add) → has_room z (count_of (word z r.world (name.Count l.row))) ≡ true → length r.history.attempts < length r'.history.attempts
   one_more_within h m = omega (arith, ap length (one_more h m), length-append r.history.attempts (added r (word z r.world) s l ∷ []))
 
   -- as many cells of a row that is or was linked were asked for as before, or one more is
   pub given_was : (a : Activity) → Happens z r r' s choice l l' a → Shape z r → (q : ℕ) → WasLinked r.ledger.rows q →
-      (given_in (word z r'.world) q ≡ given_in (word z r.world) q) ⊎ (a ≡ PutAdd) × (q ≡ l.row)
-  given_was PutAdd h i q w = which (cases_eq q l.row)
+      (given_in (word z r'.world) q ≡ given_in (word z r.world) q) ⊎ (a ≡ Activity.Put Put.Add) × (q ≡ l.row)
+  given_was (Activity.Put Put.Add) h i q w = which (cases_eq q l.row)
     where
-      which : (q ≡ l.row) ⊎ (q ≡ l.row → ⊥) → (given_in (word z r'.world) q ≡ given_in (word z r.world) q) ⊎ (PutAdd ≡ PutAdd) × (q ≡ l.row)
+      which : (q ≡ l.row) ⊎ (q ≡ l.row → ⊥) → (given_in (word z r'.world) q ≡ given_in (word z r.world) q) ⊎ ((Activity.Put Put.Add) ≡ Activity.Put Put.Add) × (q ≡ l.row)
       which (inl e) = inr (refl, e)
-      which (inr d) = inl (ap (λ k. given_of (count_of k)) (linked_count_word PutAdd h i q w (λ x e. d e)))
-  given_was FreezeCount h i q w = inl (which (cases_eq q l.row))
+      which (inr d) = inl (ap (λ k. given_of (count_of k)) (linked_count_word (Activity.Put Put.Add) h i q w (λ x e. d e)))
+  given_was (Activity.Rebalance (Rebalance.Freeze Freeze.Count)) h i q w = inl (which (cases_eq q l.row))
     where
       frozen : (x : Option Counted) → count_of (word z r.world (name.Count l.row)) ≡ x → IsGiven x → given_in (word z r'.world) l.row ≡ given_in (word z r.world) l.row
       frozen (Some c) e y = ap given_of (freezes_given h c e) ∙ ap given_of (sym e)
@@ -162,7 +165,7 @@ module _ {z : Sizes} {r r' : Run} {s : ℕ} {choice : Choice} {l l' : Local} whe
 
       which : (q ≡ l.row) ⊎ (q ≡ l.row → ⊥) → given_in (word z r'.world) q ≡ given_in (word z r.world) q
       which (inl e) = rw e (frozen _ refl (i.sane.each (name.Count l.row) (i.sane.locals s l h.knows).below.row))
-      which (inr d) = ap (λ k. given_of (count_of k)) (linked_count_word FreezeCount h i q w (λ x e. d e))
+      which (inr d) = ap (λ k. given_of (count_of k)) (linked_count_word (Activity.Rebalance (Rebalance.Freeze Freeze.Count)) h i q w (λ x e. d e))
   given_was a h i q w = inl (ap (λ k. given_of (count_of k)) (linked_count_word a h i q w (λ x e. x)))
 
   -- a frozen row stays frozen
@@ -170,14 +173,14 @@ module _ {z : Sizes} {r r' : Run} {s : ℕ} {choice : Choice} {l l' : Local} whe
   stays_frozen a h i q w f = (linked_keeps a h i q w).frozen f
 
   -- an attempt that never gets a version is so still, or is the seat's own and is announced now
-  pub over_stays : (a : Activity) → Happens z r r' s choice l l' a → Step r.history r'.history (log_entry z r a s choice l) → (p : ℕ) → p < length r.history.attempts → IsOver r.history p → IsOver r'.history p ⊎ (a ≡ Announce) × (p ≡ (r.seats s).own)
+  pub over_stays : (a : Activity) → Happens z r r' s choice l l' a → Step r.history r'.history (log_entry z r a s choice l) → (p : ℕ) → p < length r.history.attempts → IsOver r.history p → IsOver r'.history p ⊎ (a ≡ Activity.Put Put.Announce) × (p ≡ (r.seats s).own)
   over_stays a h st p w o = which (st.attempts p (omega (arith, w, st.more_attempts)))
     where
-      announced : (attempt r'.history p).is_stamped ≡ false → (attempt r'.history p).is_announced ≡ true → ((attempt r.history p).is_lost ≡ true → (attempt r'.history p).is_lost ≡ true) → ((attempt r.history p).is_lost ≡ true) ⊎ ((attempt r.history p).is_announced ≡ false) → IsOver r'.history p ⊎ (a ≡ Announce) × (p ≡ (r.seats s).own)
+      announced : (attempt r'.history p).is_stamped ≡ false → (attempt r'.history p).is_announced ≡ true → ((attempt r.history p).is_lost ≡ true → (attempt r'.history p).is_lost ≡ true) → ((attempt r.history p).is_lost ≡ true) ⊎ ((attempt r.history p).is_announced ≡ false) → IsOver r'.history p ⊎ (a ≡ Activity.Put Put.Announce) × (p ≡ (r.seats s).own)
       announced n x f (inl y) = inl (record { unstamped = n; over = inl (f y) })
       announced n x f (inr y) = by (announced_was a h p w x)
         where
-          by : ((attempt r.history p).is_announced ≡ true) ⊎ (a ≡ Announce) × (p ≡ (r.seats s).own) → IsOver r'.history p ⊎ (a ≡ Announce) × (p ≡ (r.seats s).own)
+          by : ((attempt r.history p).is_announced ≡ true) ⊎ (a ≡ Activity.Put Put.Announce) × (p ≡ (r.seats s).own) → IsOver r'.history p ⊎ (a ≡ Activity.Put Put.Announce) × (p ≡ (r.seats s).own)
           by (inl v) = true_false v y
           by (inr v) = inr v
 
@@ -185,7 +188,7 @@ module _ {z : Sizes} {r r' : Run} {s : ℕ} {choice : Choice} {l l' : Local} whe
       never x y (inl v) = true_false v y
       never x y (inr v) = true_false x v
 
-      which : AttemptStep r.history r'.history p → IsOver r'.history p ⊎ (a ≡ Announce) × (p ≡ (r.seats s).own)
+      which : AttemptStep r.history r'.history p → IsOver r'.history p ⊎ (a ≡ Activity.Put Put.Announce) × (p ≡ (r.seats s).own)
       which (as_it_was v e) = inl (record { unstamped = rw e o.unstamped; over = rw e o.over })
       which (is_added x n e c y m u v j) = absurd (omega (arith, w, n))
       which (is_announced v n e) = announced (rw e o.unstamped) (rw e refl) (λ x. rw e x) o.over
@@ -193,19 +196,19 @@ module _ {z : Sizes} {r r' : Run} {s : ℕ} {choice : Choice} {l l' : Local} whe
       which (is_stamped version load v x n y u m b e put) = absurd (never x y o.over)
 
   -- the cell is given to the new attempt
-  pub origin_new : Happens z r r' s choice l l' PutAdd → has_room z (count_of (word z r.world (name.Count l.row))) ≡ true → r'.origin l.row (given_in (word z r.world) l.row) ≡ Some (length r.history.attempts)
+  pub origin_new : Happens z r r' s choice l l' (Activity.Put Put.Add) → has_room z (count_of (word z r.world (name.Count l.row))) ≡ true → r'.origin l.row (given_in (word z r.world) l.row) ≡ Some (length r.history.attempts)
   origin_new h m = subst (λ o. o l.row (given_in (word z r.world) l.row) ≡ Some (length r.history.attempts)) (sym (rw m at h.origin)) (rw (eq-eqb l.row l.row refl, eq-eqb (given_in (word z r.world) l.row) (given_in (word z r.world) l.row) refl) refl)
 
   -- what a cell of a row that is or was linked stands for is as it was, or the cell is given now
   pub origin_was : (a : Activity) → Happens z r r' s choice l l' a → Shape z r → (q c : ℕ) → WasLinked r.ledger.rows q → (r'.origin q c ≡ r.origin q c) ⊎ IsGiving z r l a × (q ≡ l.row) × (c ≡ given_in (word z r.world) l.row) × (r'.origin q c ≡ Some (length r.history.attempts))
-  origin_was PutAdd h i q c k = subst (λ o. (o q c ≡ r.origin q c) ⊎ IsGiving z r l PutAdd × (q ≡ l.row) × (c ≡ given_in (word z r.world) l.row) × (o q c ≡ Some (length r.history.attempts))) (sym h.origin) (met (has_room z (count_of (word z r.world (name.Count l.row)))) refl)
+  origin_was (Activity.Put Put.Add) h i q c k = subst (λ o. (o q c ≡ r.origin q c) ⊎ IsGiving z r l (Activity.Put Put.Add) × (q ≡ l.row) × (c ≡ given_in (word z r.world) l.row) × (o q c ≡ Some (length r.history.attempts))) (sym h.origin) (met (has_room z (count_of (word z r.world (name.Count l.row)))) refl)
     where
-      at : (b : Bool) → ((q == l.row) && (c == given_in (word z r.world) l.row)) ≡ b → has_room z (count_of (word z r.world (name.Count l.row))) ≡ true → ((if b then Some (length r.history.attempts) else r.origin q c) ≡ r.origin q c) ⊎ IsGiving z r l PutAdd × (q ≡ l.row) × (c ≡ given_in (word z r.world) l.row) × ((if b then Some (length r.history.attempts) else r.origin q c) ≡ Some (length r.history.attempts))
+      at : (b : Bool) → ((q == l.row) && (c == given_in (word z r.world) l.row)) ≡ b → has_room z (count_of (word z r.world (name.Count l.row))) ≡ true → ((if b then Some (length r.history.attempts) else r.origin q c) ≡ r.origin q c) ⊎ IsGiving z r l (Activity.Put Put.Add) × (q ≡ l.row) × (c ≡ given_in (word z r.world) l.row) × ((if b then Some (length r.history.attempts) else r.origin q c) ≡ Some (length r.history.attempts))
       at true e m = let t = and_parts (q == l.row) (c == given_in (word z r.world) l.row) e in inr (record { takes = refl; room = m }, eq_from q l.row t.0, eq_from _ _ t.1, refl)
       at false e m = inl refl
 
-      met : (b : Bool) → has_room z (count_of (word z r.world (name.Count l.row))) ≡ b → ((let o : Origins = if b then with_origin r.origin l.row (given_in (word z r.world) l.row) (length r.history.attempts) else r.origin in o) q c ≡ r.origin q c) ⊎ IsGiving z r l PutAdd × (q ≡ l.row) × (c ≡ given_in (word z r.world) l.row) × ((let o : Origins = if b then with_origin r.origin l.row (given_in (word z r.world) l.row) (length r.history.attempts) else r.origin in o) q c ≡ Some (length r.history.attempts))
+      met : (b : Bool) → has_room z (count_of (word z r.world (name.Count l.row))) ≡ b → ((let o : Origins = if b then with_origin r.origin l.row (given_in (word z r.world) l.row) (length r.history.attempts) else r.origin in o) q c ≡ r.origin q c) ⊎ IsGiving z r l (Activity.Put Put.Add) × (q ≡ l.row) × (c ≡ given_in (word z r.world) l.row) × ((let o : Origins = if b then with_origin r.origin l.row (given_in (word z r.world) l.row) (length r.history.attempts) else r.origin in o) q c ≡ Some (length r.history.attempts))
       met true m = at _ refl m
       met false m = inl refl
-  origin_was (WriteVersion j) h i q c k = inl (origin_stays (WriteVersion j) h q c (λ x. not_hand (WriteVersion j) h i tt q k x.0))
+  origin_was (Activity.Rebalance (Rebalance.Write (Write.Version j))) h i q c k = inl (origin_stays (Activity.Rebalance (Rebalance.Write (Write.Version j))) h q c (λ x. not_hand (Activity.Rebalance (Rebalance.Write (Write.Version j))) h i tt q k x.0))
   origin_was a h i q c k = inl (ap (λ o. o q c) h.origin)

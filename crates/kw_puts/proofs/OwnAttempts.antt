@@ -13,7 +13,10 @@ use Rattle.kw_words.proofs.PlainWords.{key_of_word-key_word, value_of_word-value
 use Rattle.kw_model.specs.declared.call.Call.{Call}
 use Rattle.kw_model.specs.declared.call.Call.TheVariants.{Put, Del, Get, Scan}
 use Rattle.kw_world.specs.declared.activity.Activity.{Activity}
-use Rattle.kw_world.specs.declared.activity.Activity.TheVariants.{PutAdd, PutKey, PutValue, Announce, PutClock, Stamp, PutVersion, InsFrom, InsKey, InsVer, InsSet, Insert, PutClear, Freeze}
+use Rattle.kw_world.specs.declared.activity.rebalance.freeze.Freeze.TheVariants as Freeze
+use Rattle.kw_world.specs.declared.activity.insert.Insert.TheVariants as Insert
+use Rattle.kw_world.specs.declared.activity.put.Put.TheVariants as Put
+use Rattle.kw_world.specs.declared.activity.rebalance.Rebalance.TheVariants as Rebalance
 use Rattle.kw_world.specs.declared.local.Local.{Local}
 use Rattle.kw_world.specs.declared.event.Choice.{Choice}
 use Rattle.kw_world.specs.Sizes.{Sizes}
@@ -54,40 +57,24 @@ use Rattle.kw_puts.proofs.NewAttempts.{added, one_more_is, one_more_within}
 
 -- a seat that inserts its cell puts it, and has announced, stamped and stored it
 pub inserting_puts : (a : Activity) → IsInserting a → IsPutting a
-inserting_puts InsFrom m = tt
-inserting_puts InsKey m = tt
-inserting_puts InsVer m = tt
-inserting_puts InsSet m = tt
-inserting_puts Insert m = tt
+inserting_puts (Activity.Insert _) m = tt
 inserting_puts _ m = absurd m
 
 pub inserting_published : (a : Activity) → IsInserting a → IsPublished a
-inserting_published InsFrom m = tt
-inserting_published InsKey m = tt
-inserting_published InsVer m = tt
-inserting_published InsSet m = tt
-inserting_published Insert m = tt
+inserting_published (Activity.Insert _) m = tt
 inserting_published _ m = absurd m
 
 pub inserting_stamped : (a : Activity) → IsInserting a → IsStamped a
-inserting_stamped InsFrom m = tt
-inserting_stamped InsKey m = tt
-inserting_stamped InsVer m = tt
-inserting_stamped InsSet m = tt
-inserting_stamped Insert m = tt
+inserting_stamped (Activity.Insert _) m = tt
 inserting_stamped _ m = absurd m
 
 pub inserting_stored : (a : Activity) → IsInserting a → IsStored a
-inserting_stored InsFrom m = tt
-inserting_stored InsKey m = tt
-inserting_stored InsVer m = tt
-inserting_stored InsSet m = tt
-inserting_stored Insert m = tt
+inserting_stored (Activity.Insert _) m = tt
 inserting_stored _ m = absurd m
 
 -- it freezes no entry
 inserting_freezes : (t : ℕ) (a : Activity) → IsInserting a → FreezesEntry t a → ⊥
-inserting_freezes t (Freeze i) m x = m
+inserting_freezes t (Activity.Rebalance (Rebalance.Freeze (Freeze.Entry i))) m x = m
 inserting_freezes t _ m x = x
 
 -- What a seat with a cell knows, and what it meets.
@@ -107,7 +94,7 @@ below_end z r i p x =
     omega (arith, y, c.1)
 
 -- its entry is idle or frozen where it is about to announce its cell
-pub idle_or_frozen : (z : Sizes) (r : Run) (s : ℕ) (l : Local) → Below z r → s < z.seats → slice_get r.world.locals s ≡ Some l → l.activity ≡ Announce → (word z r.world (name.Pend l.row s) ≡ pend_word pend.Idle) ⊎ (word z r.world (name.Pend l.row s) ≡ pend_word pend.Frozen)
+pub idle_or_frozen : (z : Sizes) (r : Run) (s : ℕ) (l : Local) → Below z r → s < z.seats → slice_get r.world.locals s ≡ Some l → l.activity ≡ Activity.Put Put.Announce → (word z r.world (name.Pend l.row s) ≡ pend_word pend.Idle) ⊎ (word z r.world (name.Pend l.row s) ≡ pend_word pend.Frozen)
 idle_or_frozen z r s l i o k e = which (i.puts.entry l.row s (i.shape.sane.locals s l k).below.row o)
   where
     which : (word z r.world (name.Pend l.row s) ≡ pend_word pend.Idle) ⊎ (word z r.world (name.Pend l.row s) ≡ pend_word pend.Frozen) ⊎ IsPublishedAt (slice_get r.world.locals) l.row s → (word z r.world (name.Pend l.row s) ≡ pend_word pend.Idle) ⊎ (word z r.world (name.Pend l.row s) ≡ pend_word pend.Frozen)
@@ -115,11 +102,11 @@ idle_or_frozen z r s l i o k e = which (i.puts.entry l.row s (i.shape.sane.local
     which (inr (inl x)) = inr x
     which (inr (inr p)) =
         let same : p.local ≡ l = same_Some p.local l (sym p.knows ∙ k) in
-        let x : IsPublished Announce = subst IsPublished e (subst (λ (q : Local). IsPublished q.activity) same p.published) in
+        let x : IsPublished (Activity.Put Put.Announce) = subst IsPublished e (subst (λ (q : Local). IsPublished q.activity) same p.published) in
         absurd x
 
 -- so it is frozen where the announcement fails
-pub refused_frozen : (z : Sizes) (r : Run) (s : ℕ) (l : Local) → Below z r → s < z.seats → slice_get r.world.locals s ≡ Some l → l.activity ≡ Announce → word z r.world (name.Pend l.row s) ≢ pend_word pend.Idle → word z r.world (name.Pend l.row s) ≡ pend_word pend.Frozen
+pub refused_frozen : (z : Sizes) (r : Run) (s : ℕ) (l : Local) → Below z r → s < z.seats → slice_get r.world.locals s ≡ Some l → l.activity ≡ Activity.Put Put.Announce → word z r.world (name.Pend l.row s) ≢ pend_word pend.Idle → word z r.world (name.Pend l.row s) ≡ pend_word pend.Frozen
 refused_frozen z r s l i o k e n = which (idle_or_frozen z r s l i o k e)
   where
     which : (word z r.world (name.Pend l.row s) ≡ pend_word pend.Idle) ⊎ (word z r.world (name.Pend l.row s) ≡ pend_word pend.Frozen) → word z r.world (name.Pend l.row s) ≡ pend_word pend.Frozen
@@ -146,7 +133,7 @@ stamped_entry p c version f e = met p.is_lost p.is_stamped refl refl
     met false false k y = let x : pend_word (pend.Pending p.cell) ≡ pend_word (pend.Stamped c version) = rw (k, y) at e in absurd (omega (arith, x))
 
 -- a seat that is about to stamp and whose entry is not its own has lost its attempt
-pub lost_entry : (z : Sizes) (r : Run) (s : ℕ) (l : Local) → Below z r → OwnsAttempt (word z r.world) r.history s l.activity l (r.seats s) → slice_get r.world.locals s ≡ Some l → l.activity ≡ Stamp → IsNotOwn l.cell (word z r.world (name.Pend l.row s)) → (attempt r.history (r.seats s).own).is_lost ≡ true
+pub lost_entry : (z : Sizes) (r : Run) (s : ℕ) (l : Local) → Below z r → OwnsAttempt (word z r.world) r.history s l.activity l (r.seats s) → slice_get r.world.locals s ≡ Some l → l.activity ≡ Activity.Put Put.Stamp → IsNotOwn l.cell (word z r.world (name.Pend l.row s)) → (attempt r.history (r.seats s).own).is_lost ≡ true
 lost_entry z r s l i own k e n = lost (attempt r.history (r.seats s).own).is_lost refl
   where
     cell : l.cell < z.cells
@@ -168,7 +155,7 @@ lost_entry z r s l i own k e n = lost (attempt r.history (r.seats s).own).is_los
     lost false y = absurd (which y (attempt r.history (r.seats s).own).is_stamped refl)
 
 -- and finds its entry frozen
-pub lost_frozen : (z : Sizes) (r : Run) (s : ℕ) (l : Local) → Below z r → OwnsAttempt (word z r.world) r.history s l.activity l (r.seats s) → slice_get r.world.locals s ≡ Some l → l.activity ≡ Stamp → IsNotOwn l.cell (word z r.world (name.Pend l.row s)) → word z r.world (name.Pend l.row s) ≡ pend_word pend.Frozen
+pub lost_frozen : (z : Sizes) (r : Run) (s : ℕ) (l : Local) → Below z r → OwnsAttempt (word z r.world) r.history s l.activity l (r.seats s) → slice_get r.world.locals s ≡ Some l → l.activity ≡ Activity.Put Put.Stamp → IsNotOwn l.cell (word z r.world (name.Pend l.row s)) → word z r.world (name.Pend l.row s) ≡ pend_word pend.Frozen
 lost_frozen z r s l i own k e n = own.entry (subst IsPublished (sym e) tt) ∙ entry_lost (attempt r.history (r.seats s).own) (lost_entry z r s l i own k e n)
 
 -- the key of a call is in range
@@ -182,8 +169,8 @@ first_below None h = omega arith
 -- What the acting seat does with its own attempt, one lemma for each event of a put.
 
 -- the key is stored
-key_stored : (z : Sizes) (r r' : Run) (s : ℕ) (choice : Choice) (l : Local) → Happens z r r' s choice l (record l { activity = PutValue }) PutKey → Below z r → Step r.history r'.history (log_entry z r PutKey s choice l) → OwnsAttempt (word z r'.world) r'.history s PutValue (record l { activity = PutValue }) (r'.seats s)
-key_stored z r r' s choice l h i st = subst (OwnsAttempt (word z r'.world) r'.history s PutValue (record l { activity = PutValue })) (sym h.log) (record {
+key_stored : (z : Sizes) (r r' : Run) (s : ℕ) (choice : Choice) (l : Local) → Happens z r r' s choice l (record l { activity = Activity.Put Put.Value }) (Activity.Put Put.Key) → Below z r → Step r.history r'.history (log_entry z r (Activity.Put Put.Key) s choice l) → OwnsAttempt (word z r'.world) r'.history s (Activity.Put Put.Value) (record l { activity = Activity.Put Put.Value }) (r'.seats s)
+key_stored z r r' s choice l h i st = subst (OwnsAttempt (word z r'.world) r'.history s (Activity.Put Put.Value) (record l { activity = Activity.Put Put.Value })) (sym h.log) (record {
   within = omega (arith, own.within, goes.more_attempts);
   seat = rw same own.seat;
   call = rw same own.call;
@@ -207,10 +194,10 @@ key_stored z r r' s choice l h i st = subst (OwnsAttempt (word z r'.world) r'.hi
 })
   where
     own : OwnsAttempt (word z r.world) r.history s l.activity l (r.seats s)
-    own = acting_own z r r' s choice l PutKey (record l { activity = PutValue }) h i tt
+    own = acting_own z r r' s choice l (Activity.Put Put.Key) (record l { activity = Activity.Put Put.Value }) h i tt
 
     goes : GoesOn r.history r'.history r.origin r'.origin r.ledger.rows
-    goes = goes_on_by z r r' s choice l PutKey (record l { activity = PutValue }) h i st
+    goes = goes_on_by z r r' s choice l (Activity.Put Put.Key) (record l { activity = Activity.Put Put.Value }) h i st
 
     same : attempt r'.history (r.seats s).own ≡ attempt r.history (r.seats s).own
     same = attempt_left r.history r'.history _ (r.seats s).own Nothing tt h.history own.within
@@ -219,8 +206,8 @@ key_stored z r r' s choice l h i st = subst (OwnsAttempt (word z r'.world) r'.hi
     known = i.shape.sane.locals s l h.knows
 
 -- the value is stored
-value_stored : (z : Sizes) (r r' : Run) (s : ℕ) (choice : Choice) (l : Local) → Happens z r r' s choice l (record l { activity = Announce }) PutValue → Below z r → Step r.history r'.history (log_entry z r PutValue s choice l) → OwnsAttempt (word z r'.world) r'.history s Announce (record l { activity = Announce }) (r'.seats s)
-value_stored z r r' s choice l h i st = subst (OwnsAttempt (word z r'.world) r'.history s Announce (record l { activity = Announce })) (sym h.log) (record {
+value_stored : (z : Sizes) (r r' : Run) (s : ℕ) (choice : Choice) (l : Local) → Happens z r r' s choice l (record l { activity = Activity.Put Put.Announce }) (Activity.Put Put.Value) → Below z r → Step r.history r'.history (log_entry z r (Activity.Put Put.Value) s choice l) → OwnsAttempt (word z r'.world) r'.history s (Activity.Put Put.Announce) (record l { activity = Activity.Put Put.Announce }) (r'.seats s)
+value_stored z r r' s choice l h i st = subst (OwnsAttempt (word z r'.world) r'.history s (Activity.Put Put.Announce) (record l { activity = Activity.Put Put.Announce })) (sym h.log) (record {
   within = omega (arith, own.within, goes.more_attempts);
   seat = rw same own.seat;
   call = rw same own.call;
@@ -232,7 +219,7 @@ value_stored z r r' s choice l h i st = subst (OwnsAttempt (word z r'.world) r'.
   kept = λ x. absurd x;
   unannounced = λ x. rw same (own.unannounced (subst IsFresh (sym h.activity) tt));
   unstamped = λ x. rw same (own.unstamped (subst IsFresh (sym h.activity) tt));
-  has_key = λ x. rw same (ap key_of_word (key_stays PutValue h l.row l.cell known.below.row known.ranges.cell (λ y. y)) ∙ own.has_key (subst HasKey (sym h.activity) tt));
+  has_key = λ x. rw same (ap key_of_word (key_stays (Activity.Put Put.Value) h l.row l.cell known.below.row known.ranges.cell (λ y. y)) ∙ own.has_key (subst HasKey (sym h.activity) tt));
   has_value = λ x. rw same (ap value_of_word h.changed.same ∙ value_of_word-value_word (put_value l.call) ∙ sym own.value);
   announced = λ x. absurd x;
   entry = λ x. absurd x;
@@ -244,10 +231,10 @@ value_stored z r r' s choice l h i st = subst (OwnsAttempt (word z r'.world) r'.
 })
   where
     own : OwnsAttempt (word z r.world) r.history s l.activity l (r.seats s)
-    own = acting_own z r r' s choice l PutValue (record l { activity = Announce }) h i tt
+    own = acting_own z r r' s choice l (Activity.Put Put.Value) (record l { activity = Activity.Put Put.Announce }) h i tt
 
     goes : GoesOn r.history r'.history r.origin r'.origin r.ledger.rows
-    goes = goes_on_by z r r' s choice l PutValue (record l { activity = Announce }) h i st
+    goes = goes_on_by z r r' s choice l (Activity.Put Put.Value) (record l { activity = Activity.Put Put.Announce }) h i st
 
     same : attempt r'.history (r.seats s).own ≡ attempt r.history (r.seats s).own
     same = attempt_left r.history r'.history _ (r.seats s).own Nothing tt h.history own.within
@@ -256,8 +243,8 @@ value_stored z r r' s choice l h i st = subst (OwnsAttempt (word z r'.world) r'.
     known = i.shape.sane.locals s l h.knows
 
 -- the cell is announced
-cell_announced : (z : Sizes) (r r' : Run) (s : ℕ) (choice : Choice) (l : Local) → word z r.world (name.Pend l.row s) ≡ pend_word pend.Idle → Happens z r r' s choice l (record l { activity = PutClock }) Announce → Below z r → Step r.history r'.history (log_entry z r Announce s choice l) → OwnsAttempt (word z r'.world) r'.history s PutClock (record l { activity = PutClock }) (r'.seats s)
-cell_announced z r r' s choice l e h i st = subst (OwnsAttempt (word z r'.world) r'.history s PutClock (record l { activity = PutClock })) (sym h.log) (record {
+cell_announced : (z : Sizes) (r r' : Run) (s : ℕ) (choice : Choice) (l : Local) → word z r.world (name.Pend l.row s) ≡ pend_word pend.Idle → Happens z r r' s choice l (record l { activity = Activity.Put Put.Clock }) (Activity.Put Put.Announce) → Below z r → Step r.history r'.history (log_entry z r (Activity.Put Put.Announce) s choice l) → OwnsAttempt (word z r'.world) r'.history s (Activity.Put Put.Clock) (record l { activity = Activity.Put Put.Clock }) (r'.seats s)
+cell_announced z r r' s choice l e h i st = subst (OwnsAttempt (word z r'.world) r'.history s (Activity.Put Put.Clock) (record l { activity = Activity.Put Put.Clock })) (sym h.log) (record {
   within = omega (arith, own.within, goes.more_attempts);
   seat = rw same own.seat;
   call = rw same own.call;
@@ -281,20 +268,20 @@ cell_announced z r r' s choice l e h i st = subst (OwnsAttempt (word z r'.world)
 })
   where
     own : OwnsAttempt (word z r.world) r.history s l.activity l (r.seats s)
-    own = acting_own z r r' s choice l Announce (record l { activity = PutClock }) h i tt
+    own = acting_own z r r' s choice l (Activity.Put Put.Announce) (record l { activity = Activity.Put Put.Clock }) h i tt
 
     goes : GoesOn r.history r'.history r.origin r'.origin r.ledger.rows
-    goes = goes_on_by z r r' s choice l Announce (record l { activity = PutClock }) h i st
+    goes = goes_on_by z r r' s choice l (Activity.Put Put.Announce) (record l { activity = Activity.Put Put.Clock }) h i st
 
     same : attempt r'.history (r.seats s).own ≡ record (attempt r.history (r.seats s).own) { is_announced = true; announced = length r.history.log }
-    same = attempt_set_same r.history r'.history (r.seats s).own _ (ap (λ x. x.attempts) (h.history ∙ ap (λ c. noted r.history (log_entry z r Announce s choice l) c) (chosen _ _ (Announces (r.seats s).own) Nothing e))) own.within
+    same = attempt_set_same r.history r'.history (r.seats s).own _ (ap (λ x. x.attempts) (h.history ∙ ap (λ c. noted r.history (log_entry z r (Activity.Put Put.Announce) s choice l) c) (chosen _ _ (Announces (r.seats s).own) Nothing e))) own.within
 
     pending : entry_of (record (attempt r.history (r.seats s).own) { is_announced = true; announced = length r.history.log }) ≡ pend_word (pend.Pending l.cell)
     pending = entry_pending (record (attempt r.history (r.seats s).own) { is_announced = true; announced = length r.history.log }) (own.kept_fresh (subst IsFresh (sym h.activity) tt)) (own.unstamped (subst IsFresh (sym h.activity) tt)) ∙ ap (λ c. pend_word (pend.Pending c)) own.cell
 
 -- the clock is loaded
-clock_loaded : (z : Sizes) (r r' : Run) (s : ℕ) (choice : Choice) (l : Local) → Happens z r r' s choice l (record l { version = word z r.world name.Clock; activity = Stamp }) PutClock → Below z r → Step r.history r'.history (log_entry z r PutClock s choice l) → OwnsAttempt (word z r'.world) r'.history s Stamp (record l { version = word z r.world name.Clock; activity = Stamp }) (r'.seats s)
-clock_loaded z r r' s choice l h i st = subst (OwnsAttempt (word z r'.world) r'.history s Stamp (record l { version = word z r.world name.Clock; activity = Stamp })) (sym h.log) (record {
+clock_loaded : (z : Sizes) (r r' : Run) (s : ℕ) (choice : Choice) (l : Local) → Happens z r r' s choice l (record l { version = word z r.world name.Clock; activity = Activity.Put Put.Stamp }) (Activity.Put Put.Clock) → Below z r → Step r.history r'.history (log_entry z r (Activity.Put Put.Clock) s choice l) → OwnsAttempt (word z r'.world) r'.history s (Activity.Put Put.Stamp) (record l { version = word z r.world name.Clock; activity = Activity.Put Put.Stamp }) (r'.seats s)
+clock_loaded z r r' s choice l h i st = subst (OwnsAttempt (word z r'.world) r'.history s (Activity.Put Put.Stamp) (record l { version = word z r.world name.Clock; activity = Activity.Put Put.Stamp })) (sym h.log) (record {
   within = omega (arith, own.within, goes.more_attempts);
   seat = rw same own.seat;
   call = rw same own.call;
@@ -318,17 +305,17 @@ clock_loaded z r r' s choice l h i st = subst (OwnsAttempt (word z r'.world) r'.
 })
   where
     own : OwnsAttempt (word z r.world) r.history s l.activity l (r.seats s)
-    own = acting_own z r r' s choice l PutClock (record l { version = word z r.world name.Clock; activity = Stamp }) h i tt
+    own = acting_own z r r' s choice l (Activity.Put Put.Clock) (record l { version = word z r.world name.Clock; activity = Activity.Put Put.Stamp }) h i tt
 
     goes : GoesOn r.history r'.history r.origin r'.origin r.ledger.rows
-    goes = goes_on_by z r r' s choice l PutClock (record l { version = word z r.world name.Clock; activity = Stamp }) h i st
+    goes = goes_on_by z r r' s choice l (Activity.Put Put.Clock) (record l { version = word z r.world name.Clock; activity = Activity.Put Put.Stamp }) h i st
 
     same : attempt r'.history (r.seats s).own ≡ attempt r.history (r.seats s).own
     same = attempt_left r.history r'.history _ (r.seats s).own Nothing tt h.history own.within
 
 -- the cell is stamped
-cell_stamped : (z : Sizes) (r r' : Run) (s : ℕ) (choice : Choice) (l : Local) → word z r.world (name.Pend l.row s) ≡ pend_word (pend.Pending l.cell) → Happens z r r' s choice l (record l { activity = PutVersion }) Stamp → Below z r → Step r.history r'.history (log_entry z r Stamp s choice l) → OwnsAttempt (word z r'.world) r'.history s PutVersion (record l { activity = PutVersion }) (r'.seats s)
-cell_stamped z r r' s choice l e h i st = subst (OwnsAttempt (word z r'.world) r'.history s PutVersion (record l { activity = PutVersion })) (sym h.log) (record {
+cell_stamped : (z : Sizes) (r r' : Run) (s : ℕ) (choice : Choice) (l : Local) → word z r.world (name.Pend l.row s) ≡ pend_word (pend.Pending l.cell) → Happens z r r' s choice l (record l { activity = Activity.Put Put.Version }) (Activity.Put Put.Stamp) → Below z r → Step r.history r'.history (log_entry z r (Activity.Put Put.Stamp) s choice l) → OwnsAttempt (word z r'.world) r'.history s (Activity.Put Put.Version) (record l { activity = Activity.Put Put.Version }) (r'.seats s)
+cell_stamped z r r' s choice l e h i st = subst (OwnsAttempt (word z r'.world) r'.history s (Activity.Put Put.Version) (record l { activity = Activity.Put Put.Version })) (sym h.log) (record {
   within = omega (arith, own.within, goes.more_attempts);
   seat = rw same own.seat;
   call = rw same own.call;
@@ -352,20 +339,20 @@ cell_stamped z r r' s choice l e h i st = subst (OwnsAttempt (word z r'.world) r
 })
   where
     own : OwnsAttempt (word z r.world) r.history s l.activity l (r.seats s)
-    own = acting_own z r r' s choice l Stamp (record l { activity = PutVersion }) h i tt
+    own = acting_own z r r' s choice l (Activity.Put Put.Stamp) (record l { activity = Activity.Put Put.Version }) h i tt
 
     goes : GoesOn r.history r'.history r.origin r'.origin r.ledger.rows
-    goes = goes_on_by z r r' s choice l Stamp (record l { activity = PutVersion }) h i st
+    goes = goes_on_by z r r' s choice l (Activity.Put Put.Stamp) (record l { activity = Activity.Put Put.Version }) h i st
 
     not_lost : (attempt r.history (r.seats s).own).is_lost ≡ false
     not_lost = pending_kept (attempt r.history (r.seats s).own) l.cell (sym (own.entry (subst IsPublished (sym h.activity) tt)) ∙ e)
 
     same : attempt r'.history (r.seats s).own ≡ record (attempt r.history (r.seats s).own) { is_stamped = true; version = l.version; load = (r.seats s).loaded; at = length r.history.log }
-    same = attempt_set_same r.history r'.history (r.seats s).own _ (ap (λ x. x.attempts) (h.history ∙ ap (λ c. noted r.history (log_entry z r Stamp s choice l) c) (chosen _ _ (Stamps (r.seats s).own l.version (r.seats s).loaded) Nothing e))) own.within
+    same = attempt_set_same r.history r'.history (r.seats s).own _ (ap (λ x. x.attempts) (h.history ∙ ap (λ c. noted r.history (log_entry z r (Activity.Put Put.Stamp) s choice l) c) (chosen _ _ (Stamps (r.seats s).own l.version (r.seats s).loaded) Nothing e))) own.within
 
 -- the cell was stamped by a reader
-found_stamped : (z : Sizes) (r r' : Run) (s : ℕ) (choice : Choice) (l : Local) (version : ℕ) → word z r.world (name.Pend l.row s) ≡ pend_word (pend.Stamped l.cell version) → Happens z r r' s choice l (record l { version = version; activity = PutVersion }) Stamp → Below z r → Step r.history r'.history (log_entry z r Stamp s choice l) → OwnsAttempt (word z r'.world) r'.history s PutVersion (record l { version = version; activity = PutVersion }) (r'.seats s)
-found_stamped z r r' s choice l version e h i st = subst (OwnsAttempt (word z r'.world) r'.history s PutVersion (record l { version = version; activity = PutVersion })) (sym h.log) (record {
+found_stamped : (z : Sizes) (r r' : Run) (s : ℕ) (choice : Choice) (l : Local) (version : ℕ) → word z r.world (name.Pend l.row s) ≡ pend_word (pend.Stamped l.cell version) → Happens z r r' s choice l (record l { version = version; activity = Activity.Put Put.Version }) (Activity.Put Put.Stamp) → Below z r → Step r.history r'.history (log_entry z r (Activity.Put Put.Stamp) s choice l) → OwnsAttempt (word z r'.world) r'.history s (Activity.Put Put.Version) (record l { version = version; activity = Activity.Put Put.Version }) (r'.seats s)
+found_stamped z r r' s choice l version e h i st = subst (OwnsAttempt (word z r'.world) r'.history s (Activity.Put Put.Version) (record l { version = version; activity = Activity.Put Put.Version })) (sym h.log) (record {
   within = omega (arith, own.within, goes.more_attempts);
   seat = rw same own.seat;
   call = rw same own.call;
@@ -389,16 +376,16 @@ found_stamped z r r' s choice l version e h i st = subst (OwnsAttempt (word z r'
 })
   where
     own : OwnsAttempt (word z r.world) r.history s l.activity l (r.seats s)
-    own = acting_own z r r' s choice l Stamp (record l { version = version; activity = PutVersion }) h i tt
+    own = acting_own z r r' s choice l (Activity.Put Put.Stamp) (record l { version = version; activity = Activity.Put Put.Version }) h i tt
 
     goes : GoesOn r.history r'.history r.origin r'.origin r.ledger.rows
-    goes = goes_on_by z r r' s choice l Stamp (record l { version = version; activity = PutVersion }) h i st
+    goes = goes_on_by z r r' s choice l (Activity.Put Put.Stamp) (record l { version = version; activity = Activity.Put Put.Version }) h i st
 
     lost : word z r.world (name.Pend l.row s) ≢ pend_word (pend.Pending l.cell)
     lost f = let x : pend_word (pend.Stamped l.cell version) ≡ pend_word (pend.Pending l.cell) = sym e ∙ f in omega (arith, x)
 
     same : attempt r'.history (r.seats s).own ≡ attempt r.history (r.seats s).own
-    same = attempt_left r.history r'.history _ (r.seats s).own Nothing tt (h.history ∙ ap (λ c. noted r.history (log_entry z r Stamp s choice l) c) (not_chosen _ _ (Stamps (r.seats s).own l.version (r.seats s).loaded) Nothing lost)) own.within
+    same = attempt_left r.history r'.history _ (r.seats s).own Nothing tt (h.history ∙ ap (λ c. noted r.history (log_entry z r (Activity.Put Put.Stamp) s choice l) c) (not_chosen _ _ (Stamps (r.seats s).own l.version (r.seats s).loaded) Nothing lost)) own.within
 
     entry : entry_of (attempt r.history (r.seats s).own) ≡ pend_word (pend.Stamped l.cell version)
     entry = sym (own.entry (subst IsPublished (sym h.activity) tt)) ∙ e
@@ -407,8 +394,8 @@ found_stamped z r r' s choice l version e h i st = subst (OwnsAttempt (word z r'
     is = stamped_entry (attempt r.history (r.seats s).own) l.cell version own.cell entry
 
 -- the version is stored
-version_stored : (z : Sizes) (r r' : Run) (s : ℕ) (choice : Choice) (l : Local) → Happens z r r' s choice l (to_insert l).local PutVersion → Below z r → Step r.history r'.history (log_entry z r PutVersion s choice l) → OwnsAttempt (word z r'.world) r'.history s InsFrom (to_insert l).local (r'.seats s)
-version_stored z r r' s choice l h i st = subst (OwnsAttempt (word z r'.world) r'.history s InsFrom (to_insert l).local) (sym h.log) (record {
+version_stored : (z : Sizes) (r r' : Run) (s : ℕ) (choice : Choice) (l : Local) → Happens z r r' s choice l (to_insert l).local (Activity.Put Put.Version) → Below z r → Step r.history r'.history (log_entry z r (Activity.Put Put.Version) s choice l) → OwnsAttempt (word z r'.world) r'.history s (Activity.Insert Insert.Link) (to_insert l).local (r'.seats s)
+version_stored z r r' s choice l h i st = subst (OwnsAttempt (word z r'.world) r'.history s (Activity.Insert Insert.Link) (to_insert l).local) (sym h.log) (record {
   within = omega (arith, own.within, goes.more_attempts);
   seat = rw same own.seat;
   call = rw same own.call;
@@ -423,7 +410,7 @@ version_stored z r r' s choice l h i st = subst (OwnsAttempt (word z r'.world) r
   has_key = λ x. absurd x;
   has_value = λ x. absurd x;
   announced = λ x. rw same (own.announced (subst IsPublished (sym h.activity) tt));
-  entry = λ x. entry_same PutVersion h l.row s known.below.row h.seat (λ y. y) ∙ own.entry (subst IsPublished (sym h.activity) tt) ∙ ap entry_of (sym same);
+  entry = λ x. entry_same (Activity.Put Put.Version) h l.row s known.below.row h.seat (λ y. y) ∙ own.entry (subst IsPublished (sym h.activity) tt) ∙ ap entry_of (sym same);
   after = λ x. absurd x;
   loaded = λ x. absurd x;
   stamped = λ x. rw same (own.stamped (subst IsStamped (sym h.activity) tt));
@@ -432,10 +419,10 @@ version_stored z r r' s choice l h i st = subst (OwnsAttempt (word z r'.world) r
 })
   where
     own : OwnsAttempt (word z r.world) r.history s l.activity l (r.seats s)
-    own = acting_own z r r' s choice l PutVersion (to_insert l).local h i tt
+    own = acting_own z r r' s choice l (Activity.Put Put.Version) (to_insert l).local h i tt
 
     goes : GoesOn r.history r'.history r.origin r'.origin r.ledger.rows
-    goes = goes_on_by z r r' s choice l PutVersion (to_insert l).local h i st
+    goes = goes_on_by z r r' s choice l (Activity.Put Put.Version) (to_insert l).local h i st
 
     same : attempt r'.history (r.seats s).own ≡ attempt r.history (r.seats s).own
     same = attempt_left r.history r'.history _ (r.seats s).own Nothing tt h.history own.within
@@ -490,8 +477,8 @@ module _ (z : Sizes) (r r' : Run) (s : ℕ) (choice : Choice) (l : Local) (a : A
       published = subst IsPublished (sym h.activity) (inserting_published a m)
 
 -- a cell is given
-cell_given : (z : Sizes) (r r' : Run) (s : ℕ) (choice : Choice) (l : Local) → has_room z (count_of (word z r.world (name.Count l.row))) ≡ true → Happens z r r' s choice l (record l { cell = given_in (word z r.world) l.row; activity = PutKey }) PutAdd → OwnsAttempt (word z r'.world) r'.history s PutKey (record l { cell = given_in (word z r.world) l.row; activity = PutKey }) (r'.seats s)
-cell_given z r r' s choice l m h = subst (OwnsAttempt (word z r'.world) r'.history s PutKey (record l { cell = given_in (word z r.world) l.row; activity = PutKey })) (sym (rw m at h.log)) (record {
+cell_given : (z : Sizes) (r r' : Run) (s : ℕ) (choice : Choice) (l : Local) → has_room z (count_of (word z r.world (name.Count l.row))) ≡ true → Happens z r r' s choice l (record l { cell = given_in (word z r.world) l.row; activity = Activity.Put Put.Key }) (Activity.Put Put.Add) → OwnsAttempt (word z r'.world) r'.history s (Activity.Put Put.Key) (record l { cell = given_in (word z r.world) l.row; activity = Activity.Put Put.Key }) (r'.seats s)
+cell_given z r r' s choice l m h = subst (OwnsAttempt (word z r'.world) r'.history s (Activity.Put Put.Key) (record l { cell = given_in (word z r.world) l.row; activity = Activity.Put Put.Key })) (sym (rw m at h.log)) (record {
   within = one_more_within h m;
   seat = ap (λ x. x.seat) is;
   call = ap (λ x. x.call) is;
@@ -531,18 +518,14 @@ cell_puts l n (scans_on q o e f g) p = absurd p
 
 -- nor is what follows where new rows are built
 pub built_puts : {A : Type 0} (b : Activity) → IsAfterBuilding b → IsPutting b → A
-built_puts PutKey n p = absurd n
-built_puts PutValue n p = absurd n
-built_puts Announce n p = absurd n
-built_puts PutClock n p = absurd n
-built_puts Stamp n p = absurd n
-built_puts PutVersion n p = absurd n
-built_puts InsFrom n p = absurd n
-built_puts InsKey n p = absurd n
-built_puts InsVer n p = absurd n
-built_puts InsSet n p = absurd n
-built_puts Insert n p = absurd n
-built_puts PutClear n p = absurd n
+built_puts (Activity.Put Put.Key) n p = absurd n
+built_puts (Activity.Put Put.Value) n p = absurd n
+built_puts (Activity.Put Put.Announce) n p = absurd n
+built_puts (Activity.Put Put.Clock) n p = absurd n
+built_puts (Activity.Put Put.Stamp) n p = absurd n
+built_puts (Activity.Put Put.Version) n p = absurd n
+built_puts (Activity.Insert _) n p = absurd n
+built_puts (Activity.Put Put.Clear) n p = absurd n
 built_puts _ n p = absurd p
 
 -- the acting seat's own attempt
@@ -556,16 +539,16 @@ owns_own z r r' s choice l a l' loads_clock h i st after k p = clock_loaded z r 
 owns_own z r r' s choice l a l' (stamps e) h i st after k p = cell_stamped z r r' s choice l (sym (pend_word_of _ _ e)) h i st
 owns_own z r r' s choice l a l' (is_stamped version e) h i st after k p = found_stamped z r r' s choice l version (sym (pend_word_of _ _ e)) h i st
 owns_own z r r' s choice l a l' stores_version h i st after k p = version_stored z r r' s choice l h i st
-owns_own z r r' s choice l a l' (meets_cell c y) h i st after k p = insert_stays z r r' s choice l InsFrom l' h i st tt InsKey (λ x. x) (λ x. x) (λ x. x) (λ x. x) h.log h.history (λ x. x) (λ x. x) (λ x. x) refl refl refl refl
-owns_own z r r' s choice l a l' (meets_none y) h i st after k p = insert_stays z r r' s choice l InsFrom l' h i st tt InsSet (λ x. x) (λ x. x) (λ x. x) (λ x. x) h.log h.history (λ x. x) (λ x. x) (λ x. x) refl refl refl refl
-owns_own z r r' s choice l a l' (key_before y) h i st after k p = insert_stays z r r' s choice l InsKey l' h i st tt InsFrom (λ x. x) (λ x. x) (λ x. x) (λ x. x) h.log h.history (λ x. x) (λ x. x) (λ x. x) refl refl refl refl
-owns_own z r r' s choice l a l' (key_same y) h i st after k p = insert_stays z r r' s choice l InsKey l' h i st tt InsVer (λ x. x) (λ x. x) (λ x. x) (λ x. x) h.log h.history (λ x. x) (λ x. x) (λ x. x) refl refl refl refl
-owns_own z r r' s choice l a l' (key_after y) h i st after k p = insert_stays z r r' s choice l InsKey l' h i st tt InsSet (λ x. x) (λ x. x) (λ x. x) (λ x. x) h.log h.history (λ x. x) (λ x. x) (λ x. x) refl refl refl refl
-owns_own z r r' s choice l a l' (version_before y) h i st after k p = insert_stays z r r' s choice l InsVer l' h i st tt InsFrom (λ x. x) (λ x. x) (λ x. x) (λ x. x) h.log h.history (λ x. x) (λ x. x) (λ x. x) refl refl refl refl
-owns_own z r r' s choice l a l' (version_after y) h i st after k p = insert_stays z r r' s choice l InsVer l' h i st tt InsSet (λ x. x) (λ x. x) (λ x. x) (λ x. x) h.log h.history (λ x. x) (λ x. x) (λ x. x) refl refl refl refl
-owns_own z r r' s choice l a l' stores_after h i st after k p = insert_stays z r r' s choice l InsSet l' h i st tt Insert (λ x. x) (λ x. x) (λ x. x) (λ x. x) h.log h.history (λ x. x) (λ x. x) (λ x. x) refl refl refl refl
-owns_own z r r' s choice l a l' (inserts y) h i st after k p = insert_stays z r r' s choice l Insert l' h i st tt PutClear (λ x. x) (λ x. x) (λ x. x) (λ x. x) h.log h.history (λ x. x) (λ x. x) (λ x. x) refl refl refl refl
-owns_own z r r' s choice l a l' (loses y) h i st after k p = insert_stays z r r' s choice l Insert l' h i st tt InsFrom (λ x. x) (λ x. x) (λ x. x) (λ x. x) h.log h.history (λ x. x) (λ x. x) (λ x. x) refl refl refl refl
+owns_own z r r' s choice l a l' (meets_cell c y) h i st after k p = insert_stays z r r' s choice l (Activity.Insert Insert.Link) l' h i st tt (Activity.Insert Insert.Key) (λ x. x) (λ x. x) (λ x. x) (λ x. x) h.log h.history (λ x. x) (λ x. x) (λ x. x) refl refl refl refl
+owns_own z r r' s choice l a l' (meets_none y) h i st after k p = insert_stays z r r' s choice l (Activity.Insert Insert.Link) l' h i st tt (Activity.Insert Insert.Set) (λ x. x) (λ x. x) (λ x. x) (λ x. x) h.log h.history (λ x. x) (λ x. x) (λ x. x) refl refl refl refl
+owns_own z r r' s choice l a l' (key_before y) h i st after k p = insert_stays z r r' s choice l (Activity.Insert Insert.Key) l' h i st tt (Activity.Insert Insert.Link) (λ x. x) (λ x. x) (λ x. x) (λ x. x) h.log h.history (λ x. x) (λ x. x) (λ x. x) refl refl refl refl
+owns_own z r r' s choice l a l' (key_same y) h i st after k p = insert_stays z r r' s choice l (Activity.Insert Insert.Key) l' h i st tt (Activity.Insert Insert.Version) (λ x. x) (λ x. x) (λ x. x) (λ x. x) h.log h.history (λ x. x) (λ x. x) (λ x. x) refl refl refl refl
+owns_own z r r' s choice l a l' (key_after y) h i st after k p = insert_stays z r r' s choice l (Activity.Insert Insert.Key) l' h i st tt (Activity.Insert Insert.Set) (λ x. x) (λ x. x) (λ x. x) (λ x. x) h.log h.history (λ x. x) (λ x. x) (λ x. x) refl refl refl refl
+owns_own z r r' s choice l a l' (version_before y) h i st after k p = insert_stays z r r' s choice l (Activity.Insert Insert.Version) l' h i st tt (Activity.Insert Insert.Link) (λ x. x) (λ x. x) (λ x. x) (λ x. x) h.log h.history (λ x. x) (λ x. x) (λ x. x) refl refl refl refl
+owns_own z r r' s choice l a l' (version_after y) h i st after k p = insert_stays z r r' s choice l (Activity.Insert Insert.Version) l' h i st tt (Activity.Insert Insert.Set) (λ x. x) (λ x. x) (λ x. x) (λ x. x) h.log h.history (λ x. x) (λ x. x) (λ x. x) refl refl refl refl
+owns_own z r r' s choice l a l' stores_after h i st after k p = insert_stays z r r' s choice l (Activity.Insert Insert.Set) l' h i st tt (Activity.Insert Insert.Exchange) (λ x. x) (λ x. x) (λ x. x) (λ x. x) h.log h.history (λ x. x) (λ x. x) (λ x. x) refl refl refl refl
+owns_own z r r' s choice l a l' (inserts y) h i st after k p = insert_stays z r r' s choice l (Activity.Insert Insert.Exchange) l' h i st tt (Activity.Put Put.Clear) (λ x. x) (λ x. x) (λ x. x) (λ x. x) h.log h.history (λ x. x) (λ x. x) (λ x. x) refl refl refl refl
+owns_own z r r' s choice l a l' (loses y) h i st after k p = insert_stays z r r' s choice l (Activity.Insert Insert.Exchange) l' h i st tt (Activity.Insert Insert.Link) (λ x. x) (λ x. x) (λ x. x) (λ x. x) h.log h.history (λ x. x) (λ x. x) (λ x. x) refl refl refl refl
 owns_own z r r' s choice l a l' (meets_stamped j c version next e n) h i st after k p = look_puts z _ next n p
 owns_own z r r' s choice l a l' (meets_neither j next e n) h i st after k p = look_puts z _ next n p
 owns_own z r r' s choice l a l' (is_passed next e n) h i st after k p = look_puts z _ next n p

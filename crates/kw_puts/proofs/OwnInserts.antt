@@ -14,7 +14,9 @@ use Rattle.kw_lists.proofs.Putting.{put_begins, put_loads, put_passes, put_stops
 use Rattle.kw_lists.proofs.Same.{behind_same}
 use Rattle.kw_lists.proofs.Walking.{walk_begins, walk_goes_on, walk_stays, walked_fewer}
 use Rattle.kw_world.specs.declared.activity.Activity.{Activity}
-use Rattle.kw_world.specs.declared.activity.Activity.TheVariants.{PutVersion, InsFrom, InsKey, InsVer, InsSet, Insert}
+use Rattle.kw_world.specs.declared.activity.insert.Insert.TheVariants as Insert
+use Rattle.kw_world.specs.declared.activity.put.Put.TheVariants as Put
+use Rattle.kw_world.specs.declared.activity.walk.Walk.TheVariants as Walk
 use Rattle.kw_world.specs.declared.local.Local.{Local}
 use Rattle.kw_world.specs.declared.event.Choice.{Choice}
 use Rattle.kw_world.specs.Calls.{first_key}
@@ -41,52 +43,43 @@ use Rattle.kw_puts.proofs.OwnAttempts.{acting_own, built_puts, inserting_puts, i
 
 -- what a put knows it still knows, where its own cell is left as it was
 pub inserts_stay : (n : ℕ) (row row' : Row) (b : Activity) (k : Local) → Leaves n row row' → (IsInserting b → LeavesOwn row row' k.cell) → Inserts n row b k → Inserts n row' b k
-inserts_stay n row row' InsFrom k w o x = from_stays n row row' k.cell w (o tt).cell k.lost k.link x
-inserts_stay n row row' InsKey k w o x = (at_stays n row row' k.cell w (o tt).cell k.lost k.link k.held x.0, x.1)
-inserts_stay n row row' InsVer k w o x =
+inserts_stay n row row' (Activity.Insert Insert.Link) k w o x = from_stays n row row' k.cell w (o tt).cell k.lost k.link x
+inserts_stay n row row' (Activity.Insert Insert.Key) k w o x = (at_stays n row row' k.cell w (o tt).cell k.lost k.link k.held x.0, x.1)
+inserts_stay n row row' (Activity.Insert Insert.Version) k w o x =
     let met : row.listed k.place ≡ true = subst (IsOn row) x.1 x.0.known in
     (at_stays n row row' k.cell w (o tt).cell k.lost k.link k.held x.0, x.1, (w.cell k.place met).key ∙ x.2 ∙ sym (o tt).cell.cell.key)
-inserts_stay n row row' InsSet k w o x = (at_stays n row row' k.cell w (o tt).cell k.lost k.link k.held x.0, ahead_stays n row row' k.cell w (o tt).cell k.held x.0.known x.1)
-inserts_stay n row row' Insert k w o x = set_stays n row row' k.cell w (o tt) k.lost k.link k.held x
+inserts_stay n row row' (Activity.Insert Insert.Set) k w o x = (at_stays n row row' k.cell w (o tt).cell k.lost k.link k.held x.0, ahead_stays n row row' k.cell w (o tt).cell k.held x.0.known x.1)
+inserts_stay n row row' (Activity.Insert Insert.Exchange) k w o x = set_stays n row row' k.cell w (o tt) k.lost k.link k.held x
 inserts_stay n row row' _ k w o x = tt
 
 -- so is its walk
 pub walks_stay : (n : ℕ) (row row' : Row) (b : Activity) (k : Local) → Leaves n row row' → Inserts n row b k → WalksList n row b k → WalksList n row' b k
-walks_stay n row row' InsFrom k w x y = walk_stays n row row' k.link k.walked w y
-walks_stay n row row' InsKey k w x y = (behind_same row row' w.cell k.link k.place x.0.from.on (w.cell k.place y.1.on) y.0, walk_stays n row row' (Some k.place) k.walked w y.1)
-walks_stay n row row' InsVer k w x y = (behind_same row row' w.cell k.link k.place x.0.from.on (w.cell k.place y.1.on) y.0, walk_stays n row row' (Some k.place) k.walked w y.1)
+walks_stay n row row' (Activity.Insert Insert.Link) k w x y = walk_stays n row row' k.link k.walked w y
+walks_stay n row row' (Activity.Insert Insert.Key) k w x y = (behind_same row row' w.cell k.link k.place x.0.from.on (w.cell k.place y.1.on) y.0, walk_stays n row row' (Some k.place) k.walked w y.1)
+walks_stay n row row' (Activity.Insert Insert.Version) k w x y = (behind_same row row' w.cell k.link k.place x.0.from.on (w.cell k.place y.1.on) y.0, walk_stays n row row' (Some k.place) k.walked w y.1)
 walks_stay n row row' _ k w x y = tt
 
 -- a put that inserts is at its row, and its cell is not listed
 pub inserting_at : (b : Activity) → IsInserting b → IsAtRow b
-inserting_at InsFrom m = tt
-inserting_at InsKey m = tt
-inserting_at InsVer m = tt
-inserting_at InsSet m = tt
-inserting_at Insert m = tt
+inserting_at (Activity.Insert _) m = tt
 inserting_at _ m = absurd m
 
 pub inserting_unlisted : (b : Activity) → IsInserting b → IsUnlisted b
-inserting_unlisted InsFrom m = tt
-inserting_unlisted InsKey m = tt
-inserting_unlisted InsVer m = tt
-inserting_unlisted InsSet m = tt
-inserting_unlisted Insert m = tt
+inserting_unlisted (Activity.Insert _) m = tt
 inserting_unlisted _ m = absurd m
 
 -- a put that does not insert knows nothing of the list
 pub inserts_if : (n : ℕ) (row : Row) (b : Activity) (k : Local) → (IsInserting b → Inserts n row b k) → Inserts n row b k
-inserts_if n row InsFrom k f = f tt
-inserts_if n row InsKey k f = f tt
-inserts_if n row InsVer k f = f tt
-inserts_if n row InsSet k f = f tt
-inserts_if n row Insert k f = f tt
+inserts_if n row (Activity.Insert Insert.Link) k f = f tt
+inserts_if n row (Activity.Insert _) k f = f tt
+inserts_if n row (Activity.Walk Walk.First) k f = tt
 inserts_if n row _ k f = tt
 
 pub walks_if : (n : ℕ) (row : Row) (b : Activity) (k : Local) → (IsInserting b → WalksList n row b k) → WalksList n row b k
-walks_if n row InsFrom k f = f tt
-walks_if n row InsKey k f = f tt
-walks_if n row InsVer k f = f tt
+walks_if n row (Activity.Insert Insert.Link) k f = f tt
+walks_if n row (Activity.Insert Insert.Key) k f = f tt
+walks_if n row (Activity.Insert Insert.Version) k f = f tt
+walks_if n row (Activity.Walk Walk.First) k f = tt
 walks_if n row _ k f = tt
 
 -- The tests of the order.
@@ -179,11 +172,11 @@ module _ (z : Sizes) (r r' : Run) (s : ℕ) (choice : Choice) (l : Local) (a : A
   its_list p = i.lists.leads l.row (linked p)
 
 -- the put begins at the row's first link
-begins_insert : (z : Sizes) (r r' : Run) (s : ℕ) (choice : Choice) (l l' : Local) → Happens z r r' s choice l l' PutVersion → Below z r → IsFrom z.cells (list_in (word z r'.world) r'.listed l.row) l.cell 0 None
-begins_insert z r r' s choice l l' h i = put_begins z.cells (list_in (word z r'.world) r'.listed l.row) l.cell (ap (λ f. f l.row l.cell) h.listed ∙ its_unlisted z r r' s choice l PutVersion l' h i tt)
+begins_insert : (z : Sizes) (r r' : Run) (s : ℕ) (choice : Choice) (l l' : Local) → Happens z r r' s choice l l' (Activity.Put Put.Version) → Below z r → IsFrom z.cells (list_in (word z r'.world) r'.listed l.row) l.cell 0 None
+begins_insert z r r' s choice l l' h i = put_begins z.cells (list_in (word z r'.world) r'.listed l.row) l.cell (ap (λ f. f l.row l.cell) h.listed ∙ its_unlisted z r r' s choice l (Activity.Put Put.Version) l' h i tt)
 
 -- it stores what the link held in its own link
-sets_insert : (z : Sizes) (r r' : Run) (s : ℕ) (choice : Choice) (l l' : Local) → Happens z r r' s choice l l' InsSet → Below z r → IsSet z.cells (list_in (word z r'.world) r'.listed l.row) l.cell l.lost l.link l.held
+sets_insert : (z : Sizes) (r r' : Run) (s : ℕ) (choice : Choice) (l l' : Local) → Happens z r r' s choice l l' (Activity.Insert Insert.Set) → Below z r → IsSet z.cells (list_in (word z r'.world) r'.listed l.row) l.cell l.lost l.link l.held
 sets_insert z r r' s choice l l' h i = record {
   met = at_stays z.cells before after l.cell left cell l.lost l.link l.held x.0;
   ahead = ahead_stays z.cells before after l.cell left cell l.held x.0.known x.1;
@@ -191,50 +184,50 @@ sets_insert z r r' s choice l l' h i = record {
 }
   where
     before : Row
-    before = row z r r' s choice l InsSet l' h i
+    before = row z r r' s choice l (Activity.Insert Insert.Set) l' h i
 
     after : Row
     after = list_in (word z r'.world) r'.listed l.row
 
     k : IsKnown z r.world.rows l
-    k = known z r r' s choice l InsSet l' h i
+    k = known z r r' s choice l (Activity.Insert Insert.Set) l' h i
 
-    x : Inserts z.cells before InsSet l
-    x = knows_list z r r' s choice l InsSet l' h i
+    x : Inserts z.cells before (Activity.Insert Insert.Set) l
+    x = knows_list z r r' s choice l (Activity.Insert Insert.Set) l' h i
 
     left : Leaves z.cells before after
-    left = leaves z.cells before after (list_step z r r' s choice l InsSet l' h i l.row (linked z r r' s choice l InsSet l' h i tt))
+    left = leaves z.cells before after (list_step z r r' s choice l (Activity.Insert Insert.Set) l' h i l.row (linked z r r' s choice l (Activity.Insert Insert.Set) l' h i tt))
 
     cell : LeavesCell before after l.cell
     cell = record {
-      unlisted = ap (λ f. f l.row l.cell) h.listed ∙ its_unlisted z r r' s choice l InsSet l' h i tt;
-      cell = record { key = ap key_of_word (key_stays InsSet h l.row l.cell k.below.row k.ranges.cell (λ y. y)); version = version_stays InsSet h l.row l.cell k.below.row k.ranges.cell (λ y. y) };
+      unlisted = ap (λ f. f l.row l.cell) h.listed ∙ its_unlisted z r r' s choice l (Activity.Insert Insert.Set) l' h i tt;
+      cell = record { key = ap key_of_word (key_stays (Activity.Insert Insert.Set) h l.row l.cell k.below.row k.ranges.cell (λ y. y)); version = version_stays (Activity.Insert Insert.Set) h l.row l.cell k.below.row k.ranges.cell (λ y. y) };
     }
 
 -- it loses its exchange
-loses_insert : (z : Sizes) (r r' : Run) (s : ℕ) (choice : Choice) (l l' : Local) → word z r.world (link_name l.row l.link) ≢ cell_link_word l.held → Happens z r r' s choice l l' Insert → Below z r → IsFrom z.cells (list_in (word z r'.world) r'.listed l.row) l.cell (one_more z l.lost) None
+loses_insert : (z : Sizes) (r r' : Run) (s : ℕ) (choice : Choice) (l l' : Local) → word z r.world (link_name l.row l.link) ≢ cell_link_word l.held → Happens z r r' s choice l l' (Activity.Insert Insert.Exchange) → Below z r → IsFrom z.cells (list_in (word z r'.world) r'.listed l.row) l.cell (one_more z l.lost) None
 loses_insert z r r' s choice l l' n h i = rw (one_more_is z l.lost (omega (arith, lost.fewer, count_most z.cells before.listed))) (from_stays z.cells before after l.cell left cell (l.lost + 1) None lost)
   where
     before : Row
-    before = row z r r' s choice l Insert l' h i
+    before = row z r r' s choice l (Activity.Insert Insert.Exchange) l' h i
 
     after : Row
     after = list_in (word z r'.world) r'.listed l.row
 
     k : IsKnown z r.world.rows l
-    k = known z r r' s choice l Insert l' h i
+    k = known z r r' s choice l (Activity.Insert Insert.Exchange) l' h i
 
     lost : IsFrom z.cells before l.cell (l.lost + 1) None
     lost = put_loses z.cells before l.cell l.lost l.link l.held (is_set z r r' s choice l l' h i).met
         (leads_elsewhere (word z r.world) l.row l.link l.held z.cells (link_at_most i l.link k.ranges.link k.below.row) i.shape.sane.sized.few_cells n)
 
     left : Leaves z.cells before after
-    left = leaves z.cells before after (list_step z r r' s choice l Insert l' h i l.row (linked z r r' s choice l Insert l' h i tt))
+    left = leaves z.cells before after (list_step z r r' s choice l (Activity.Insert Insert.Exchange) l' h i l.row (linked z r r' s choice l (Activity.Insert Insert.Exchange) l' h i tt))
 
     cell : LeavesCell before after l.cell
     cell = record {
-      unlisted = ap (λ f. f l.row l.cell) (lost_listed z r r' s choice l l' h i n) ∙ its_unlisted z r r' s choice l Insert l' h i tt;
-      cell = record { key = ap key_of_word (key_stays Insert h l.row l.cell k.below.row k.ranges.cell (λ y. y)); version = version_stays Insert h l.row l.cell k.below.row k.ranges.cell (λ y. y) };
+      unlisted = ap (λ f. f l.row l.cell) (lost_listed z r r' s choice l l' h i n) ∙ its_unlisted z r r' s choice l (Activity.Insert Insert.Exchange) l' h i tt;
+      cell = record { key = ap key_of_word (key_stays (Activity.Insert Insert.Exchange) h l.row l.cell k.below.row k.ranges.cell (λ y. y)); version = version_stays (Activity.Insert Insert.Exchange) h l.row l.cell k.below.row k.ranges.cell (λ y. y) };
     }
 
 -- what the acting seat knows of the list of its row
@@ -242,44 +235,44 @@ pub inserts_own : (z : Sizes) (r r' : Run) (s : ℕ) (choice : Choice) (l : Loca
 inserts_own z r r' s choice l a l' (builds b next y t) h i m = built_puts next.activity (built_next z (word z r.world) choice l b next t) (inserting_puts next.activity m)
 inserts_own z r r' s choice l a l' stores_version h i m = begins_insert z r r' s choice l l' h i
 inserts_own z r r' s choice l a l' (meets_cell c e) h i m =
-    let k = knows_list z r r' s choice l InsFrom l' h i in
-    let sound = its_list z r r' s choice l InsFrom l' h i tt in
+    let k = knows_list z r r' s choice l (Activity.Insert Insert.Link) l' h i in
+    let sound = its_list z r r' s choice l (Activity.Insert Insert.Link) l' h i tt in
     let here : link_in (word z r.world) l.row l.link ≡ Some c = link_is (word z r.world) l.row l.link ∙ e in
-    let at = put_loads z.cells (row z r r' s choice l InsFrom l' h i) l.cell l.lost l.link sound.list k in
-    learned z r r' s choice l InsFrom l' h i InsKey l' refl refl tt tt h.listed (h.changed.loaded refl) (subst (IsAt z.cells (row z r r' s choice l InsFrom l' h i) l.cell l.lost l.link) here at, refl)
+    let at = put_loads z.cells (row z r r' s choice l (Activity.Insert Insert.Link) l' h i) l.cell l.lost l.link sound.list k in
+    learned z r r' s choice l (Activity.Insert Insert.Link) l' h i (Activity.Insert Insert.Key) l' refl refl tt tt h.listed (h.changed.loaded refl) (subst (IsAt z.cells (row z r r' s choice l (Activity.Insert Insert.Link) l' h i) l.cell l.lost l.link) here at, refl)
 inserts_own z r r' s choice l a l' (meets_none e) h i m =
-    let k = knows_list z r r' s choice l InsFrom l' h i in
-    let sound = its_list z r r' s choice l InsFrom l' h i tt in
+    let k = knows_list z r r' s choice l (Activity.Insert Insert.Link) l' h i in
+    let sound = its_list z r r' s choice l (Activity.Insert Insert.Link) l' h i tt in
     let here : link_in (word z r.world) l.row l.link ≡ None = link_is (word z r.world) l.row l.link ∙ e in
-    let at = put_loads z.cells (row z r r' s choice l InsFrom l' h i) l.cell l.lost l.link sound.list k in
-    learned z r r' s choice l InsFrom l' h i InsSet l' refl refl tt tt h.listed (h.changed.loaded refl) (subst (IsAt z.cells (row z r r' s choice l InsFrom l' h i) l.cell l.lost l.link) here at, tt)
+    let at = put_loads z.cells (row z r r' s choice l (Activity.Insert Insert.Link) l' h i) l.cell l.lost l.link sound.list k in
+    learned z r r' s choice l (Activity.Insert Insert.Link) l' h i (Activity.Insert Insert.Set) l' refl refl tt tt h.listed (h.changed.loaded refl) (subst (IsAt z.cells (row z r r' s choice l (Activity.Insert Insert.Link) l' h i) l.cell l.lost l.link) here at, tt)
 inserts_own z r r' s choice l a l' (key_before e) h i m =
-    let x = knows_list z r r' s choice l InsKey l' h i in
-    let at = subst (IsAt z.cells (row z r r' s choice l InsKey l' h i) l.cell l.lost l.link) x.1 x.0 in
-    learned z r r' s choice l InsKey l' h i InsFrom l' refl refl tt tt h.listed (h.changed.loaded refl)
-    (put_passes z.cells (row z r r' s choice l InsKey l' h i) l.cell l.lost l.link l.place at (inl (omega (arith, e, its_key z r r' s choice l InsKey l' h i tt))))
+    let x = knows_list z r r' s choice l (Activity.Insert Insert.Key) l' h i in
+    let at = subst (IsAt z.cells (row z r r' s choice l (Activity.Insert Insert.Key) l' h i) l.cell l.lost l.link) x.1 x.0 in
+    learned z r r' s choice l (Activity.Insert Insert.Key) l' h i (Activity.Insert Insert.Link) l' refl refl tt tt h.listed (h.changed.loaded refl)
+    (put_passes z.cells (row z r r' s choice l (Activity.Insert Insert.Key) l' h i) l.cell l.lost l.link l.place at (inl (omega (arith, e, its_key z r r' s choice l (Activity.Insert Insert.Key) l' h i tt))))
 inserts_own z r r' s choice l a l' (key_same e) h i m =
-    let x = knows_list z r r' s choice l InsKey l' h i in
-    learned z r r' s choice l InsKey l' h i InsVer l' refl refl tt tt h.listed (h.changed.loaded refl) (x.0, x.1, e ∙ sym (its_key z r r' s choice l InsKey l' h i tt))
+    let x = knows_list z r r' s choice l (Activity.Insert Insert.Key) l' h i in
+    learned z r r' s choice l (Activity.Insert Insert.Key) l' h i (Activity.Insert Insert.Version) l' refl refl tt tt h.listed (h.changed.loaded refl) (x.0, x.1, e ∙ sym (its_key z r r' s choice l (Activity.Insert Insert.Key) l' h i tt))
 inserts_own z r r' s choice l a l' (key_after e) h i m =
-    let before = row z r r' s choice l InsKey l' h i in
-    let x = knows_list z r r' s choice l InsKey l' h i in
+    let before = row z r r' s choice l (Activity.Insert Insert.Key) l' h i in
+    let x = knows_list z r r' s choice l (Activity.Insert Insert.Key) l' h i in
     let at = subst (IsAt z.cells before l.cell l.lost l.link) x.1 x.0 in
-    let greater : Stands before l.place l.cell → ⊥ = key_not_before before l.place l.cell (first_key l.call) (its_key z r r' s choice l InsKey l' h i tt) e in
-    learned z r r' s choice l InsKey l' h i InsSet l' refl refl tt tt h.listed (h.changed.loaded refl)
+    let greater : Stands before l.place l.cell → ⊥ = key_not_before before l.place l.cell (first_key l.call) (its_key z r r' s choice l (Activity.Insert Insert.Key) l' h i tt) e in
+    learned z r r' s choice l (Activity.Insert Insert.Key) l' h i (Activity.Insert Insert.Set) l' refl refl tt tt h.listed (h.changed.loaded refl)
     (x.0, subst (IsAhead before l.cell) (sym x.1) (put_stops z.cells before l.cell l.lost l.link l.place at greater))
 inserts_own z r r' s choice l a l' (version_before e) h i m =
-    let before = row z r r' s choice l InsVer l' h i in
-    let x = knows_list z r r' s choice l InsVer l' h i in
+    let before = row z r r' s choice l (Activity.Insert Insert.Version) l' h i in
+    let x = knows_list z r r' s choice l (Activity.Insert Insert.Version) l' h i in
     let at = subst (IsAt z.cells before l.cell l.lost l.link) x.1 x.0 in
-    learned z r r' s choice l InsVer l' h i InsFrom l' refl refl tt tt h.listed (h.changed.loaded refl)
-    (put_passes z.cells before l.cell l.lost l.link l.place at (newer_before before l x.2 (its_version z r r' s choice l InsVer l' h i tt) e))
+    learned z r r' s choice l (Activity.Insert Insert.Version) l' h i (Activity.Insert Insert.Link) l' refl refl tt tt h.listed (h.changed.loaded refl)
+    (put_passes z.cells before l.cell l.lost l.link l.place at (newer_before before l x.2 (its_version z r r' s choice l (Activity.Insert Insert.Version) l' h i tt) e))
 inserts_own z r r' s choice l a l' (version_after e) h i m =
-    let before = row z r r' s choice l InsVer l' h i in
-    let x = knows_list z r r' s choice l InsVer l' h i in
+    let before = row z r r' s choice l (Activity.Insert Insert.Version) l' h i in
+    let x = knows_list z r r' s choice l (Activity.Insert Insert.Version) l' h i in
     let at = subst (IsAt z.cells before l.cell l.lost l.link) x.1 x.0 in
-    learned z r r' s choice l InsVer l' h i InsSet l' refl refl tt tt h.listed (h.changed.loaded refl)
-    (x.0, subst (IsAhead before l.cell) (sym x.1) (put_stops z.cells before l.cell l.lost l.link l.place at (not_newer before l x.2 (its_version z r r' s choice l InsVer l' h i tt) e)))
+    learned z r r' s choice l (Activity.Insert Insert.Version) l' h i (Activity.Insert Insert.Set) l' refl refl tt tt h.listed (h.changed.loaded refl)
+    (x.0, subst (IsAhead before l.cell) (sym x.1) (put_stops z.cells before l.cell l.lost l.link l.place at (not_newer before l x.2 (its_version z r r' s choice l (Activity.Insert Insert.Version) l' h i tt) e)))
 inserts_own z r r' s choice l a l' stores_after h i m = sets_insert z r r' s choice l l' h i
 inserts_own z r r' s choice l a l' (loses n) h i m = loses_insert z r r' s choice l l' n h i
 inserts_own z r r' s choice l a l' (meets_stamped j c version next e n) h i m = look_puts z _ next n (inserting_puts next m)
@@ -299,23 +292,23 @@ pub walks_own : (z : Sizes) (r r' : Run) (s : ℕ) (choice : Choice) (l : Local)
 walks_own z r r' s choice l a l' (builds b next y t) h i m = built_puts next.activity (built_next z (word z r.world) choice l b next t) (inserting_puts next.activity m)
 walks_own z r r' s choice l a l' stores_version h i m = walk_begins z.cells _
 walks_own z r r' s choice l a l' (meets_cell c e) h i m =
-    let before = row z r r' s choice l InsFrom l' h i in
-    let k = knows_list z r r' s choice l InsFrom l' h i in
-    let w = walks_list z r r' s choice l InsFrom l' h i in
-    let sound = its_list z r r' s choice l InsFrom l' h i tt in
-    let cell = (known z r r' s choice l InsFrom l' h i).ranges.cell in
+    let before = row z r r' s choice l (Activity.Insert Insert.Link) l' h i in
+    let k = knows_list z r r' s choice l (Activity.Insert Insert.Link) l' h i in
+    let w = walks_list z r r' s choice l (Activity.Insert Insert.Link) l' h i in
+    let sound = its_list z r r' s choice l (Activity.Insert Insert.Link) l' h i tt in
+    let cell = (known z r r' s choice l (Activity.Insert Insert.Link) l' h i).ranges.cell in
     let next = at_next before l.link (before.link l.link) c (sound.list l.link k.on) (link_is (word z r.world) l.row l.link ∙ e) in
     let fewer = walked_fewer z.cells before l.link l.walked l.cell cell k.unlisted w in
     let on = walk_goes_on z.cells before l.link l.walked c (sound.below c next.listed) next.listed next.behind w in
-    let left = leaves z.cells _ _ (list_step z r r' s choice l InsFrom l' h i l.row (linked z r r' s choice l InsFrom l' h i tt)) in
+    let left = leaves z.cells _ _ (list_step z r r' s choice l (Activity.Insert Insert.Link) l' h i l.row (linked z r r' s choice l (Activity.Insert Insert.Link) l' h i tt)) in
     (behind_same before _ left.cell l.link c k.on (left.cell c next.listed) next.behind, rw (one_more_is z l.walked (omega (arith, fewer))) (walk_stays z.cells before _ (Some c) (l.walked + 1) left on))
 walks_own z r r' s choice l a l' (key_before e) h i m =
-    let left = leaves z.cells _ _ (list_step z r r' s choice l InsKey l' h i l.row (linked z r r' s choice l InsKey l' h i tt)) in
-    walk_stays z.cells _ _ (Some l.place) l.walked left (walks_list z r r' s choice l InsKey l' h i).1
-walks_own z r r' s choice l a l' (key_same e) h i m = walked z r r' s choice l InsKey l' h i InsKey l refl tt (knows_list z r r' s choice l InsKey l' h i) (walks_list z r r' s choice l InsKey l' h i)
+    let left = leaves z.cells _ _ (list_step z r r' s choice l (Activity.Insert Insert.Key) l' h i l.row (linked z r r' s choice l (Activity.Insert Insert.Key) l' h i tt)) in
+    walk_stays z.cells _ _ (Some l.place) l.walked left (walks_list z r r' s choice l (Activity.Insert Insert.Key) l' h i).1
+walks_own z r r' s choice l a l' (key_same e) h i m = walked z r r' s choice l (Activity.Insert Insert.Key) l' h i (Activity.Insert Insert.Key) l refl tt (knows_list z r r' s choice l (Activity.Insert Insert.Key) l' h i) (walks_list z r r' s choice l (Activity.Insert Insert.Key) l' h i)
 walks_own z r r' s choice l a l' (version_before e) h i m =
-    let left = leaves z.cells _ _ (list_step z r r' s choice l InsVer l' h i l.row (linked z r r' s choice l InsVer l' h i tt)) in
-    walk_stays z.cells _ _ (Some l.place) l.walked left (walks_list z r r' s choice l InsVer l' h i).1
+    let left = leaves z.cells _ _ (list_step z r r' s choice l (Activity.Insert Insert.Version) l' h i l.row (linked z r r' s choice l (Activity.Insert Insert.Version) l' h i tt)) in
+    walk_stays z.cells _ _ (Some l.place) l.walked left (walks_list z r r' s choice l (Activity.Insert Insert.Version) l' h i).1
 walks_own z r r' s choice l a l' (loses n) h i m = walk_begins z.cells _
 walks_own z r r' s choice l a l' (meets_stamped j c version next e n) h i m = look_puts z _ next n (inserting_puts next m)
 walks_own z r r' s choice l a l' (meets_neither j next e n) h i m = look_puts z _ next n (inserting_puts next m)

@@ -5,7 +5,7 @@ use Rattle.kw_words.specs.declared.layout.Name.TheVariants as name
 use Rattle.kw_words.specs.Count.{count_of}
 use Rattle.kw_lists.proofs.Places.{cell_here}
 use Rattle.kw_world.specs.declared.activity.Activity.{Activity}
-use Rattle.kw_world.specs.declared.activity.Activity.TheVariants.{PutAdd, PutClear}
+use Rattle.kw_world.specs.declared.activity.put.Put.TheVariants as Put
 use Rattle.kw_world.specs.declared.local.Local.{Local}
 use Rattle.kw_world.specs.declared.event.Choice.{Choice}
 use Rattle.kw_world.specs.PutTransitions.{has_room}
@@ -26,7 +26,7 @@ use Rattle.kw_puts.proofs.Owners.{row_linked}
 use Rattle.kw_puts.proofs.RelyProof.{unlisted_puts}
 
 -- a cell that is given is not listed: it was nobody's
-given_unlisted : (z : Sizes) (r r' : Run) (s : ℕ) (choice : Choice) (l l' : Local) → has_room z (count_of (word z r.world (name.Count l.row))) ≡ true → Happens z r r' s choice l l' PutAdd → Below z r → r.listed l.row (given_in (word z r.world) l.row) ≡ false
+given_unlisted : (z : Sizes) (r r' : Run) (s : ℕ) (choice : Choice) (l l' : Local) → has_room z (count_of (word z r.world (name.Count l.row))) ≡ true → Happens z r r' s choice l l' (Activity.Put Put.Add) → Below z r → r.listed l.row (given_in (word z r.world) l.row) ≡ false
 given_unlisted z r r' s choice l l' m h i = which (r.listed l.row (given_in (word z r.world) l.row)) refl
   where
     which : (b : Bool) → r.listed l.row (given_in (word z r.world) l.row) ≡ b → r.listed l.row (given_in (word z r.world) l.row) ≡ false
@@ -71,7 +71,7 @@ unlisted_own z r r' s choice l a l' _ h i u = absurd u
 
 -- and it is once it is inserted
 pub clear_puts : (b : Activity) → IsPutClear b → IsPutting b
-clear_puts PutClear u = tt
+clear_puts (Activity.Put Put.Clear) u = tt
 clear_puts _ u = absurd u
 
 listed_own : (z : Sizes) (r r' : Run) (s : ℕ) (choice : Choice) (l : Local) (a : Activity) (l' : Local) → Arrow z (word z r.world) s choice l a l' → Happens z r r' s choice l l' a → Below z r → IsPutClear l'.activity → r'.listed l'.row l'.cell ≡ true

@@ -8,7 +8,20 @@ use Rattle.kw_words.proofs.ScanWords.{scan_of-Waiting, scan_of-scan_word}
 use Rattle.kw_model.specs.declared.call.Call.{Call}
 use Rattle.kw_model.specs.declared.call.Call.TheVariants.{Put, Del, Get, Scan}
 use Rattle.kw_world.specs.declared.activity.Activity.{Activity}
-use Rattle.kw_world.specs.declared.activity.Activity.TheVariants.{Idle, ScanWait, ScanDraw, ScanSettle, Start, Head, GuessMin, Walk, WalkMin, Look, LookKey, LookClock, LookHelp, ListFrom, ListKey, ListVer, ListVal, RestKey, RestVal, ClearScan, PutClock, Stamp, Insert, Leave, HelpSettle, Replace, HelpDraw, ScanClock}
+use Rattle.kw_world.specs.declared.activity.draw.Draw.TheVariants as Draw
+use Rattle.kw_world.specs.declared.activity.rebalance.freeze.Freeze.TheVariants as Freeze
+use Rattle.kw_world.specs.declared.activity.insert.Insert.TheVariants as Insert
+use Rattle.kw_world.specs.declared.activity.look.Look.TheVariants as Look
+use Rattle.kw_world.specs.declared.activity.put.Put.TheVariants as Put
+use Rattle.kw_world.specs.declared.activity.read.Read.TheVariants as Read
+use Rattle.kw_world.specs.declared.activity.rebalance.Rebalance.TheVariants as Rebalance
+use Rattle.kw_world.specs.declared.activity.rebalance.replace.Replace.TheVariants as Replace
+use Rattle.kw_world.specs.declared.activity.walk.Walk.TheVariants as Walk
+use Rattle.kw_world.specs.declared.activity.rebalance.engage.Engage.TheVariants as Engage
+use Rattle.kw_world.specs.declared.activity.enter.Enter.TheVariants as Enter
+use Rattle.kw_world.specs.declared.activity.rebalance.gather.Gather.TheVariants as Gather
+use Rattle.kw_world.specs.declared.activity.rebalance.seek.Seek.TheVariants as Seek
+use Rattle.kw_world.specs.declared.activity.rebalance.write.Write.TheVariants as Write
 use Rattle.kw_world.specs.declared.local.Local.{Local}
 use Rattle.kw_world.specs.declared.event.Choice.{Choice}
 use Rattle.kw_world.specs.Sizes.{Sizes}
@@ -46,19 +59,11 @@ use Rattle.kw_core.proofs.FreezeFrame.{SettlesScan, clock_never_falls}
 
 -- after a look at an entry or a cell: it goes on reading, it walks on, or it is over
 abbrev pub IsAfterRead : Activity → Type 0
-IsAfterRead (Look j) = Unit {0}
-IsAfterRead LookKey = Unit {0}
-IsAfterRead LookClock = Unit {0}
-IsAfterRead LookHelp = Unit {0}
-IsAfterRead ListFrom = Unit {0}
-IsAfterRead ListKey = Unit {0}
-IsAfterRead ListVer = Unit {0}
-IsAfterRead ListVal = Unit {0}
-IsAfterRead RestKey = Unit {0}
-IsAfterRead RestVal = Unit {0}
-IsAfterRead Walk = Unit {0}
-IsAfterRead (ClearScan answer) = Unit {0}
-IsAfterRead (Leave answer) = Unit {0}
+IsAfterRead (Activity.Look _) = Unit {0}
+IsAfterRead (Activity.Read _) = Unit {0}
+IsAfterRead (Activity.Walk Walk.Next) = Unit {0}
+IsAfterRead (Activity.EndScan answer) = Unit {0}
+IsAfterRead (Activity.Leave answer) = Unit {0}
 IsAfterRead _ = ⊥
 
 -- the next look
@@ -86,110 +91,82 @@ after_read z v s choice l a k (list_ends next e n) x = cell_after _ next n
 after_read z v s choice l a k (key_above next e n) x = cell_after _ next n
 after_read z v s choice l a k (rest_passed next e n) x = cell_after _ next n
 after_read z v s choice l a k (gathers_rest next n) x = cell_after _ next n
-after_read z v s choice l (Look j) k b x = tt
-after_read z v s choice l LookKey k b x = tt
-after_read z v s choice l LookClock k b x = tt
-after_read z v s choice l ListFrom k b x = tt
-after_read z v s choice l ListKey k b x = tt
-after_read z v s choice l ListVer k b x = tt
-after_read z v s choice l ListVal k b x = tt
-after_read z v s choice l RestKey k b x = tt
+after_read z v s choice l (Activity.Look (Look.Entry j)) k b x = tt
+after_read z v s choice l (Activity.Look Look.Key) k b x = tt
+after_read z v s choice l (Activity.Look Look.Clock) k b x = tt
+after_read z v s choice l (Activity.Read Read.Link) k b x = tt
+after_read z v s choice l (Activity.Read Read.Key) k b x = tt
+after_read z v s choice l (Activity.Read Read.Version) k b x = tt
+after_read z v s choice l (Activity.Read Read.Value) k b x = tt
+after_read z v s choice l (Activity.Read Read.LeftOverKey) k b x = tt
 after_read z v s choice l a k b x = absurd x
 
 -- a read row does not lead to a scan that has loaded the clock
 loaded_not_read : (c : Activity) → HasLoaded c → IsAfterRead c → ⊥
-loaded_not_read ScanWait x y = y
-loaded_not_read ScanDraw x y = y
+loaded_not_read (Activity.Draw Draw.Wait) x y = y
+loaded_not_read (Activity.Draw Draw.Version) x y = y
+loaded_not_read (Activity.Walk Walk.First) x y = x
 loaded_not_read _ x y = x
 
 -- a read row does not lead to a scan's beginning
 waiting_not_read : (c : Activity) → IsWaiting c → IsAfterRead c → ⊥
-waiting_not_read ScanDraw x y = y
-waiting_not_read ScanSettle x y = y
+waiting_not_read (Activity.Draw Draw.Version) x y = y
+waiting_not_read (Activity.Draw Draw.Settle) x y = y
+waiting_not_read (Activity.Walk Walk.First) x y = x
 waiting_not_read _ x y = x
 
 -- a scan that is to settle still says that it waits
 pub settling_waits : (c : Activity) → IsSettling c → IsWaiting c
-settling_waits ScanSettle x = tt
+settling_waits (Activity.Draw Draw.Settle) x = tt
 settling_waits _ x = absurd x
 
 -- the event that leads to a waiting scan is the store of its word, or its draw
-pub waits_from : (z : Sizes) (v : Words) (s : ℕ) (choice : Choice) (l : Local) (a : Activity) (k : Local) → Arrow z v s choice l a k → IsWaiting k.activity → ((a ≡ ScanWait) × (k ≡ record l { activity = ScanDraw })) ⊎ ((a ≡ ScanDraw) × (k ≡ record l { drawn = v name.Clock; activity = ScanSettle }))
+pub waits_from : (z : Sizes) (v : Words) (s : ℕ) (choice : Choice) (l : Local) (a : Activity) (k : Local) → Arrow z v s choice l a k → IsWaiting k.activity → ((a ≡ Activity.Draw Draw.Wait) × (k ≡ record l { activity = Activity.Draw Draw.Version })) ⊎ ((a ≡ Activity.Draw Draw.Version) × (k ≡ record l { drawn = v name.Clock; activity = Activity.Draw Draw.Settle }))
 waits_from z v s choice l a k (builds b next y t) x = after_waiting next.activity (built_next z v choice l b next t) x
 waits_from z v s choice l a k stores_waiting x = inl (refl, refl)
 waits_from z v s choice l a k draws x = inr (refl, refl)
-waits_from z v s choice l (Look j) k b x = absurd (waiting_not_read k.activity x (after_read z v s choice l (Look j) k b tt))
-waits_from z v s choice l LookKey k b x = absurd (waiting_not_read k.activity x (after_read z v s choice l LookKey k b tt))
-waits_from z v s choice l LookClock k b x = absurd (waiting_not_read k.activity x (after_read z v s choice l LookClock k b tt))
-waits_from z v s choice l LookHelp k b x = absurd (waiting_not_read k.activity x (after_read z v s choice l LookHelp k b tt))
-waits_from z v s choice l ListFrom k b x = absurd (waiting_not_read k.activity x (after_read z v s choice l ListFrom k b tt))
-waits_from z v s choice l ListKey k b x = absurd (waiting_not_read k.activity x (after_read z v s choice l ListKey k b tt))
-waits_from z v s choice l ListVer k b x = absurd (waiting_not_read k.activity x (after_read z v s choice l ListVer k b tt))
-waits_from z v s choice l ListVal k b x = absurd (waiting_not_read k.activity x (after_read z v s choice l ListVal k b tt))
-waits_from z v s choice l RestKey k b x = absurd (waiting_not_read k.activity x (after_read z v s choice l RestKey k b tt))
-waits_from z v s choice l RestVal k b x = absurd (waiting_not_read k.activity x (after_read z v s choice l RestVal k b tt))
+waits_from z v s choice l (Activity.Look (Look.Entry j)) k b x = absurd (waiting_not_read k.activity x (after_read z v s choice l (Activity.Look (Look.Entry j)) k b tt))
+waits_from z v s choice l (Activity.Look Look.Key) k b x = absurd (waiting_not_read k.activity x (after_read z v s choice l (Activity.Look Look.Key) k b tt))
+waits_from z v s choice l (Activity.Look Look.Clock) k b x = absurd (waiting_not_read k.activity x (after_read z v s choice l (Activity.Look Look.Clock) k b tt))
+waits_from z v s choice l (Activity.Look Look.Help) k b x = absurd (waiting_not_read k.activity x (after_read z v s choice l (Activity.Look Look.Help) k b tt))
+waits_from z v s choice l (Activity.Read Read.Link) k b x = absurd (waiting_not_read k.activity x (after_read z v s choice l (Activity.Read Read.Link) k b tt))
+waits_from z v s choice l (Activity.Read Read.Key) k b x = absurd (waiting_not_read k.activity x (after_read z v s choice l (Activity.Read Read.Key) k b tt))
+waits_from z v s choice l (Activity.Read Read.Version) k b x = absurd (waiting_not_read k.activity x (after_read z v s choice l (Activity.Read Read.Version) k b tt))
+waits_from z v s choice l (Activity.Read Read.Value) k b x = absurd (waiting_not_read k.activity x (after_read z v s choice l (Activity.Read Read.Value) k b tt))
+waits_from z v s choice l (Activity.Read Read.LeftOverKey) k b x = absurd (waiting_not_read k.activity x (after_read z v s choice l (Activity.Read Read.LeftOverKey) k b tt))
+waits_from z v s choice l (Activity.Read Read.LeftOverValue) k b x = absurd (waiting_not_read k.activity x (after_read z v s choice l (Activity.Read Read.LeftOverValue) k b tt))
+waits_from z v s choice l (Activity.Draw Draw.Clock) k b x = absurd x
 waits_from z v s choice l a k b x = absurd x
 
 -- a scan that has its version had it, or has just settled it; and a seat on its way that is no scan
 -- began so
 pub drawn_from : (z : Sizes) (v : Words) (s : ℕ) (choice : Choice) (l : Local) (a : Activity) (k : Local) → Arrow z v s choice l a k → is_scan k.call ≡ true → HasDrawn k.activity → HasDrawn a ⊎ IsSettling a
 drawn_from z v s choice l a k (builds b next y t) e x = after_drawn next.activity (built_next z v choice l b next t) x
-drawn_from z v s choice l Start k b e x = inl tt
-drawn_from z v s choice l Head k b e x = inl tt
-drawn_from z v s choice l GuessMin k b e x = inl tt
-drawn_from z v s choice l Walk k b e x = inl tt
-drawn_from z v s choice l WalkMin k b e x = inl tt
-drawn_from z v s choice l (Look j) k b e x = inl tt
-drawn_from z v s choice l LookKey k b e x = inl tt
-drawn_from z v s choice l LookClock k b e x = inl tt
-drawn_from z v s choice l LookHelp k b e x = inl tt
-drawn_from z v s choice l ListFrom k b e x = inl tt
-drawn_from z v s choice l ListKey k b e x = inl tt
-drawn_from z v s choice l ListVer k b e x = inl tt
-drawn_from z v s choice l ListVal k b e x = inl tt
-drawn_from z v s choice l RestKey k b e x = inl tt
-drawn_from z v s choice l RestVal k b e x = inl tt
-drawn_from z v s choice l (ClearScan answer) k b e x = inl tt
-drawn_from z v s choice l ScanSettle k b e x = inr tt
+drawn_from z v s choice l (Activity.Walk _) k b e x = inl tt
+drawn_from z v s choice l (Activity.Look _) k b e x = inl tt
+drawn_from z v s choice l (Activity.Read _) k b e x = inl tt
+drawn_from z v s choice l (Activity.EndScan answer) k b e x = inl tt
+drawn_from z v s choice l (Activity.Draw Draw.Settle) k b e x = inr tt
 drawn_from z v s choice l a k (enters n) e x = true_false e n
 drawn_from z v s choice l a k b e x = absurd x
 
 -- the scan's word says so from then on, until it is cleared
 pub settled_from : (z : Sizes) (v : Words) (s : ℕ) (choice : Choice) (l : Local) (a : Activity) (k : Local) → Arrow z v s choice l a k → is_scan k.call ≡ true → IsSettled k.activity → IsCovering a ⊎ IsSettling a
 settled_from z v s choice l a k (builds b next y t) e x = after_settled next.activity (built_next z v choice l b next t) x
-settled_from z v s choice l Start k b e x = inl tt
-settled_from z v s choice l Head k b e x = inl tt
-settled_from z v s choice l GuessMin k b e x = inl tt
-settled_from z v s choice l Walk k b e x = inl tt
-settled_from z v s choice l WalkMin k b e x = inl tt
-settled_from z v s choice l (Look j) k b e x = inl tt
-settled_from z v s choice l LookKey k b e x = inl tt
-settled_from z v s choice l LookClock k b e x = inl tt
-settled_from z v s choice l LookHelp k b e x = inl tt
-settled_from z v s choice l ListFrom k b e x = inl tt
-settled_from z v s choice l ListKey k b e x = inl tt
-settled_from z v s choice l ListVer k b e x = inl tt
-settled_from z v s choice l ListVal k b e x = inl tt
-settled_from z v s choice l RestKey k b e x = inl tt
-settled_from z v s choice l RestVal k b e x = inl tt
-settled_from z v s choice l ScanSettle k b e x = inr tt
+settled_from z v s choice l (Activity.Walk _) k b e x = inl tt
+settled_from z v s choice l (Activity.Look _) k b e x = inl tt
+settled_from z v s choice l (Activity.Read _) k b e x = inl tt
+settled_from z v s choice l (Activity.Draw Draw.Settle) k b e x = inr tt
 settled_from z v s choice l a k (enters n) e x = true_false e n
 settled_from z v s choice l a k b e x = absurd x
 
 -- a reader that has looked at the first entry had looked at it, or looks at it now
-reading_from : (z : Sizes) (v : Words) (s : ℕ) (choice : Choice) (l : Local) (a : Activity) (k : Local) → Arrow z v s choice l a k → IsReading k.activity → IsReading a ⊎ (a ≡ Look 0)
+reading_from : (z : Sizes) (v : Words) (s : ℕ) (choice : Choice) (l : Local) (a : Activity) (k : Local) → Arrow z v s choice l a k → IsReading k.activity → IsReading a ⊎ (a ≡ Activity.Look (Look.Entry 0))
 reading_from z v s choice l a k (builds b next y t) x = after_reading next.activity (built_next z v choice l b next t) x
-reading_from z v s choice l (Look zero) k b x = inr refl
-reading_from z v s choice l (Look (suc j)) k b x = inl (omega arith)
-reading_from z v s choice l LookKey k b x = inl tt
-reading_from z v s choice l LookClock k b x = inl tt
-reading_from z v s choice l LookHelp k b x = inl tt
-reading_from z v s choice l ListFrom k b x = inl tt
-reading_from z v s choice l ListKey k b x = inl tt
-reading_from z v s choice l ListVer k b x = inl tt
-reading_from z v s choice l ListVal k b x = inl tt
-reading_from z v s choice l RestKey k b x = inl tt
-reading_from z v s choice l RestVal k b x = inl tt
+reading_from z v s choice l (Activity.Look (Look.Entry zero)) k b x = inr refl
+reading_from z v s choice l (Activity.Look (Look.Entry (suc j))) k b x = inl (omega arith)
+reading_from z v s choice l (Activity.Look _) k b x = inl tt
+reading_from z v s choice l (Activity.Read _) k b x = inl tt
 reading_from z v s choice l a k (reads_last e n) x = absurd (omega (arith, x))
 reading_from z v s choice l a k (reads_before e n) x = absurd (omega (arith, x))
 reading_from z v s choice l a k b x = absurd x
@@ -209,132 +186,128 @@ not_idle_drawn z v s choice l a k (key_above next e n) x y = cell_version _ next
 not_idle_drawn z v s choice l a k (rest_passed next e n) x y = cell_version _ next n
 not_idle_drawn z v s choice l a k (gathers_rest next n) x y = cell_version _ next n
 not_idle_drawn z v s choice l a k (leaves answer) x y = absurd y
-not_idle_drawn z v s choice l ScanSettle k b x y = absurd x
-not_idle_drawn z v s choice l PutClock k b x y = absurd x
-not_idle_drawn z v s choice l Stamp k b x y = absurd x
+not_idle_drawn z v s choice l (Activity.Draw Draw.Settle) k b x y = absurd x
+not_idle_drawn z v s choice l (Activity.Put Put.Clock) k b x y = absurd x
+not_idle_drawn z v s choice l (Activity.Put Put.Stamp) k b x y = absurd x
 not_idle_drawn z v s choice l a k b x y = refl
 
 -- a scan on its way has its version
 pub covering_draws : (a : Activity) → IsCovering a → HasDrawn a
-covering_draws Start x = tt
-covering_draws Head x = tt
-covering_draws GuessMin x = tt
-covering_draws Walk x = tt
-covering_draws WalkMin x = tt
-covering_draws (Look j) x = tt
-covering_draws LookKey x = tt
-covering_draws LookClock x = tt
-covering_draws LookHelp x = tt
-covering_draws ListFrom x = tt
-covering_draws ListKey x = tt
-covering_draws ListVer x = tt
-covering_draws ListVal x = tt
-covering_draws RestKey x = tt
-covering_draws RestVal x = tt
+covering_draws (Activity.Walk _) x = tt
+covering_draws (Activity.Look _) x = tt
+covering_draws (Activity.Read _) x = tt
 covering_draws _ x = absurd x
 
 -- and its word says so
 pub covering_settled : (a : Activity) → IsCovering a → IsSettled a
-covering_settled (ClearScan answer) x = tt
+covering_settled (Activity.EndScan answer) x = tt
 covering_settled _ x = x
 
 -- a scan whose word is settled has its version
 settled_draws : (a : Activity) → IsSettled a → HasDrawn a
-settled_draws (ClearScan answer) x = tt
-settled_draws (Leave answer) x = absurd x
+settled_draws (Activity.EndScan answer) x = tt
+settled_draws (Activity.Leave answer) x = absurd x
 settled_draws _ x = x
 
 -- a scan that reads has its version
 pub reading_draws : (a : Activity) → IsReading a → HasDrawn a
-reading_draws (Look j) x = tt
-reading_draws LookKey x = tt
-reading_draws LookClock x = tt
-reading_draws LookHelp x = tt
-reading_draws ListFrom x = tt
-reading_draws ListKey x = tt
-reading_draws ListVer x = tt
-reading_draws ListVal x = tt
-reading_draws RestKey x = tt
-reading_draws RestVal x = tt
+reading_draws (Activity.Look _) x = tt
+reading_draws (Activity.Read _) x = tt
 reading_draws _ x = absurd x
 
 -- where a scan that has its version has no more event of its own that draws
 pub draws_no_more : (a : Activity) → HasDrawn a → IsNoDraw a
-draws_no_more Idle x = absurd x
-draws_no_more ScanDraw x = absurd x
-draws_no_more ScanSettle x = absurd x
-draws_no_more (HelpDraw i) x = absurd x
+draws_no_more Activity.Idle x = absurd x
+draws_no_more (Activity.Draw Draw.Version) x = absurd x
+draws_no_more (Activity.Draw Draw.Settle) x = absurd x
+draws_no_more (Activity.Rebalance (Rebalance.Freeze (Freeze.Draw i))) x = absurd x
 draws_no_more _ x = tt
 
 -- only a scan settles
 settling_scans : (a : Activity) (l : Local) → IsSettling a → IsKind a l → IsScanCall l.call
-settling_scans ScanSettle l x k = k
+settling_scans (Activity.Draw Draw.Settle) l x k = k
 settling_scans _ l x k = absurd x
 
 -- The word.
 
 module _ {z : Sizes} {r r' : Run} {s : ℕ} {choice : Choice} {l l' : Local} where
   -- a walk that is stopped clears the word and leaves
-  pub stopped_clears : Happens z r r' s choice l l' Walk → is_stopped choice l ≡ true → word z r'.world (name.Scan s) ≡ scan_word Quiet
+  pub stopped_clears : Happens z r r' s choice l l' (Activity.Walk Walk.Next) → is_stopped choice l ≡ true → word z r'.world (name.Scan s) ≡ scan_word Quiet
   stopped_clears h e = (subst (λ b. Changed z r.world.rows (word z r.world) (word z r'.world) (walk_transition b s l)) e h.changed).same
 
   -- its seat is on its way no more
-  stopped_leaves : Happens z r r' s choice l l' Walk → is_stopped choice l ≡ true → IsSettled l'.activity → ⊥
+  stopped_leaves : Happens z r r' s choice l l' (Activity.Walk Walk.Next) → is_stopped choice l ≡ true → IsSettled l'.activity → ⊥
   stopped_leaves h e x = subst (λ (k : Local). IsSettled k.activity) (h.next ∙ ap (λ b. (followed r.world.rows (walk_transition b s l) (word z r.world (walk_transition b s l).operation.name)).local) e) x
 
   -- a walk that is not stopped writes no word
-  pub goes_on_walk : Happens z r r' s choice l l' Walk → is_stopped choice l ≡ false → word z r'.world (name.Scan s) ≡ word z r.world (name.Scan s)
+  pub goes_on_walk : Happens z r r' s choice l l' (Activity.Walk Walk.Next) → is_stopped choice l ≡ false → word z r'.world (name.Scan s) ≡ word z r.world (name.Scan s)
   goes_on_walk h e = (subst (λ b. Changed z r.world.rows (word z r.world) (word z r'.world) (walk_transition b s l)) e h.changed).loaded refl (name.Scan s)
 
   -- the word of a scan on its way stays
   word_settled : (a : Activity) → Happens z r r' s choice l l' a → IsCovering a → IsSettled l'.activity → word z r'.world (name.Scan s) ≡ word z r.world (name.Scan s)
-  word_settled Walk h c x = met (is_stopped choice l) refl
+  word_settled (Activity.Walk Walk.Next) h c x = met (is_stopped choice l) refl
     where
       met : (b : Bool) → is_stopped choice l ≡ b → word z r'.world (name.Scan s) ≡ word z r.world (name.Scan s)
       met true e = absurd (stopped_leaves h e x)
       met false e = goes_on_walk h e
-  word_settled ScanWait h c x = absurd c
-  word_settled ScanSettle h c x = absurd c
-  word_settled (ClearScan answer) h c x = absurd c
-  word_settled Insert h c x = absurd c
-  word_settled (HelpSettle i) h c x = absurd c
-  word_settled Replace h c x = absurd c
+  word_settled (Activity.Draw Draw.Wait) h c x = absurd c
+  word_settled (Activity.Draw Draw.Settle) h c x = absurd c
+  word_settled (Activity.EndScan answer) h c x = absurd c
+  word_settled (Activity.Insert Insert.Exchange) h c x = absurd c
+  word_settled (Activity.Rebalance (Rebalance.Freeze (Freeze.Settle i))) h c x = absurd c
+  word_settled (Activity.Rebalance (Rebalance.Replace Replace.Exchange)) h c x = absurd c
+  word_settled (Activity.Enter Enter.Announce) h c x = unwritten (Activity.Enter Enter.Announce) h (name.Scan s) h.seat (λ e. cc)
+  word_settled (Activity.Look Look.Key) h c x = unwritten (Activity.Look Look.Key) h (name.Scan s) h.seat (λ e. cc)
+  word_settled (Activity.Put Put.Count) h c x = unwritten (Activity.Put Put.Count) h (name.Scan s) h.seat (λ e. cc)
+  word_settled (Activity.Read Read.Link) h c x = unwritten (Activity.Read Read.Link) h (name.Scan s) h.seat (λ e. cc)
+  word_settled (Activity.Rebalance (Rebalance.Engage Engage.Clock)) h c x = unwritten (Activity.Rebalance (Rebalance.Engage Engage.Clock)) h (name.Scan s) h.seat (λ e. cc)
+  word_settled (Activity.Rebalance (Rebalance.Gather Gather.Link)) h c x = unwritten (Activity.Rebalance (Rebalance.Gather Gather.Link)) h (name.Scan s) h.seat (λ e. cc)
+  word_settled (Activity.Rebalance (Rebalance.Seek Seek.Next)) h c x = unwritten (Activity.Rebalance (Rebalance.Seek Seek.Next)) h (name.Scan s) h.seat (λ e. cc)
+  word_settled (Activity.Rebalance (Rebalance.Write Write.Count)) h c x = unwritten (Activity.Rebalance (Rebalance.Write Write.Count)) h (name.Scan s) h.seat (λ e. cc)
   word_settled a h c x = unwritten a h (name.Scan s) h.seat (λ e. cc)
 
   -- the word is set where a scan begins to wait and where it settles; every other event keeps it or
   -- clears it
-  word_next : (a : Activity) → Happens z r r' s choice l l' a → (IsSettling a → ⊥) → (IsWaiting l'.activity → ⊥) → (a ≡ ScanWait → IsWaiting l'.activity) → (SettlesScan s a → word z r.world (name.Scan s) ≡ scan_word Quiet) → (word z r'.world (name.Scan s) ≡ word z r.world (name.Scan s)) ⊎ (word z r'.world (name.Scan s) ≡ scan_word Quiet)
-  word_next Walk h n w f q = met (is_stopped choice l) refl
+  word_next : (a : Activity) → Happens z r r' s choice l l' a → (IsSettling a → ⊥) → (IsWaiting l'.activity → ⊥) → (a ≡ Activity.Draw Draw.Wait → IsWaiting l'.activity) → (SettlesScan s a → word z r.world (name.Scan s) ≡ scan_word Quiet) → (word z r'.world (name.Scan s) ≡ word z r.world (name.Scan s)) ⊎ (word z r'.world (name.Scan s) ≡ scan_word Quiet)
+  word_next (Activity.Walk Walk.Next) h n w f q = met (is_stopped choice l) refl
     where
       met : (b : Bool) → is_stopped choice l ≡ b → (word z r'.world (name.Scan s) ≡ word z r.world (name.Scan s)) ⊎ (word z r'.world (name.Scan s) ≡ scan_word Quiet)
       met true e = inr (stopped_clears h e)
       met false e = inl (goes_on_walk h e)
-  word_next ScanWait h n w f q = absurd (w (f refl))
-  word_next ScanSettle h n w f q = absurd (n tt)
-  word_next (ClearScan answer) h n w f q = inr h.changed.same
-  word_next Insert h n w f q = inl (unwritten Insert h (name.Scan s) h.seat (λ e. no_link l.row l.link (name.Scan s) refl e))
-  word_next (HelpSettle j) h n w f q = which (cases_eq s j)
+  word_next (Activity.Draw Draw.Wait) h n w f q = absurd (w (f refl))
+  word_next (Activity.Draw Draw.Settle) h n w f q = absurd (n tt)
+  word_next (Activity.EndScan answer) h n w f q = inr h.changed.same
+  word_next (Activity.Insert Insert.Exchange) h n w f q = inl (unwritten (Activity.Insert Insert.Exchange) h (name.Scan s) h.seat (λ e. no_link l.row l.link (name.Scan s) refl e))
+  word_next (Activity.Rebalance (Rebalance.Freeze (Freeze.Settle j))) h n w f q = which (cases_eq s j)
     where
       other : s ≡ j → word z r.world (name.Scan j) ≢ scan_word (Waiting l.rebalance.waiting)
       other e y = let x : scan_word Quiet ≡ scan_word (Waiting l.rebalance.waiting) = sym (q e) ∙ ap (λ c. word z r.world (name.Scan c)) e ∙ y in absurd (omega (arith, x))
 
       which : (s ≡ j) ⊎ (s ≡ j → ⊥) → (word z r'.world (name.Scan s) ≡ word z r.world (name.Scan s)) ⊎ (word z r'.world (name.Scan s) ≡ scan_word Quiet)
       which (inl e) = inl (subst (λ c. word z r'.world (name.Scan c) ≡ word z r.world (name.Scan c)) (sym e) (not_exchanged _ _ _ _ h.changed.same (other e)))
-      which (inr d) = inl (unwritten (HelpSettle j) h (name.Scan s) h.seat (λ e. d (sym (same_scan j s e))))
-  word_next Replace h n w f q = inl (unwritten Replace h (name.Scan s) h.seat (no_scan_replaced l.rebalance.before s))
+      which (inr d) = inl (unwritten (Activity.Rebalance (Rebalance.Freeze (Freeze.Settle j))) h (name.Scan s) h.seat (λ e. d (sym (same_scan j s e))))
+  word_next (Activity.Rebalance (Rebalance.Replace Replace.Exchange)) h n w f q = inl (unwritten (Activity.Rebalance (Rebalance.Replace Replace.Exchange)) h (name.Scan s) h.seat (no_scan_replaced l.rebalance.before s))
+  word_next (Activity.Enter Enter.Announce) h n w f q = inl (unwritten (Activity.Enter Enter.Announce) h (name.Scan s) h.seat (λ e. cc))
+  word_next (Activity.Look Look.Key) h n w f q = inl (unwritten (Activity.Look Look.Key) h (name.Scan s) h.seat (λ e. cc))
+  word_next (Activity.Put Put.Count) h n w f q = inl (unwritten (Activity.Put Put.Count) h (name.Scan s) h.seat (λ e. cc))
+  word_next (Activity.Read Read.Link) h n w f q = inl (unwritten (Activity.Read Read.Link) h (name.Scan s) h.seat (λ e. cc))
+  word_next (Activity.Rebalance (Rebalance.Engage Engage.Clock)) h n w f q = inl (unwritten (Activity.Rebalance (Rebalance.Engage Engage.Clock)) h (name.Scan s) h.seat (λ e. cc))
+  word_next (Activity.Rebalance (Rebalance.Gather Gather.Link)) h n w f q = inl (unwritten (Activity.Rebalance (Rebalance.Gather Gather.Link)) h (name.Scan s) h.seat (λ e. cc))
+  word_next (Activity.Rebalance (Rebalance.Seek Seek.Next)) h n w f q = inl (unwritten (Activity.Rebalance (Rebalance.Seek Seek.Next)) h (name.Scan s) h.seat (λ e. cc))
+  word_next (Activity.Rebalance (Rebalance.Write Write.Count)) h n w f q = inl (unwritten (Activity.Rebalance (Rebalance.Write Write.Count)) h (name.Scan s) h.seat (λ e. cc))
   word_next a h n w f q = inl (unwritten a h (name.Scan s) h.seat (λ e. cc))
 
 -- Whether the word is set.
 
 -- the word says that the scan waits, or not
 waits_or_not : (c : Activity) → IsWaiting c ⊎ (IsWaiting c → ⊥)
-waits_or_not ScanDraw = inl tt
-waits_or_not ScanSettle = inl tt
+waits_or_not (Activity.Draw Draw.Version) = inl tt
+waits_or_not (Activity.Draw Draw.Settle) = inl tt
 waits_or_not _ = inr (λ x. x)
 
 -- the scan is to settle, or not
 settles_or_not : (c : Activity) → IsSettling c ⊎ (IsSettling c → ⊥)
-settles_or_not ScanSettle = inl tt
+settles_or_not (Activity.Draw Draw.Settle) = inl tt
 settles_or_not _ = inr (λ x. x)
 
 -- a call that is a scan
@@ -354,7 +327,7 @@ put_not_scan (Some (Scan from upto)) e f = true_false refl (sym e)
 put_not_scan None e f = true_false refl (sym e)
 
 -- a scan that stores its word waits
-wait_waits : (z : Sizes) (v : Words) (s : ℕ) (choice : Choice) (l : Local) (a : Activity) (k : Local) → Arrow z v s choice l a k → a ≡ ScanWait → IsWaiting k.activity
+wait_waits : (z : Sizes) (v : Words) (s : ℕ) (choice : Choice) (l : Local) (a : Activity) (k : Local) → Arrow z v s choice l a k → a ≡ Activity.Draw Draw.Wait → IsWaiting k.activity
 wait_waits z v s choice l a k (builds b next y t) e = absurd (subst IsBuilding e y)
 wait_waits z v s choice l a k stores_waiting e = tt
 wait_waits z v s choice l a k _ e = absurd (cc)
@@ -363,7 +336,7 @@ wait_waits z v s choice l a k _ e = absurd (cc)
 draw_waits : (z : Sizes) (v : Words) (s : ℕ) (choice : Choice) (l : Local) (a : Activity) (k : Local) → Arrow z v s choice l a k → IsWaiting a → IsWaiting k.activity ⊎ IsSettling a
 draw_waits z v s choice l a k (builds b next y t) x = after_waiting b (building_after b y) x
 draw_waits z v s choice l a k draws x = inl tt
-draw_waits z v s choice l ScanSettle k b x = inr tt
+draw_waits z v s choice l (Activity.Draw Draw.Settle) k b x = inr tt
 draw_waits z v s choice l a k _ x = absurd x
 
 -- a scan that settles is on its way
@@ -387,11 +360,11 @@ cell_settled l k f (scans_on r w e g o) = tt
 
 -- the scan clears its word
 abbrev IsClear : Activity → Type 0
-IsClear (ClearScan answer) = Unit {0}
+IsClear (Activity.EndScan answer) = Unit {0}
 IsClear _ = ⊥
 
 -- the walk goes on from its start
-start_settled : (z : Sizes) (v : Words) (s : ℕ) (choice : Choice) (l : Local) (k : Local) → Arrow z v s choice l Start k → IsSettled k.activity
+start_settled : (z : Sizes) (v : Words) (s : ℕ) (choice : Choice) (l : Local) (k : Local) → Arrow z v s choice l (Activity.Walk Walk.Start) k → IsSettled k.activity
 start_settled z v s choice l k (builds b next y t) = absurd y
 start_settled z v s choice l k starts_at_head = tt
 start_settled z v s choice l k (guesses r c e) = tt
@@ -399,12 +372,12 @@ start_settled z v s choice l k guess_fails = tt
 
 -- a scan whose word is settled is in its call
 settled_underway : (a : Activity) → IsSettled a → IsUnderway a
-settled_underway Idle x = absurd x
-settled_underway (Leave answer) x = absurd x
+settled_underway Activity.Idle x = absurd x
+settled_underway (Activity.Leave answer) x = absurd x
 settled_underway _ x = tt
 
 -- a scan on its way goes on, or clears its word
-settled_next : (z : Sizes) (v : Words) (s : ℕ) (choice : Choice) (l : Local) (a : Activity) (k : Local) → Arrow z v s choice l a k → is_scan l.call ≡ true → IsSettled a → IsSettled k.activity ⊎ IsClear a ⊎ (a ≡ Walk) × (is_stopped choice l ≡ true)
+settled_next : (z : Sizes) (v : Words) (s : ℕ) (choice : Choice) (l : Local) (a : Activity) (k : Local) → Arrow z v s choice l a k → is_scan l.call ≡ true → IsSettled a → IsSettled k.activity ⊎ IsClear a ⊎ (a ≡ Activity.Walk Walk.Next) × (is_stopped choice l ≡ true)
 settled_next z v s choice l a k (builds b next y t) f x = after_settled b (building_after b y) x
 settled_next z v s choice l a k (meets_stamped j c version next e n) f x = inl (look_settled z _ next n)
 settled_next z v s choice l a k (meets_neither j next e n) f x = inl (look_settled z _ next n)
@@ -420,23 +393,23 @@ settled_next z v s choice l a k (clears_scan answer) f x = inr (inl tt)
 settled_next z v s choice l a k (stops e) f x = inr (inr (refl, e))
 settled_next z v s choice l a k (puts_in_last e n) f x = put_not_scan l.call e f
 settled_next z v s choice l a k (puts_before e n) f x = put_not_scan l.call e f
-settled_next z v s choice l Start k b f x = inl (start_settled z v s choice l k b)
-settled_next z v s choice l Head k takes_head f x = inl tt
-settled_next z v s choice l GuessMin k (guess_serves w) f x = inl tt
-settled_next z v s choice l GuessMin k (guess_is_above w) f x = inl tt
-settled_next z v s choice l Walk k (reads_last e n) f x = inl tt
-settled_next z v s choice l Walk k (meets_next q e) f x = inl tt
-settled_next z v s choice l WalkMin k (walks_on w) f x = inl tt
-settled_next z v s choice l WalkMin k (reads_before e n) f x = inl tt
+settled_next z v s choice l (Activity.Walk Walk.Start) k b f x = inl (start_settled z v s choice l k b)
+settled_next z v s choice l (Activity.Walk Walk.First) k takes_head f x = inl tt
+settled_next z v s choice l (Activity.Walk Walk.GuessedLeast) k (guess_serves w) f x = inl tt
+settled_next z v s choice l (Activity.Walk Walk.GuessedLeast) k (guess_is_above w) f x = inl tt
+settled_next z v s choice l (Activity.Walk Walk.Next) k (reads_last e n) f x = inl tt
+settled_next z v s choice l (Activity.Walk Walk.Next) k (meets_next q e) f x = inl tt
+settled_next z v s choice l (Activity.Walk Walk.NextLeast) k (walks_on w) f x = inl tt
+settled_next z v s choice l (Activity.Walk Walk.NextLeast) k (reads_before e n) f x = inl tt
 settled_next z v s choice l a k (meets_pending j c e) f x = inl tt
-settled_next z v s choice l LookKey k (is_wanted e) f x = inl tt
-settled_next z v s choice l LookClock k loads_to_help f x = inl tt
+settled_next z v s choice l (Activity.Look Look.Key) k (is_wanted e) f x = inl tt
+settled_next z v s choice l (Activity.Look Look.Clock) k loads_to_help f x = inl tt
 settled_next z v s choice l a k (list_leads c e) f x = inl tt
-settled_next z v s choice l ListKey k (key_below e) f x = inl tt
-settled_next z v s choice l ListKey k (key_within e w) f x = inl tt
-settled_next z v s choice l ListVer k loads_version f x = inl tt
-settled_next z v s choice l ListVal k gathers_listed f x = inl tt
-settled_next z v s choice l RestKey k (rest_wanted e) f x = inl tt
+settled_next z v s choice l (Activity.Read Read.Key) k (key_below e) f x = inl tt
+settled_next z v s choice l (Activity.Read Read.Key) k (key_within e w) f x = inl tt
+settled_next z v s choice l (Activity.Read Read.Version) k loads_version f x = inl tt
+settled_next z v s choice l (Activity.Read Read.Value) k gathers_listed f x = inl tt
+settled_next z v s choice l (Activity.Read Read.LeftOverKey) k (rest_wanted e) f x = inl tt
 settled_next z v s choice l a k _ f x = absurd x
 
 module _ (z : Sizes) (r r' : Run) (s : ℕ) (choice : Choice) (l : Local) (a : Activity) (l' : Local) (b : Arrow z (word z r.world) s choice l a l') (h : Happens z r r' s choice l l' a) (i : Below z r) where
@@ -450,7 +423,7 @@ module _ (z : Sizes) (r r' : Run) (s : ℕ) (choice : Choice) (l : Local) (a : A
 
   -- a seat that settles the scan of a seat has none at work itself
   own_quiet : (c : Activity) → Happens z r r' s choice l l' c → SettlesScan s c → word z r.world (name.Scan s) ≡ scan_word Quiet
-  own_quiet (HelpSettle j) g x = which (i.positions.scans s l g.knows)
+  own_quiet (Activity.Rebalance (Rebalance.Freeze (Freeze.Settle j))) g x = which (i.positions.scans s l g.knows)
     where
       which : IsScanning l.activity l ⊎ (word z r.world (name.Scan s) ≡ scan_word Quiet) → word z r.world (name.Scan s) ≡ scan_word Quiet
       which (inl (inl y)) = absurd (subst IsWaiting g.activity y)
@@ -463,7 +436,7 @@ module _ (z : Sizes) (r r' : Run) (s : ℕ) (choice : Choice) (l : Local) (a : A
   clears = which a h
     where
       which : (c : Activity) → Happens z r r' s choice l l' c → IsClear c → word z r'.world (name.Scan s) ≡ scan_word Quiet
-      which (ClearScan answer) g x = g.changed.same
+      which (Activity.EndScan answer) g x = g.changed.same
       which _ g x = absurd x
 
   -- the scan is at work, or its word is quiet
@@ -473,7 +446,7 @@ module _ (z : Sizes) (r r' : Run) (s : ℕ) (choice : Choice) (l : Local) (a : A
       call : IsSettled a → l'.call ≡ l.call
       call x = (arrow_call z (word z r.world) s choice l a l' b (settled_underway a x)).0
 
-      on_its_way : is_scan l.call ≡ true → IsSettled a → IsSettled l'.activity ⊎ IsClear a ⊎ (a ≡ Walk) × (is_stopped choice l ≡ true) → IsScanning l'.activity l' ⊎ (word z r'.world (name.Scan s) ≡ scan_word Quiet)
+      on_its_way : is_scan l.call ≡ true → IsSettled a → IsSettled l'.activity ⊎ IsClear a ⊎ (a ≡ Activity.Walk Walk.Next) × (is_stopped choice l ≡ true) → IsScanning l'.activity l' ⊎ (word z r'.world (name.Scan s) ≡ scan_word Quiet)
       on_its_way e x (inl y) = inl (inr (subst (λ q. is_scan q ≡ true) (sym (call x)) e, y))
       on_its_way e x (inr (inl y)) = inr (clears y)
       on_its_way e x (inr (inr y)) = inr (stopped_clears (subst (Happens z r r' s choice l l') y.0 h) y.1)
@@ -500,7 +473,7 @@ module _ (z : Sizes) (r r' : Run) (s : ℕ) (choice : Choice) (l : Local) (a : A
 
 -- a seat in a call is busy
 underway_busy : (a : Activity) → IsUnderway a → IsBusy a
-underway_busy Idle x = x
+underway_busy Activity.Idle x = x
 underway_busy _ x = tt
 
 -- an event that leads to a scan with a version neither begins nor ends a call
@@ -521,7 +494,7 @@ pub data Settles (z : Sizes) (r r' : Run) (s : ℕ) (l k : Local) : Type 0 where
   by_helper : (n : IsHelped (word z r.world) r.history s (r.ledger.waits s) (r.settled s)) → k.version ≡ n.version → word z r'.world (name.Scan s) ≡ scan_word (Drawn n.version) → (r'.seats s).drawn ≡ r.settled s → Settles z r r' s l k
 
 -- a scan that settles takes what its word says, or its own draw
-settles_at : (z : Sizes) (r r' : Run) (s : ℕ) (choice : Choice) (l k : Local) → Happens z r r' s choice l k ScanSettle → k.version ≡ version_settled (scan_of (word z r.world (name.Scan s))) l.drawn → IsVersion l.waiting →
+settles_at : (z : Sizes) (r r' : Run) (s : ℕ) (choice : Choice) (l k : Local) → Happens z r r' s choice l k (Activity.Draw Draw.Settle) → k.version ≡ version_settled (scan_of (word z r.world (name.Scan s))) l.drawn → IsVersion l.waiting →
     (word z r.world (name.Scan s) ≡ scan_word (Waiting l.waiting)) ⊎ IsHelped (word z r.world) r.history s (r.ledger.waits s) (r.settled s) → Settles z r r' s l k
 settles_at z r r' s choice l k h v m (inl e) =
     by_itself (v ∙ ap (λ q. version_settled (scan_of q) l.drawn) e ∙ ap (λ q. version_settled q l.drawn) (scan_of-Waiting l.waiting m.0 m.1)) (exchanged _ _ _ _ h.changed.same e)
@@ -542,24 +515,25 @@ settles_to z r r' s choice l a k (settles e) h x m w = settles_at z r r' s choic
 settles_to z r r' s choice l a k _ h x m w = absurd x
 
 -- a scan that has loaded the clock has just done so, or is about to draw
-pub loaded_from : (z : Sizes) (v : Words) (s : ℕ) (choice : Choice) (l : Local) (a : Activity) (k : Local) → Arrow z v s choice l a k → HasLoaded k.activity → ((a ≡ ScanClock) × (k ≡ record l { waiting = v name.Clock; activity = ScanWait })) ⊎ ((a ≡ ScanWait) × (k ≡ record l { activity = ScanDraw }))
+pub loaded_from : (z : Sizes) (v : Words) (s : ℕ) (choice : Choice) (l : Local) (a : Activity) (k : Local) → Arrow z v s choice l a k → HasLoaded k.activity → ((a ≡ Activity.Draw Draw.Clock) × (k ≡ record l { waiting = v name.Clock; activity = Activity.Draw Draw.Wait })) ⊎ ((a ≡ Activity.Draw Draw.Wait) × (k ≡ record l { activity = Activity.Draw Draw.Version }))
 loaded_from z v s choice l a k (builds b next y t) x = after_loaded next.activity (built_next z v choice l b next t) x
 loaded_from z v s choice l a k (waits e) x = inl (refl, refl)
 loaded_from z v s choice l a k stores_waiting x = inr (refl, refl)
-loaded_from z v s choice l (Look j) k b x = absurd (loaded_not_read k.activity x (after_read z v s choice l (Look j) k b tt))
-loaded_from z v s choice l LookKey k b x = absurd (loaded_not_read k.activity x (after_read z v s choice l LookKey k b tt))
-loaded_from z v s choice l LookClock k b x = absurd (loaded_not_read k.activity x (after_read z v s choice l LookClock k b tt))
-loaded_from z v s choice l LookHelp k b x = absurd (loaded_not_read k.activity x (after_read z v s choice l LookHelp k b tt))
-loaded_from z v s choice l ListFrom k b x = absurd (loaded_not_read k.activity x (after_read z v s choice l ListFrom k b tt))
-loaded_from z v s choice l ListKey k b x = absurd (loaded_not_read k.activity x (after_read z v s choice l ListKey k b tt))
-loaded_from z v s choice l ListVer k b x = absurd (loaded_not_read k.activity x (after_read z v s choice l ListVer k b tt))
-loaded_from z v s choice l ListVal k b x = absurd (loaded_not_read k.activity x (after_read z v s choice l ListVal k b tt))
-loaded_from z v s choice l RestKey k b x = absurd (loaded_not_read k.activity x (after_read z v s choice l RestKey k b tt))
-loaded_from z v s choice l RestVal k b x = absurd (loaded_not_read k.activity x (after_read z v s choice l RestVal k b tt))
+loaded_from z v s choice l (Activity.Look (Look.Entry j)) k b x = absurd (loaded_not_read k.activity x (after_read z v s choice l (Activity.Look (Look.Entry j)) k b tt))
+loaded_from z v s choice l (Activity.Look Look.Key) k b x = absurd (loaded_not_read k.activity x (after_read z v s choice l (Activity.Look Look.Key) k b tt))
+loaded_from z v s choice l (Activity.Look Look.Clock) k b x = absurd (loaded_not_read k.activity x (after_read z v s choice l (Activity.Look Look.Clock) k b tt))
+loaded_from z v s choice l (Activity.Look Look.Help) k b x = absurd (loaded_not_read k.activity x (after_read z v s choice l (Activity.Look Look.Help) k b tt))
+loaded_from z v s choice l (Activity.Read Read.Link) k b x = absurd (loaded_not_read k.activity x (after_read z v s choice l (Activity.Read Read.Link) k b tt))
+loaded_from z v s choice l (Activity.Read Read.Key) k b x = absurd (loaded_not_read k.activity x (after_read z v s choice l (Activity.Read Read.Key) k b tt))
+loaded_from z v s choice l (Activity.Read Read.Version) k b x = absurd (loaded_not_read k.activity x (after_read z v s choice l (Activity.Read Read.Version) k b tt))
+loaded_from z v s choice l (Activity.Read Read.Value) k b x = absurd (loaded_not_read k.activity x (after_read z v s choice l (Activity.Read Read.Value) k b tt))
+loaded_from z v s choice l (Activity.Read Read.LeftOverKey) k b x = absurd (loaded_not_read k.activity x (after_read z v s choice l (Activity.Read Read.LeftOverKey) k b tt))
+loaded_from z v s choice l (Activity.Read Read.LeftOverValue) k b x = absurd (loaded_not_read k.activity x (after_read z v s choice l (Activity.Read Read.LeftOverValue) k b tt))
+loaded_from z v s choice l (Activity.Draw Draw.Clock) k b x = absurd x
 loaded_from z v s choice l a k b x = absurd x
 
 -- the first entry is looked at now
-looks_now : (z : Sizes) (r r' : Run) (s : ℕ) (choice : Choice) (l k : Local) → Happens z r r' s choice l k (Look 0) → (r'.seats s).looked ≡ length r.history.log
+looks_now : (z : Sizes) (r r' : Run) (s : ℕ) (choice : Choice) (l k : Local) → Happens z r r' s choice l k (Activity.Look (Look.Entry 0)) → (r'.seats s).looked ≡ length r.history.log
 looks_now z r r' s choice l k h = ap (λ (q : SeatLog). q.looked) h.log
 
 module _ (z : Sizes) (r r' : Run) (s : ℕ) (choice : Choice) (l : Local) (a : Activity) (l' : Local) (b : Arrow z (word z r.world) s choice l a l') (h : Happens z r r' s choice l l' a) (i : Below z r) (st : Step r.history r'.history (log_entry z r a s choice l)) where
@@ -599,22 +573,22 @@ module _ (z : Sizes) (r r' : Run) (s : ℕ) (choice : Choice) (l : Local) (a : A
   lasts = (goes_on_by z r r' s choice l a l' h i st).stands
 
   -- what the event of a draw leaves of a scan that was helped before
-  helped_on : Happens z r r' s choice l l' ScanDraw → IsHelped (word z r.world) r.history s (r.ledger.waits s) (r.settled s) → IsHelped (word z r'.world) r'.history s (r'.ledger.waits s) (r'.settled s)
+  helped_on : Happens z r r' s choice l l' (Activity.Draw Draw.Version) → IsHelped (word z r.world) r.history s (r.ledger.waits s) (r.settled s) → IsHelped (word z r'.world) r'.history s (r'.ledger.waits s) (r'.settled s)
   helped_on g n =
       let waits : r'.ledger.waits s ≡ r.ledger.waits s = ap (λ (q : Ledger). q.waits s) g.ledger in
       let draw : r'.settled s ≡ r.settled s = ap (λ (q : ℕ → ℕ). q s) g.settled in
-      record { version = n.version; range = n.range; word = unwritten ScanDraw g (name.Scan s) h.seat (λ f. cc) ∙ n.word; drawn = rw draw (drawn_lasts r.history r'.history lasts n.drawn); after = omega (arith, n.after, waits, draw) }
+      record { version = n.version; range = n.range; word = unwritten (Activity.Draw Draw.Version) g (name.Scan s) h.seat (λ f. cc) ∙ n.word; drawn = rw draw (drawn_lasts r.history r'.history lasts n.drawn); after = omega (arith, n.after, waits, draw) }
 
   -- the word of a waiting scan
   its_waits : IsWaiting l'.activity → (word z r'.world (name.Scan s) ≡ scan_word (Waiting l'.waiting)) ⊎ IsHelped (word z r'.world) r'.history s (r'.ledger.waits s) (r'.settled s)
   its_waits x = which (waits_from z (word z r.world) s choice l a l' b x)
     where
-      drew : Happens z r r' s choice l l' ScanDraw → l' ≡ record l { drawn = word z r.world name.Clock; activity = ScanSettle } → (word z r.world (name.Scan s) ≡ scan_word (Waiting l.waiting)) ⊎ IsHelped (word z r.world) r.history s (r.ledger.waits s) (r.settled s) →
+      drew : Happens z r r' s choice l l' (Activity.Draw Draw.Version) → l' ≡ record l { drawn = word z r.world name.Clock; activity = Activity.Draw Draw.Settle } → (word z r.world (name.Scan s) ≡ scan_word (Waiting l.waiting)) ⊎ IsHelped (word z r.world) r.history s (r.ledger.waits s) (r.settled s) →
           (word z r'.world (name.Scan s) ≡ scan_word (Waiting l'.waiting)) ⊎ IsHelped (word z r'.world) r'.history s (r'.ledger.waits s) (r'.settled s)
-      drew g e (inl w) = inl (unwritten ScanDraw g (name.Scan s) h.seat (λ f. cc) ∙ w ∙ ap (λ (k : Local). scan_word (Waiting k.waiting)) (sym e))
+      drew g e (inl w) = inl (unwritten (Activity.Draw Draw.Version) g (name.Scan s) h.seat (λ f. cc) ∙ w ∙ ap (λ (k : Local). scan_word (Waiting k.waiting)) (sym e))
       drew g e (inr n) = inr (helped_on g n)
 
-      which : ((a ≡ ScanWait) × (l' ≡ record l { activity = ScanDraw })) ⊎ ((a ≡ ScanDraw) × (l' ≡ record l { drawn = word z r.world name.Clock; activity = ScanSettle })) → (word z r'.world (name.Scan s) ≡ scan_word (Waiting l'.waiting)) ⊎ IsHelped (word z r'.world) r'.history s (r'.ledger.waits s) (r'.settled s)
+      which : ((a ≡ Activity.Draw Draw.Wait) × (l' ≡ record l { activity = Activity.Draw Draw.Version })) ⊎ ((a ≡ Activity.Draw Draw.Version) × (l' ≡ record l { drawn = word z r.world name.Clock; activity = Activity.Draw Draw.Settle })) → (word z r'.world (name.Scan s) ≡ scan_word (Waiting l'.waiting)) ⊎ IsHelped (word z r'.world) r'.history s (r'.ledger.waits s) (r'.settled s)
       which (inl e) = inl ((subst (Happens z r r' s choice l l') e.0 h).changed.same ∙ ap (λ (k : Local). scan_word (Waiting k.waiting)) (sym e.1))
       which (inr e) = drew (subst (Happens z r r' s choice l l') e.0 h) e.1 (before.waits (subst IsWaiting (sym (h.activity ∙ e.0)) tt))
 
@@ -622,7 +596,7 @@ module _ (z : Sizes) (r r' : Run) (s : ℕ) (choice : Choice) (l : Local) (a : A
   its_loaded : HasLoaded l'.activity → l'.waiting ≤ word z r'.world name.Clock
   its_loaded x = which (loaded_from z (word z r.world) s choice l a l' b x)
     where
-      which : ((a ≡ ScanClock) × (l' ≡ record l { waiting = word z r.world name.Clock; activity = ScanWait })) ⊎ ((a ≡ ScanWait) × (l' ≡ record l { activity = ScanDraw })) → l'.waiting ≤ word z r'.world name.Clock
+      which : ((a ≡ Activity.Draw Draw.Clock) × (l' ≡ record l { waiting = word z r.world name.Clock; activity = Activity.Draw Draw.Wait })) ⊎ ((a ≡ Activity.Draw Draw.Wait) × (l' ≡ record l { activity = Activity.Draw Draw.Version })) → l'.waiting ≤ word z r'.world name.Clock
       which (inl e) = omega (arith, ap (λ (k : Local). k.waiting) e.1, clock_never_falls a h)
       which (inr e) = omega (arith, ap (λ (k : Local). k.waiting) e.1, before.loaded (subst HasLoaded (sym (h.activity ∙ e.0)) tt), clock_never_falls a h)
 
@@ -630,8 +604,8 @@ module _ (z : Sizes) (r r' : Run) (s : ℕ) (choice : Choice) (l : Local) (a : A
   its_least : IsSettling l'.activity → l'.waiting ≤ l'.drawn
   its_least x = which (waits_from z (word z r.world) s choice l a l' b (settling_waits l'.activity x))
     where
-      which : ((a ≡ ScanWait) × (l' ≡ record l { activity = ScanDraw })) ⊎ ((a ≡ ScanDraw) × (l' ≡ record l { drawn = word z r.world name.Clock; activity = ScanSettle })) → l'.waiting ≤ l'.drawn
-      which (inl e) = let y : IsSettling ScanDraw = subst (λ (k : Local). IsSettling k.activity) e.1 x in absurd y
+      which : ((a ≡ Activity.Draw Draw.Wait) × (l' ≡ record l { activity = Activity.Draw Draw.Version })) ⊎ ((a ≡ Activity.Draw Draw.Version) × (l' ≡ record l { drawn = word z r.world name.Clock; activity = Activity.Draw Draw.Settle })) → l'.waiting ≤ l'.drawn
+      which (inl e) = let y : IsSettling (Activity.Draw Draw.Version) = subst (λ (k : Local). IsSettling k.activity) e.1 x in absurd y
       which (inr e) = omega (arith, ap (λ (k : Local). k.waiting) e.1, ap (λ (k : Local). k.drawn) e.1, before.loaded (subst HasLoaded (sym (h.activity ∙ e.0)) tt))
 
   -- it began to wait in its call
@@ -641,7 +615,7 @@ module _ (z : Sizes) (r r' : Run) (s : ℕ) (choice : Choice) (l : Local) (a : A
       grows : length r.history.log < length r'.history.log
       grows = (goes_on_by z r r' s choice l a l' h i st).now
 
-      which : ((a ≡ ScanWait) × (l' ≡ record l { activity = ScanDraw })) ⊎ ((a ≡ ScanDraw) × (l' ≡ record l { drawn = word z r.world name.Clock; activity = ScanSettle })) → ((called r'.history (r'.seats s).call).first < r'.ledger.waits s) × (r'.ledger.waits s < length r'.history.log)
+      which : ((a ≡ Activity.Draw Draw.Wait) × (l' ≡ record l { activity = Activity.Draw Draw.Version })) ⊎ ((a ≡ Activity.Draw Draw.Version) × (l' ≡ record l { drawn = word z r.world name.Clock; activity = Activity.Draw Draw.Settle })) → ((called r'.history (r'.seats s).call).first < r'.ledger.waits s) × (r'.ledger.waits s < length r'.history.log)
       which (inl e) =
           let u : IsUnderway a = subst IsUnderway (sym e.0) tt in
           let waits : r'.ledger.waits s ≡ length r.history.log = ap (λ (q : Ledger). q.waits s) (subst (Happens z r r' s choice l l') e.0 h).ledger ∙ rw (eq-eqb s s refl) refl in
@@ -653,11 +627,11 @@ module _ (z : Sizes) (r r' : Run) (s : ℕ) (choice : Choice) (l : Local) (a : A
           (omega (arith, call_first u, was.0, waits), omega (arith, was.1, waits, grows))
 
   -- a scan that is about to settle has just drawn
-  pub has_drawn : IsSettling l'.activity → (a ≡ ScanDraw) × (l'.drawn ≡ word z r.world name.Clock) × ((r'.seats s).drawn ≡ length r.history.log)
+  pub has_drawn : IsSettling l'.activity → (a ≡ Activity.Draw Draw.Version) × (l'.drawn ≡ word z r.world name.Clock) × ((r'.seats s).drawn ≡ length r.history.log)
   has_drawn x = which (waits_from z (word z r.world) s choice l a l' b (settling_waits l'.activity x))
     where
-      which : ((a ≡ ScanWait) × (l' ≡ record l { activity = ScanDraw })) ⊎ ((a ≡ ScanDraw) × (l' ≡ record l { drawn = word z r.world name.Clock; activity = ScanSettle })) → (a ≡ ScanDraw) × (l'.drawn ≡ word z r.world name.Clock) × ((r'.seats s).drawn ≡ length r.history.log)
-      which (inl e) = let y : IsSettling ScanDraw = subst (λ (k : Local). IsSettling k.activity) e.1 x in absurd y
+      which : ((a ≡ Activity.Draw Draw.Wait) × (l' ≡ record l { activity = Activity.Draw Draw.Version })) ⊎ ((a ≡ Activity.Draw Draw.Version) × (l' ≡ record l { drawn = word z r.world name.Clock; activity = Activity.Draw Draw.Settle })) → (a ≡ Activity.Draw Draw.Version) × (l'.drawn ≡ word z r.world name.Clock) × ((r'.seats s).drawn ≡ length r.history.log)
+      which (inl e) = let y : IsSettling (Activity.Draw Draw.Version) = subst (λ (k : Local). IsSettling k.activity) e.1 x in absurd y
       which (inr e) = (e.0, ap (λ (k : Local). k.drawn) e.1, ap (λ (q : SeatLog). q.drawn) (subst (Happens z r r' s choice l l') e.0 h).log)
 
   -- the draw of a scan that is to settle
@@ -723,7 +697,7 @@ module _ (z : Sizes) (r r' : Run) (s : ℕ) (choice : Choice) (l : Local) (a : A
       now_grows : length r.history.log < length r'.history.log
       now_grows = (goes_on_by z r r' s choice l a l' h i st).now
 
-      which : IsReading a ⊎ (a ≡ Look 0) → ((called r'.history (r'.seats s).call).first < (r'.seats s).looked) × ((r'.seats s).looked < length r'.history.log) × (is_scan l'.call ≡ true → (r'.seats s).drawn < (r'.seats s).looked)
+      which : IsReading a ⊎ (a ≡ Activity.Look (Look.Entry 0)) → ((called r'.history (r'.seats s).call).first < (r'.seats s).looked) × ((r'.seats s).looked < length r'.history.log) × (is_scan l'.call ≡ true → (r'.seats s).drawn < (r'.seats s).looked)
       which (inl y) =
           let m = subst IsReading (sym h.activity) y in (
             omega (arith, call_first u, looked_kept y, before.looked_first m),

@@ -7,7 +7,7 @@ use Rattle.kw_words.specs.declared.layout.Name.TheVariants as name
 use Rattle.kw_words.specs.declared.pend.Pend.TheVariants as pend
 use Rattle.kw_words.specs.Pend.{pend_word}
 use Rattle.kw_world.specs.declared.activity.Activity.{Activity}
-use Rattle.kw_world.specs.declared.activity.Activity.TheVariants.{PutKey, PutValue, Announce, PutClock, Stamp, PutVersion, InsFrom, InsKey, InsVer, InsSet, Insert, PutClear}
+use Rattle.kw_world.specs.declared.activity.put.Put.TheVariants as Put
 use Rattle.kw_world.specs.declared.local.Local.{Local}
 use Rattle.kw_world.specs.Sizes.{Sizes}
 use Rattle.kw_world.specs.Step.{word}
@@ -43,30 +43,22 @@ pending_entry p c e = met p.is_stamped refl
 
 -- a seat that has announced its cell puts, and a seat that puts is in a call
 pub published_puts : (a : Activity) → IsPublished a → IsPutting a
-published_puts PutClock p = tt
-published_puts Stamp p = tt
-published_puts PutVersion p = tt
-published_puts InsFrom p = tt
-published_puts InsKey p = tt
-published_puts InsVer p = tt
-published_puts InsSet p = tt
-published_puts Insert p = tt
-published_puts PutClear p = tt
+published_puts (Activity.Put Put.Clock) p = tt
+published_puts (Activity.Put Put.Stamp) p = tt
+published_puts (Activity.Put Put.Version) p = tt
+published_puts (Activity.Insert _) p = tt
+published_puts (Activity.Put Put.Clear) p = tt
 published_puts _ p = absurd p
 
 pub puts_busy : (a : Activity) → IsPutting a → IsBusy a
-puts_busy PutKey p = tt
-puts_busy PutValue p = tt
-puts_busy Announce p = tt
-puts_busy PutClock p = tt
-puts_busy Stamp p = tt
-puts_busy PutVersion p = tt
-puts_busy InsFrom p = tt
-puts_busy InsKey p = tt
-puts_busy InsVer p = tt
-puts_busy InsSet p = tt
-puts_busy Insert p = tt
-puts_busy PutClear p = tt
+puts_busy (Activity.Put Put.Key) p = tt
+puts_busy (Activity.Put Put.Value) p = tt
+puts_busy (Activity.Put Put.Announce) p = tt
+puts_busy (Activity.Put Put.Clock) p = tt
+puts_busy (Activity.Put Put.Stamp) p = tt
+puts_busy (Activity.Put Put.Version) p = tt
+puts_busy (Activity.Insert _) p = tt
+puts_busy (Activity.Put Put.Clear) p = tt
 puts_busy _ p = absurd p
 
 -- a seat that is at the row of its key, one that puts, and one that rebalances are at a row that is
@@ -75,18 +67,14 @@ pub row_linked : (z : Sizes) (r : Run) → Shape z r → (t : ℕ) (k : Local) �
 row_linked z r i t k g x = fresh_linked r.ledger.rows t k.row ((i.walks t k g).at x).fresh
 
 pub puts_at_row : (a : Activity) → IsPutting a → IsAtRow a
-puts_at_row PutKey p = tt
-puts_at_row PutValue p = tt
-puts_at_row Announce p = tt
-puts_at_row PutClock p = tt
-puts_at_row Stamp p = tt
-puts_at_row PutVersion p = tt
-puts_at_row InsFrom p = tt
-puts_at_row InsKey p = tt
-puts_at_row InsVer p = tt
-puts_at_row InsSet p = tt
-puts_at_row Insert p = tt
-puts_at_row PutClear p = tt
+puts_at_row (Activity.Put Put.Key) p = tt
+puts_at_row (Activity.Put Put.Value) p = tt
+puts_at_row (Activity.Put Put.Announce) p = tt
+puts_at_row (Activity.Put Put.Clock) p = tt
+puts_at_row (Activity.Put Put.Stamp) p = tt
+puts_at_row (Activity.Put Put.Version) p = tt
+puts_at_row (Activity.Insert _) p = tt
+puts_at_row (Activity.Put Put.Clear) p = tt
 puts_at_row _ p = absurd p
 
 pub puts_linked : (z : Sizes) (r : Run) → Shape z r → (t : ℕ) (k : Local) → slice_get r.world.locals t ≡ Some k → IsPutting k.activity → WasLinked r.ledger.rows k.row

@@ -2,7 +2,20 @@
 use Rattle.std.proofs.Common.{ℕ, ◌≡◌, ◌⊎◌, inl, inr, ◌+◌, ◌<◌, ◌≤◌, Bool, true, false, Some, None, [], ◌∷◌, arith, refl, sym, ◌∙◌, ap, subst, length}
 use Rattle.kw_words.specs.declared.layout.Name.TheVariants as name
 use Rattle.kw_world.specs.declared.activity.Activity.{Activity}
-use Rattle.kw_world.specs.declared.activity.Activity.TheVariants.{Idle, ScanDraw, ScanSettle, Start, Walk, Look, ListFrom, ListKey, RestKey, RestVal, PutAdd, PutClock, Stamp, HelpDraw, SeekFirst, Before}
+use Rattle.kw_world.specs.declared.activity.draw.Draw.TheVariants as Draw
+use Rattle.kw_world.specs.declared.activity.rebalance.freeze.Freeze.TheVariants as Freeze
+use Rattle.kw_world.specs.declared.activity.look.Look.TheVariants as Look
+use Rattle.kw_world.specs.declared.activity.put.Put.TheVariants as Put
+use Rattle.kw_world.specs.declared.activity.read.Read.TheVariants as Read
+use Rattle.kw_world.specs.declared.activity.rebalance.Rebalance.TheVariants as Rebalance
+use Rattle.kw_world.specs.declared.activity.rebalance.replace.Replace.TheVariants as Replace
+use Rattle.kw_world.specs.declared.activity.rebalance.seek.Seek.TheVariants as Seek
+use Rattle.kw_world.specs.declared.activity.walk.Walk.TheVariants as Walk
+use Rattle.kw_world.specs.declared.activity.rebalance.engage.Engage.TheVariants as Engage
+use Rattle.kw_world.specs.declared.activity.enter.Enter.TheVariants as Enter
+use Rattle.kw_world.specs.declared.activity.rebalance.gather.Gather.TheVariants as Gather
+use Rattle.kw_world.specs.declared.activity.insert.Insert.TheVariants as Insert
+use Rattle.kw_world.specs.declared.activity.rebalance.write.Write.TheVariants as Write
 use Rattle.kw_world.specs.declared.local.Local.{Local}
 use Rattle.kw_world.specs.declared.event.Choice.{Choice}
 use Rattle.kw_world.specs.Sizes.{Sizes}
@@ -62,8 +75,8 @@ use Rattle.kw_puts.proofs.RelyProof.{rely, goes_on_by}
 
 -- a put that is not stamped has announced its cell
 unstamped_published : (a : Activity) → IsUnstamped a → IsPublished a
-unstamped_published PutClock x = tt
-unstamped_published Stamp x = tt
+unstamped_published (Activity.Put Put.Clock) x = tt
+unstamped_published (Activity.Put Put.Stamp) x = tt
 unstamped_published _ x = absurd x
 
 -- an idle seat does not tidy
@@ -111,23 +124,23 @@ numbers_stable z r r' t k y n = λ x w e. which x w e (cases_lt x (length r.hist
 
 -- a scan that is to settle is busy
 settling_busy : (a : Activity) → IsSettling a → IsBusy a
-settling_busy ScanSettle x = tt
+settling_busy (Activity.Draw Draw.Settle) x = tt
 settling_busy _ x = absurd x
 
 -- a scan with a version is busy
 drawn_busy : (a : Activity) → HasDrawn a → IsBusy a
-drawn_busy Idle x = x
+drawn_busy Activity.Idle x = x
 drawn_busy _ x = tt
 
 -- a reader is busy
 reading_busy : (a : Activity) → IsReading a → IsBusy a
-reading_busy Idle x = x
+reading_busy Activity.Idle x = x
 reading_busy _ x = tt
 
 -- a waiting scan is busy
 waiting_busy : (a : Activity) → IsWaiting a → IsBusy a
-waiting_busy ScanDraw x = tt
-waiting_busy ScanSettle x = tt
+waiting_busy (Activity.Draw Draw.Version) x = tt
+waiting_busy (Activity.Draw Draw.Settle) x = tt
 waiting_busy _ x = absurd x
 
 -- a scan that waits waits on, or is helped, and one that was helped is left alone
@@ -179,34 +192,42 @@ draws_stable z r r' t k y c n = subst (λ g. Draws (word z r'.world) r'.history 
 
 -- the event of a draw raises the clock
 draw_raises : (z : Sizes) (r r' : Run) (s : ℕ) (choice : Choice) (l l' : Local) (a : Activity) → Happens z r r' s choice l l' a → IsDraw (transition z a s choice l).operation.kind → word z r.world name.Clock < word z r'.world name.Clock
-draw_raises z r r' s choice l l' ScanDraw h d = omega (arith, h.changed.same)
-draw_raises z r r' s choice l l' Start h d = absurd (starts choice d)
+draw_raises z r r' s choice l l' (Activity.Draw Draw.Version) h d = omega (arith, h.changed.same)
+draw_raises z r r' s choice l l' (Activity.Walk Walk.Start) h d = absurd (starts choice d)
   where
     starts : (c : Choice) → IsDraw (start_transition c l).operation.kind → ⊥
     starts (Begin call) x = x
     starts Go x = x
     starts (Guess q) x = x
     starts Stop x = x
-draw_raises z r r' s choice l l' Walk h d = absurd (walks (is_stopped choice l) d)
+draw_raises z r r' s choice l l' (Activity.Walk Walk.Next) h d = absurd (walks (is_stopped choice l) d)
   where
     walks : (b : Bool) → IsDraw (walk_transition b s l).operation.kind → ⊥
     walks true x = x
     walks false x = x
-draw_raises z r r' s choice l l' (HelpDraw i) h d = omega (arith, h.changed.same)
-draw_raises z r r' s choice l l' SeekFirst h d = absurd (seeks choice d)
+draw_raises z r r' s choice l l' (Activity.Rebalance (Rebalance.Freeze (Freeze.Draw i))) h d = omega (arith, h.changed.same)
+draw_raises z r r' s choice l l' (Activity.Rebalance (Rebalance.Seek Seek.First)) h d = absurd (seeks choice d)
   where
     seeks : (c : Choice) → IsDraw (seek_first_transition c l).operation.kind → ⊥
     seeks (Begin call) x = x
     seeks Go x = x
     seeks (Guess q) x = x
     seeks Stop x = x
-draw_raises z r r' s choice l l' Before h d = absurd (begins choice d)
+draw_raises z r r' s choice l l' (Activity.Rebalance (Rebalance.Replace Replace.Start)) h d = absurd (begins choice d)
   where
     begins : (c : Choice) → IsDraw (before_transition c l).operation.kind → ⊥
     begins (Begin call) x = x
     begins Go x = x
     begins (Guess q) x = x
     begins Stop x = x
+draw_raises z r r' s choice l l' (Activity.Enter Enter.Announce) h d = absurd d
+draw_raises z r r' s choice l l' (Activity.Look Look.Key) h d = absurd d
+draw_raises z r r' s choice l l' (Activity.Read Read.Link) h d = absurd d
+draw_raises z r r' s choice l l' (Activity.Put Put.Count) h d = absurd d
+draw_raises z r r' s choice l l' (Activity.Insert Insert.Link) h d = absurd d
+draw_raises z r r' s choice l l' (Activity.Rebalance (Rebalance.Engage Engage.Clock)) h d = absurd d
+draw_raises z r r' s choice l l' (Activity.Rebalance (Rebalance.Gather Gather.Link)) h d = absurd d
+draw_raises z r r' s choice l l' (Activity.Rebalance (Rebalance.Write Write.Count)) h d = absurd d
 draw_raises z r r' s choice l l' a h d = absurd d
 
 -- the clock over the log
@@ -249,7 +270,7 @@ clocked_keeps z r r' s choice l a l' b h i st = record {
     rises x y k j c d q w (inr t) (inr u) = absurd (omega (arith, w, t.0, u.0))
 
 -- the calls after an event: those that were there, and one that begins
-new_call : (h h' : History) (e : Logged) (z : Sizes) (v : Words) (s : ℕ) (choice : Choice) (l : Local) (g : SeatLog) (o : Origins) (a : Activity) (c : Change) → Makes z v s choice l g o a c → h' ≡ noted h e c → (x : ℕ) → x < length h'.calls → length h.calls ≤ x → (x ≡ length h.calls) × ((called h' x).number ≡ l.number + 1) × (a ≡ Idle)
+new_call : (h h' : History) (e : Logged) (z : Sizes) (v : Words) (s : ℕ) (choice : Choice) (l : Local) (g : SeatLog) (o : Origins) (a : Activity) (c : Change) → Makes z v s choice l g o a c → h' ≡ noted h e c → (x : ℕ) → x < length h'.calls → length h.calls ≤ x → (x ≡ length h.calls) × ((called h' x).number ≡ l.number + 1) × (a ≡ Activity.Idle)
 new_call h h' e z v s choice l g o a c (makes_begin call m) n x w f =
     let cs = ap (λ (y : History). y.calls) n in
     let last : x ≡ length h.calls = omega (arith, w, f, ap length cs, length-append h.calls (record { seat = s; number = l.number + 1; call = call; first = length h.log; end = None; put = None; answer = None; draw = None } ∷ [])) in
@@ -263,7 +284,7 @@ new_call h h' e z v s choice l g o a c (makes_lose i cell q y m k) n x w f = abs
 new_call h h' e z v s choice l g o a c (makes_end answer) n x w f = absurd (omega (arith, w, f, ap (λ (y : History). length y.calls) n, length-set {A = CallLog}))
 
 -- a call that begins is counted
-idle_number : (z : Sizes) (v : Words) (s : ℕ) (choice : Choice) (l : Local) (a : Activity) (k : Local) → Arrow z v s choice l a k → a ≡ Idle → k.number ≡ l.number + 1
+idle_number : (z : Sizes) (v : Words) (s : ℕ) (choice : Choice) (l : Local) (a : Activity) (k : Local) → Arrow z v s choice l a k → a ≡ Activity.Idle → k.number ≡ l.number + 1
 idle_number z v s choice l a k (builds b next y t) f = absurd (subst IsBuilding f y)
 idle_number z v s choice l a k (begins call e b) f = refl
 idle_number z v s choice l a k _ f = absurd (cc)
@@ -298,15 +319,15 @@ draws_own z r r' s choice l a l' b h i st after = draws_after z r r' s choice l 
 -- where each seat looked and drew last: a scan that settles does it by its own exchange, or has a
 -- draw of before
 log_within : (z : Sizes) (a : Activity) (choice : Choice) (l : Local) (found : ℕ) (next : Activity) (g : SeatLog) (o : Origins) (h : History) (settled : ℕ) → (IsSettling a → (found ≡ scan_word (Waiting l.waiting)) ⊎ (settled ≤ length h.log)) → g.looked ≤ length h.log → g.drawn ≤ length h.log → ((seat_after z a choice l found next g o h settled).looked ≤ length h.log) × ((seat_after z a choice l found next g o h settled).drawn ≤ length h.log)
-log_within z Idle choice l found next g o h settled f x y = begun choice
+log_within z Activity.Idle choice l found next g o h settled f x y = begun choice
   where
     begun : (c : Choice) → ((log_begun c (length h.calls) g).looked ≤ length h.log) × ((log_begun c (length h.calls) g).drawn ≤ length h.log)
     begun (Begin call) = (x, y)
     begun Go = (x, y)
     begun (Guess q) = (x, y)
     begun Stop = (x, y)
-log_within z ScanDraw choice l found next g o h settled f x y = (x, omega arith)
-log_within z ScanSettle choice l found next g o h settled f x y = tried (f tt)
+log_within z (Activity.Draw Draw.Version) choice l found next g o h settled f x y = (x, omega arith)
+log_within z (Activity.Draw Draw.Settle) choice l found next g o h settled f x y = tried (f tt)
   where
     tried : (found ≡ scan_word (Waiting l.waiting)) ⊎ (settled ≤ length h.log) → ((log_settled l.waiting found settled g).looked ≤ length h.log) × ((log_settled l.waiting found settled g).drawn ≤ length h.log)
     tried (inl e) = rw (settle_kept z choice l found next g o h settled e) (x, y)
@@ -315,27 +336,27 @@ log_within z ScanSettle choice l found next g o h settled f x y = tried (f tt)
         met : (b : Bool) → let g' : SeatLog = if b then g else record g { drawn = settled } in (g'.looked ≤ length h.log) × (g'.drawn ≤ length h.log)
         met true = (x, y)
         met false = (x, w)
-log_within z (Look j) choice l found next g o h settled f x y = met (j == 0)
+log_within z (Activity.Look (Look.Entry j)) choice l found next g o h settled f x y = met (j == 0)
   where
     met : (b : Bool) → let g' : SeatLog = if b then record g { looked = length h.log; ids = []; read = None } else g in (g'.looked ≤ length h.log) × (g'.drawn ≤ length h.log)
     met true = (omega arith, y)
     met false = (x, y)
-log_within z ListFrom choice l found next g o h settled f x y = read (is_at_cell next)
+log_within z (Activity.Read Read.Link) choice l found next g o h settled f x y = read (is_at_cell next)
   where
     read : (b : Bool) → let g' : SeatLog = if b then g else record g { read = Some l.row } in (g'.looked ≤ length h.log) × (g'.drawn ≤ length h.log)
     read true = (x, y)
     read false = (x, y)
-log_within z ListKey choice l found next g o h settled f x y = read (is_at_cell next)
+log_within z (Activity.Read Read.Key) choice l found next g o h settled f x y = read (is_at_cell next)
   where
     read : (b : Bool) → let g' : SeatLog = if b then g else record g { read = Some l.row } in (g'.looked ≤ length h.log) × (g'.drawn ≤ length h.log)
     read true = (x, y)
     read false = (x, y)
-log_within z RestKey choice l found next g o h settled f x y = read (is_at_cell next)
+log_within z (Activity.Read Read.LeftOverKey) choice l found next g o h settled f x y = read (is_at_cell next)
   where
     read : (b : Bool) → let g' : SeatLog = if b then g else record g { read = Some l.row } in (g'.looked ≤ length h.log) × (g'.drawn ≤ length h.log)
     read true = (x, y)
     read false = (x, y)
-log_within z RestVal choice l found next g o h settled f x y = read (is_at_cell next)
+log_within z (Activity.Read Read.LeftOverValue) choice l found next g o h settled f x y = read (is_at_cell next)
   where
     gathered : SeatLog
     gathered = log_gathered (o l.row l.place) (place_gathered l found) g
@@ -343,17 +364,25 @@ log_within z RestVal choice l found next g o h settled f x y = read (is_at_cell 
     read : (b : Bool) → let g' : SeatLog = if b then gathered else record gathered { read = Some l.row } in (g'.looked ≤ length h.log) × (g'.drawn ≤ length h.log)
     read true = (x, y)
     read false = (x, y)
-log_within z PutAdd choice l found next g o h settled f x y = met (has_room z (count_of found))
+log_within z (Activity.Put Put.Add) choice l found next g o h settled f x y = met (has_room z (count_of found))
   where
     met : (b : Bool) → let g' : SeatLog = if b then record g { own = length h.attempts } else g in (g'.looked ≤ length h.log) × (g'.drawn ≤ length h.log)
     met true = (x, y)
     met false = (x, y)
-log_within z (HelpDraw i) choice l found next g o h settled f x y = (x, omega arith)
+log_within z (Activity.Rebalance (Rebalance.Freeze (Freeze.Draw i))) choice l found next g o h settled f x y = (x, omega arith)
+log_within z (Activity.Enter Enter.Announce) choice l found next g o h settled f x y = (x, y)
+log_within z (Activity.Walk Walk.First) choice l found next g o h settled f x y = (x, y)
+log_within z (Activity.Insert Insert.Link) choice l found next g o h settled f x y = (x, y)
+log_within z (Activity.Rebalance (Rebalance.Engage Engage.Clock)) choice l found next g o h settled f x y = (x, y)
+log_within z (Activity.Rebalance (Rebalance.Gather Gather.Link)) choice l found next g o h settled f x y = (x, y)
+log_within z (Activity.Rebalance (Rebalance.Seek Seek.Next)) choice l found next g o h settled f x y = (x, y)
+log_within z (Activity.Rebalance (Rebalance.Write Write.Count)) choice l found next g o h settled f x y = (x, y)
+log_within z (Activity.Rebalance (Rebalance.Replace Replace.First)) choice l found next g o h settled f x y = (x, y)
 log_within z _ choice l found next g o h settled f x y = (x, y)
 
 -- what a scan that settles finds is its own word
 settling_finds : (z : Sizes) (v : Words) (s : ℕ) (choice : Choice) (l : Local) (a : Activity) → IsSettling a → v (name.Scan s) ≡ scan_word (Waiting l.waiting) → found_at z v a s choice l ≡ scan_word (Waiting l.waiting)
-settling_finds z v s choice l ScanSettle y e = e
+settling_finds z v s choice l (Activity.Draw Draw.Settle) y e = e
 settling_finds z v s choice l _ y e = absurd y
 
 -- no seat looked or drew later than now

@@ -23,7 +23,8 @@ use Rattle.kw_lists.specs.Words.{row_in}
 use Rattle.kw_rows.specs.Ledger.{Fate, Ledger}
 use Rattle.kw_rows.specs.Rows.{WasLinked}
 use Rattle.kw_world.specs.declared.activity.Activity.{Activity}
-use Rattle.kw_world.specs.declared.activity.Activity.TheVariants.{Before, Replace}
+use Rattle.kw_world.specs.declared.activity.rebalance.Rebalance.TheVariants as Rebalance
+use Rattle.kw_world.specs.declared.activity.rebalance.replace.Replace.TheVariants as Replace
 use Rattle.kw_world.specs.declared.event.Choice.{Choice}
 use Rattle.kw_world.specs.declared.local.Local.{Local}
 use Rattle.kw_world.specs.PutTransitions.{given_of}
@@ -94,7 +95,7 @@ at_lasts h h' e st p x = ((old_stays h h' e st p (in_range h p x)).grows.stamped
 
 -- A row that is linked now.
 
-module _ {z : Sizes} {r r' : Run} {s : ℕ} {choice : Choice} {l l' : Local} {e : Logged} (h : Happens z r r' s choice l l' Replace) (i : Below z r) (st : Step r.history r'.history e) (q : ℕ) (y : ComesNow (word z r.world) r.ledger.rows r'.ledger.rows s (length r.history.log) l Replace q) where
+module _ {z : Sizes} {r r' : Run} {s : ℕ} {choice : Choice} {l l' : Local} {e : Logged} (h : Happens z r r' s choice l l' (Activity.Rebalance (Rebalance.Replace Replace.Exchange))) (i : Below z r) (st : Step r.history r'.history e) (q : ℕ) (y : ComesNow (word z r.world) r.ledger.rows r'.ledger.rows s (length r.history.log) l (Activity.Rebalance (Rebalance.Replace Replace.Exchange)) q) where
   -- its place among the taken ones
   place : (n : ℕ) × (slice_get l.rebalance.taken n ≡ Some q)
   place = place_of_row l.rebalance.taken q y.taken
@@ -130,21 +131,21 @@ module _ {z : Sizes} {r r' : Run} {s : ℕ} {choice : Choice} {l l' : Local} {e 
       kept = (subst (λ b. Plans z b l) h.activity (i.shape.plans s l h.knows)).kept tt
 
   -- its words stand after the event
-  written : Written z (word z r'.world) Before k q
+  written : Written z (word z r'.world) (Activity.Rebalance (Rebalance.Replace Replace.Start)) k q
   unfolding k
-  written = written_stays z r.world.rows (word z r.world) (word z r'.world) Before (at_infant place.0 l) q q_below (λ n f b w. row_stays Replace h n q f w not_before) ((infants_at Replace h i.shape).whole place.0 q tt place.1)
+  written = written_stays z r.world.rows (word z r.world) (word z r'.world) (Activity.Rebalance (Rebalance.Replace Replace.Start)) (at_infant place.0 l) q q_below (λ n f b w. row_stays (Activity.Rebalance (Rebalance.Replace Replace.Exchange)) h n q f w not_before) ((infants_at (Activity.Rebalance (Rebalance.Replace Replace.Exchange)) h i.shape).whole place.0 q tt place.1)
     where
       not_before : l.rebalance.before ≡ Some q → ⊥
-      not_before f = linked_not_infant r.ledger.rows s q (fresh_linked r.ledger.rows s q ((search_at Replace h i.shape).fresh q tt f)) y.infant
+      not_before f = linked_not_infant r.ledger.rows s q (fresh_linked r.ledger.rows s q ((search_at (Activity.Rebalance (Rebalance.Replace Replace.Exchange)) h i.shape).fresh q tt f)) y.infant
 
   -- so does what is known of its cells
-  copied_before : Copied z r.history r.origin r.listed Before k q
+  copied_before : Copied z r.history r.origin r.listed (Activity.Rebalance (Rebalance.Replace Replace.Start)) k q
   unfolding k
-  copied_before = (builds_at i st Replace h).whole place.0 q tt place.1
+  copied_before = (builds_at i st (Activity.Rebalance (Rebalance.Replace Replace.Exchange)) h).whole place.0 q tt place.1
 
   -- and after the event
-  copied_after : Copied z r'.history r'.origin r'.listed Before k q
-  copied_after = copied_goes z r.history r'.history e r.origin r'.origin r.listed r'.listed Before Before k k q st refl refl (λ j n m. m) (λ j n m. m) (λ n. (tt, λ j m. m)) (λ j. origin_stays Replace h q j (λ x. x)) (λ c. origin_stays Replace h k.row c (λ x. x)) (λ j. listed_stays Replace h q j (λ x. x)) copied_before
+  copied_after : Copied z r'.history r'.origin r'.listed (Activity.Rebalance (Rebalance.Replace Replace.Start)) k q
+  copied_after = copied_goes z r.history r'.history e r.origin r'.origin r.listed r'.listed (Activity.Rebalance (Rebalance.Replace Replace.Start)) (Activity.Rebalance (Rebalance.Replace Replace.Start)) k k q st refl refl (λ j n m. m) (λ j n m. m) (λ n. (tt, λ j m. m)) (λ j. origin_stays (Activity.Rebalance (Rebalance.Replace Replace.Exchange)) h q j (λ x. x)) (λ c. origin_stays (Activity.Rebalance (Rebalance.Replace Replace.Exchange)) h k.row c (λ x. x)) (λ j. listed_stays (Activity.Rebalance (Rebalance.Replace Replace.Exchange)) h q j (λ x. x)) copied_before
 
   -- the row as its list
   from_cells : IsWrittenFrom (infant_cells k) (row_in (word z r'.world) q (r'.listed q))
@@ -164,7 +165,7 @@ module _ {z : Sizes} {r r' : Run} {s : ℕ} {choice : Choice} {l l' : Local} {e 
   of_cell c p u f = which (slice_get (infant_cells k) c) refl
     where
       same : r.origin q c ≡ Some p
-      same = sym (origin_stays Replace h q c (λ x. x)) ∙ f
+      same = sym (origin_stays (Activity.Rebalance (Rebalance.Replace Replace.Exchange)) h q c (λ x. x)) ∙ f
 
       which : (x : Option Cell) → slice_get (infant_cells k) c ≡ x → (d : Cell) × IsCopied c d p
       which (Some d) g =
@@ -257,7 +258,7 @@ module _ (z : Sizes) (r r' : Run) (s : ℕ) (choice : Choice) (l : Local) (a : A
   pub new_places : (q : ℕ) → WasLinked r'.ledger.rows q → (WasLinked r.ledger.rows q → ⊥) → PlacesAt z (word z r'.world) r'.ledger.rows r'.history r'.origin q
   new_places q k n = which (linked_before a h i.shape q k)
     where
-      comes : (b : Activity) → Happens z r r' s choice l l' b → b ≡ Replace → ComesNow (word z r.world) r.ledger.rows r'.ledger.rows s (length r.history.log) l b q → PlacesAt z (word z r'.world) r'.ledger.rows r'.history r'.origin q
+      comes : (b : Activity) → Happens z r r' s choice l l' b → b ≡ Activity.Rebalance (Rebalance.Replace Replace.Exchange) → ComesNow (word z r.world) r.ledger.rows r'.ledger.rows s (length r.history.log) l b q → PlacesAt z (word z r'.world) r'.ledger.rows r'.history r'.origin q
       comes b x e y = places_relinked (subst (λ c. Happens z r r' s choice l l' c) e x) i st q (subst (λ c. ComesNow (word z r.world) r.ledger.rows r'.ledger.rows s (length r.history.log) l c q) e y)
 
       which : WasLinked r.ledger.rows q ⊎ ComesNow (word z r.world) r.ledger.rows r'.ledger.rows s (length r.history.log) l a q → PlacesAt z (word z r'.world) r'.ledger.rows r'.history r'.origin q
@@ -268,7 +269,7 @@ module _ (z : Sizes) (r r' : Run) (s : ℕ) (choice : Choice) (l : Local) (a : A
   pub new_list : (q : ℕ) → WasLinked r'.ledger.rows q → (WasLinked r.ledger.rows q → ⊥) → ListAt z (word z r'.world) r'.ledger.rows r'.history r'.origin r'.listed q
   new_list q k n = which (linked_before a h i.shape q k)
     where
-      comes : (b : Activity) → Happens z r r' s choice l l' b → b ≡ Replace → ComesNow (word z r.world) r.ledger.rows r'.ledger.rows s (length r.history.log) l b q → ListAt z (word z r'.world) r'.ledger.rows r'.history r'.origin r'.listed q
+      comes : (b : Activity) → Happens z r r' s choice l l' b → b ≡ Activity.Rebalance (Rebalance.Replace Replace.Exchange) → ComesNow (word z r.world) r.ledger.rows r'.ledger.rows s (length r.history.log) l b q → ListAt z (word z r'.world) r'.ledger.rows r'.history r'.origin r'.listed q
       comes b x e y = list_relinked (subst (λ c. Happens z r r' s choice l l' c) e x) i st q (subst (λ c. ComesNow (word z r.world) r.ledger.rows r'.ledger.rows s (length r.history.log) l c q) e y)
 
       which : WasLinked r.ledger.rows q ⊎ ComesNow (word z r.world) r.ledger.rows r'.ledger.rows s (length r.history.log) l a q → ListAt z (word z r'.world) r'.ledger.rows r'.history r'.origin r'.listed q

@@ -11,7 +11,10 @@ use Rattle.kw_words.specs.declared.pend.Pend.TheVariants as pend
 use Rattle.kw_words.specs.Pend.{pend_word}
 use Rattle.kw_world.specs.declared.answer.Answer.{Answer}
 use Rattle.kw_world.specs.declared.activity.Activity.{Activity}
-use Rattle.kw_world.specs.declared.activity.Activity.TheVariants.{PutKey, PutValue, Announce, LookHelp, Freeze, PutClock, Stamp, PutVersion, InsFrom, InsKey, InsVer, InsSet, Insert, PutClear, Leave}
+use Rattle.kw_world.specs.declared.activity.rebalance.freeze.Freeze.TheVariants as Freeze
+use Rattle.kw_world.specs.declared.activity.look.Look.TheVariants as Look
+use Rattle.kw_world.specs.declared.activity.put.Put.TheVariants as Put
+use Rattle.kw_world.specs.declared.activity.rebalance.Rebalance.TheVariants as Rebalance
 use Rattle.kw_world.specs.declared.local.Local.{Local}
 use Rattle.kw_world.specs.declared.event.Choice.{Choice}
 use Rattle.kw_world.specs.Sizes.{Sizes}
@@ -59,7 +62,7 @@ put_runs h h' x y o n w = which (cases_eq x y)
 
 -- what the change of the acting seat leaves to another one: new attempts, new calls and calls that
 -- end are its own
-pub change_apart : (h h' : History) (e : Logged) (z : Sizes) (v : Words) (s : ℕ) (choice : Choice) (l : Local) (g : SeatLog) (o : Origins) (a : Activity) (c : Change) → Makes z v s choice l g o a c → ((answer : Answer) → a ≡ Leave answer → (called h g.call).seat ≡ s) → h' ≡ noted h e c → (t : ℕ) → t ≢ s → RelyHistory h h' t
+pub change_apart : (h h' : History) (e : Logged) (z : Sizes) (v : Words) (s : ℕ) (choice : Choice) (l : Local) (g : SeatLog) (o : Origins) (a : Activity) (c : Change) → Makes z v s choice l g o a c → ((answer : Answer) → a ≡ Activity.Leave answer → (called h g.call).seat ≡ s) → h' ≡ noted h e c → (t : ℕ) → t ≢ s → RelyHistory h h' t
 change_apart h h' e z v s choice l g o a c (makes_nothing b) f n t d = record {
   fresh = λ p i w. none_new _ _ p (ap (λ x. length x.attempts) n) i w;
   begun = λ x i w. none_new _ _ x (ap (λ y. length y.calls) n) i w;
@@ -144,11 +147,11 @@ put_left h h' e x (Ends y reply answer draw) d n w = which (cases_eq x y)
 
 -- the seat freezes an entry
 abbrev pub IsFreeze : Activity → Type 0
-IsFreeze (Freeze i) = Unit {0}
+IsFreeze (Activity.Rebalance (Rebalance.Freeze (Freeze.Entry i))) = Unit {0}
 IsFreeze _ = ⊥
 
 freezes_one : (t : ℕ) (a : Activity) → FreezesEntry t a → IsFreeze a
-freezes_one t (Freeze i) x = tt
+freezes_one t (Activity.Rebalance (Rebalance.Freeze (Freeze.Entry i))) x = tt
 freezes_one t _ x = absurd x
 
 module _ (z : Sizes) (r r' : Run) (s : ℕ) (choice : Choice) (l l' : Local) (i : Below z r) (t : ℕ) (k : Local) (d : t ≢ s) (g : slice_get r.world.locals t ≡ Some k) where
@@ -194,18 +197,14 @@ module _ (z : Sizes) (r r' : Run) (s : ℕ) (choice : Choice) (l l' : Local) (i 
 
 -- a seat that has announced its cell and is not stamped is about to load the clock or to stamp
 unstamped : (a : Activity) → IsPublished a → (IsStamped a → ⊥) → IsUnstamped a
-unstamped PutClock p n = tt
-unstamped Stamp p n = tt
-unstamped PutVersion p n = absurd (n tt)
-unstamped InsFrom p n = absurd (n tt)
-unstamped InsKey p n = absurd (n tt)
-unstamped InsVer p n = absurd (n tt)
-unstamped InsSet p n = absurd (n tt)
-unstamped Insert p n = absurd (n tt)
-unstamped PutClear p n = absurd (n tt)
+unstamped (Activity.Put Put.Clock) p n = tt
+unstamped (Activity.Put Put.Stamp) p n = tt
+unstamped (Activity.Put Put.Version) p n = absurd (n tt)
+unstamped (Activity.Insert _) p n = absurd (n tt)
+unstamped (Activity.Put Put.Clear) p n = absurd (n tt)
 unstamped _ p n = absurd p
 
-module _ (z : Sizes) (r r' : Run) (s : ℕ) (choice : Choice) (l l' : Local) (i : Below z r) (t : ℕ) (k : Local) (d : t ≢ s) (g : slice_get r.world.locals t ≡ Some k) (h : Happens z r r' s choice l l' LookHelp) where
+module _ (z : Sizes) (r r' : Run) (s : ℕ) (choice : Choice) (l l' : Local) (i : Below z r) (t : ℕ) (k : Local) (d : t ≢ s) (g : slice_get r.world.locals t ≡ Some k) (h : Happens z r r' s choice l l' (Activity.Look Look.Help)) where
   helper : Helps r.history r.origin l.activity l (r.seats s)
   helper = i.puts.helps s l h.knows (subst HasMet (sym h.activity) tt)
 
@@ -213,20 +212,20 @@ module _ (z : Sizes) (r r' : Run) (s : ℕ) (choice : Choice) (l l' : Local) (i 
   below = (i.shape.sane.locals t k g).below.row
 
   -- the exchange that is not made changes nothing
-  lost_change : word z r.world (name.Pend l.row l.looked) ≢ pend_word (pend.Pending l.met) → r'.history ≡ noted r.history (log_entry z r LookHelp s choice l) Nothing
-  lost_change n = h.history ∙ ap (λ c. noted r.history (log_entry z r LookHelp s choice l) c) (not_chosen _ _ _ Nothing n)
+  lost_change : word z r.world (name.Pend l.row l.looked) ≢ pend_word (pend.Pending l.met) → r'.history ≡ noted r.history (log_entry z r (Activity.Look Look.Help) s choice l) Nothing
+  lost_change n = h.history ∙ ap (λ c. noted r.history (log_entry z r (Activity.Look Look.Help) s choice l) c) (not_chosen _ _ _ Nothing n)
 
   lost_entry : word z r.world (name.Pend l.row l.looked) ≢ pend_word (pend.Pending l.met) → word z r'.world (name.Pend k.row t) ≡ word z r.world (name.Pend k.row t)
   lost_entry n = which (cases_eq k.row l.row) (cases_eq t l.looked)
     where
       which : (k.row ≡ l.row) ⊎ (k.row ≡ l.row → ⊥) → (t ≡ l.looked) ⊎ (t ≡ l.looked → ⊥) → word z r'.world (name.Pend k.row t) ≡ word z r.world (name.Pend k.row t)
       which (inl e) (inl f) = rw (e, f) (not_exchanged _ _ _ _ h.changed.same n)
-      which (inr e) f = entry_stays LookHelp h k.row t below (inside z r r' s choice l l' i t k d g) (λ x. e x.0)
-      which (inl e) (inr f) = entry_stays LookHelp h k.row t below (inside z r r' s choice l l' i t k d g) (λ x. f x.1)
+      which (inr e) f = entry_stays (Activity.Look Look.Help) h k.row t below (inside z r r' s choice l l' i t k d g) (λ x. e x.0)
+      which (inl e) (inr f) = entry_stays (Activity.Look Look.Help) h k.row t below (inside z r r' s choice l l' i t k d g) (λ x. f x.1)
 
   -- the one that is made stamps the attempt that was met
-  won_change : word z r.world (name.Pend l.row l.looked) ≡ pend_word (pend.Pending l.met) → r'.history ≡ noted r.history (log_entry z r LookHelp s choice l) (Stamps helper.put l.helping (r.seats s).loaded)
-  won_change e = h.history ∙ ap (λ c. noted r.history (log_entry z r LookHelp s choice l) c) (chosen _ _ _ Nothing e ∙ ap (λ x. helping x l.helping (r.seats s).loaded) helper.origin)
+  won_change : word z r.world (name.Pend l.row l.looked) ≡ pend_word (pend.Pending l.met) → r'.history ≡ noted r.history (log_entry z r (Activity.Look Look.Help) s choice l) (Stamps helper.put l.helping (r.seats s).loaded)
+  won_change e = h.history ∙ ap (λ c. noted r.history (log_entry z r (Activity.Look Look.Help) s choice l) c) (chosen _ _ _ Nothing e ∙ ap (λ x. helping x l.helping (r.seats s).loaded) helper.origin)
 
   -- its cell is that of the entry's seat
   met_cell : word z r.world (name.Pend l.row l.looked) ≡ pend_word (pend.Pending l.met) → HasCell r.ledger.rows r.history l.row l.met helper.put
@@ -239,7 +238,7 @@ module _ (z : Sizes) (r r' : Run) (s : ℕ) (choice : Choice) (l l' : Local) (i 
   won_other : word z r.world (name.Pend l.row l.looked) ≡ pend_word (pend.Pending l.met) → t ≢ l.looked → RelyEntry (word z r.world) (word z r'.world) r.history r'.history t k.activity k (r.seats t)
   won_other e n =
       as_it_was
-      (λ p. entry_stays LookHelp h k.row t below (inside z r r' s choice l l' i t k d g) (λ x. n x.1))
+      (λ p. entry_stays (Activity.Look Look.Help) h k.row t below (inside z r r' s choice l l' i t k d g) (λ x. n x.1))
       (λ p. let own = i.puts.owns t k g p in attempt_left r.history r'.history _ (r.seats t).own (Stamps helper.put l.helping (r.seats s).loaded) (λ u. n (sym own.seat ∙ ap (λ q. (attempt r.history q).seat) u ∙ helper.seat)) (won_change e) own.within)
       (λ p. let c = i.positions.calling t k g p in
       put_left r.history r'.history _ (r.seats t).call (Stamps helper.put l.helping (r.seats s).loaded)
@@ -265,7 +264,7 @@ module _ (z : Sizes) (r r' : Run) (s : ℕ) (choice : Choice) (l l' : Local) (i 
       let known = i.shape.sane.locals s l h.knows in
       let same : helper.put ≡ (r.seats t).own = pending_own i.puts l.row l.looked l.met helper.put known.below.row known.ranges.looked e helper.origin ∙ ap (λ x. (r.seats x).own) (sym f) in
       let cell_is : l.met ≡ k.cell = sym st.1 ∙ own.cell in
-      let n : r'.history ≡ noted r.history (log_entry z r LookHelp s choice l) (Stamps (r.seats t).own l.helping (r.seats s).loaded) = subst (λ x. r'.history ≡ noted r.history (log_entry z r LookHelp s choice l) (Stamps x l.helping (r.seats s).loaded)) same (won_change e) in
+      let n : r'.history ≡ noted r.history (log_entry z r (Activity.Look Look.Help) s choice l) (Stamps (r.seats t).own l.helping (r.seats s).loaded) = subst (λ x. r'.history ≡ noted r.history (log_entry z r (Activity.Look Look.Help) s choice l) (Stamps x l.helping (r.seats s).loaded)) same (won_change e) in
       is_helped l.helping (r.seats s).loaded (unstamped k.activity y (λ x. true_false (own.stamped x) st.0))
       (subst (λ x. word z r.world (name.Pend k.row t) ≡ pend_word (pend.Pending x)) cell_is word_is)
       (subst (λ x. word z r'.world (name.Pend k.row t) ≡ pend_word (pend.Stamped x l.helping)) cell_is (rw (q, f) (exchanged _ _ _ _ h.changed.same e)))
@@ -289,24 +288,20 @@ module _ (z : Sizes) (r r' : Run) (s : ℕ) (choice : Choice) (l l' : Local) (i 
 
 -- a seat that has a cell has announced it, or has not, and any other seat has none
 pub fresh_published : (a : Activity) → IsFresh a ⊎ IsPublished a ⊎ (IsPutting a → ⊥)
-fresh_published PutKey = inl tt
-fresh_published PutValue = inl tt
-fresh_published Announce = inl tt
-fresh_published PutClock = inr (inl tt)
-fresh_published Stamp = inr (inl tt)
-fresh_published PutVersion = inr (inl tt)
-fresh_published InsFrom = inr (inl tt)
-fresh_published InsKey = inr (inl tt)
-fresh_published InsVer = inr (inl tt)
-fresh_published InsSet = inr (inl tt)
-fresh_published Insert = inr (inl tt)
-fresh_published PutClear = inr (inl tt)
+fresh_published (Activity.Put Put.Key) = inl tt
+fresh_published (Activity.Put Put.Value) = inl tt
+fresh_published (Activity.Put Put.Announce) = inl tt
+fresh_published (Activity.Put Put.Clock) = inr (inl tt)
+fresh_published (Activity.Put Put.Stamp) = inr (inl tt)
+fresh_published (Activity.Put Put.Version) = inr (inl tt)
+fresh_published (Activity.Insert _) = inr (inl tt)
+fresh_published (Activity.Put Put.Clear) = inr (inl tt)
 fresh_published _ = inr (inr (λ p. p))
 
 pub fresh_puts : (a : Activity) → IsFresh a → IsPutting a
-fresh_puts PutKey p = tt
-fresh_puts PutValue p = tt
-fresh_puts Announce p = tt
+fresh_puts (Activity.Put Put.Key) p = tt
+fresh_puts (Activity.Put Put.Value) p = tt
+fresh_puts (Activity.Put Put.Announce) p = tt
 fresh_puts _ p = absurd p
 
 -- the entry of an announced attempt is not idle
@@ -318,7 +313,7 @@ entry_not_idle p e = met p.is_lost p.is_stamped refl refl
     met false true x y = let w : pend_word (pend.Stamped p.cell p.version) ≡ pend_word pend.Idle = rw (x, y) at e in omega (arith, w)
     met false false x y = let w : pend_word (pend.Pending p.cell) ≡ pend_word pend.Idle = rw (x, y) at e in omega (arith, w)
 
-module _ (z : Sizes) (r r' : Run) (s : ℕ) (choice : Choice) (l l' : Local) (i : Below z r) (j : ℕ) (h : Happens z r r' s choice l l' (Freeze j)) where
+module _ (z : Sizes) (r r' : Run) (s : ℕ) (choice : Choice) (l l' : Local) (i : Below z r) (j : ℕ) (h : Happens z r r' s choice l l' (Activity.Rebalance (Rebalance.Freeze (Freeze.Entry j)))) where
   row_below : l.row < r.world.rows
   row_below = (i.shape.sane.locals s l h.knows).below.row
 
@@ -326,12 +321,12 @@ module _ (z : Sizes) (r r' : Run) (s : ℕ) (choice : Choice) (l l' : Local) (i 
   seat_below = subst (IsActivity z) h.activity (i.shape.sane.locals s l h.knows).ranges.activity
 
   -- the change of the record, by what was found in the entry
-  changes : (x : Pend) → l.rebalance.entry ≡ x → word z r.world (name.Pend l.row j) ≡ pend_word l.rebalance.entry → r'.history ≡ noted r.history (log_entry z r (Freeze j) s choice l) (freezing x l.row r.origin)
-  changes x e f = h.history ∙ ap (λ c. noted r.history (log_entry z r (Freeze j) s choice l) c) (chosen _ _ _ Nothing f ∙ ap (λ y. freezing y l.row r.origin) e)
+  changes : (x : Pend) → l.rebalance.entry ≡ x → word z r.world (name.Pend l.row j) ≡ pend_word l.rebalance.entry → r'.history ≡ noted r.history (log_entry z r (Activity.Rebalance (Rebalance.Freeze (Freeze.Entry j))) s choice l) (freezing x l.row r.origin)
+  changes x e f = h.history ∙ ap (λ c. noted r.history (log_entry z r (Activity.Rebalance (Rebalance.Freeze (Freeze.Entry j))) s choice l) c) (chosen _ _ _ Nothing f ∙ ap (λ y. freezing y l.row r.origin) e)
 
   -- an exchange that is not made changes nothing
-  pub not_frozen : word z r.world (name.Pend l.row j) ≢ pend_word l.rebalance.entry → r'.history ≡ noted r.history (log_entry z r (Freeze j) s choice l) Nothing
-  not_frozen d = h.history ∙ ap (λ c. noted r.history (log_entry z r (Freeze j) s choice l) c) (not_chosen _ _ _ Nothing d)
+  pub not_frozen : word z r.world (name.Pend l.row j) ≢ pend_word l.rebalance.entry → r'.history ≡ noted r.history (log_entry z r (Activity.Rebalance (Rebalance.Freeze (Freeze.Entry j))) s choice l) Nothing
+  not_frozen d = h.history ∙ ap (λ c. noted r.history (log_entry z r (Activity.Rebalance (Rebalance.Freeze (Freeze.Entry j))) s choice l) c) (not_chosen _ _ _ Nothing d)
 
   -- a pending entry is that of the seat's own attempt, which is lost
   module _ (c : ℕ) (e : l.rebalance.entry ≡ pend.Pending c) (f : word z r.world (name.Pend l.row j) ≡ pend_word l.rebalance.entry) where
@@ -341,17 +336,17 @@ module _ (z : Sizes) (r r' : Run) (s : ℕ) (choice : Choice) (l l' : Local) (i 
     pub loser : OwnsAttempt (word z r.world) r.history j pends.local.activity pends.local (r.seats j)
     loser = i.puts.owns j pends.local pends.knows (published_puts pends.local.activity pends.published)
 
-    pub loses_own : r'.history ≡ noted r.history (log_entry z r (Freeze j) s choice l) (Loses (r.seats j).own)
+    pub loses_own : r'.history ≡ noted r.history (log_entry z r (Activity.Rebalance (Rebalance.Freeze (Freeze.Entry j))) s choice l) (Loses (r.seats j).own)
     loses_own =
         let origin : r.origin l.row c ≡ Some (r.seats j).own = rw (pends.row, sym loser.cell ∙ pends.cell) at (own_origin i.puts j pends.local pends.knows (published_puts pends.local.activity pends.published)) in
-        changes (pend.Pending c) e f ∙ ap (λ x. noted r.history (log_entry z r (Freeze j) s choice l) (losing x)) origin
+        changes (pend.Pending c) e f ∙ ap (λ x. noted r.history (log_entry z r (Activity.Rebalance (Rebalance.Freeze (Freeze.Entry j))) s choice l) (losing x)) origin
 
-module _ (z : Sizes) (r r' : Run) (s : ℕ) (choice : Choice) (l l' : Local) (i : Below z r) (t : ℕ) (k : Local) (d : t ≢ s) (g : slice_get r.world.locals t ≡ Some k) (j : ℕ) (h : Happens z r r' s choice l l' (Freeze j)) where
+module _ (z : Sizes) (r r' : Run) (s : ℕ) (choice : Choice) (l l' : Local) (i : Below z r) (t : ℕ) (k : Local) (d : t ≢ s) (g : slice_get r.world.locals t ≡ Some k) (j : ℕ) (h : Happens z r r' s choice l l' (Activity.Rebalance (Rebalance.Freeze (Freeze.Entry j)))) where
   its_row : k.row < r.world.rows
   its_row = (i.shape.sane.locals t k g).below.row
 
   -- where the record does not change, and the entry of the seat is not the one that is frozen
-  unchanged : r'.history ≡ noted r.history (log_entry z r (Freeze j) s choice l) Nothing → (IsPutting k.activity → word z r'.world (name.Pend k.row t) ≡ word z r.world (name.Pend k.row t)) → RelyEntry (word z r.world) (word z r'.world) r.history r'.history t k.activity k (r.seats t)
+  unchanged : r'.history ≡ noted r.history (log_entry z r (Activity.Rebalance (Rebalance.Freeze (Freeze.Entry j))) s choice l) Nothing → (IsPutting k.activity → word z r'.world (name.Pend k.row t) ≡ word z r.world (name.Pend k.row t)) → RelyEntry (word z r.world) (word z r'.world) r.history r'.history t k.activity k (r.seats t)
   unchanged n e =
       as_it_was e
       (λ p. attempt_left r.history r'.history _ (r.seats t).own Nothing tt n (i.puts.owns t k g p).within)
@@ -359,7 +354,7 @@ module _ (z : Sizes) (r r' : Run) (s : ℕ) (choice : Choice) (l l' : Local) (i 
 
   -- an entry of another row, or of another seat
   elsewhere : (k.row ≡ l.row → t ≡ j → ⊥) → word z r'.world (name.Pend k.row t) ≡ word z r.world (name.Pend k.row t)
-  elsewhere n = entry_stays (Freeze j) h k.row t its_row (inside z r r' s choice l l' i t k d g) (λ x. n x.0 x.1)
+  elsewhere n = entry_stays (Activity.Rebalance (Rebalance.Freeze (Freeze.Entry j))) h k.row t its_row (inside z r r' s choice l l' i t k d g) (λ x. n x.0 x.1)
 
   -- the exchange that is not made
   left : word z r.world (name.Pend l.row j) ≢ pend_word l.rebalance.entry → RelyEntry (word z r.world) (word z r'.world) r.history r'.history t k.activity k (r.seats t)
@@ -375,7 +370,7 @@ module _ (z : Sizes) (r r' : Run) (s : ℕ) (choice : Choice) (l l' : Local) (i 
   idle : l.rebalance.entry ≡ pend.Idle → word z r.world (name.Pend l.row j) ≡ pend_word l.rebalance.entry → RelyEntry (word z r.world) (word z r'.world) r.history r'.history t k.activity k (r.seats t)
   idle e f = which (cases_eq k.row l.row) (cases_eq t j)
     where
-      same : r'.history ≡ noted r.history (log_entry z r (Freeze j) s choice l) Nothing
+      same : r'.history ≡ noted r.history (log_entry z r (Activity.Rebalance (Rebalance.Freeze (Freeze.Entry j))) s choice l) Nothing
       same = changes z r r' s choice l l' i j h pend.Idle e f
 
       here : k.row ≡ l.row → t ≡ j → RelyEntry (word z r.world) (word z r'.world) r.history r'.history t k.activity k (r.seats t)
@@ -402,7 +397,7 @@ module _ (z : Sizes) (r r' : Run) (s : ℕ) (choice : Choice) (l l' : Local) (i 
   pending : (c : ℕ) → l.rebalance.entry ≡ pend.Pending c → word z r.world (name.Pend l.row j) ≡ pend_word l.rebalance.entry → RelyEntry (word z r.world) (word z r'.world) r.history r'.history t k.activity k (r.seats t)
   pending c e f = which (cases_eq t j)
     where
-      n : r'.history ≡ noted r.history (log_entry z r (Freeze j) s choice l) (Loses (r.seats j).own)
+      n : r'.history ≡ noted r.history (log_entry z r (Activity.Rebalance (Rebalance.Freeze (Freeze.Entry j))) s choice l) (Loses (r.seats j).own)
       n = loses_own z r r' s choice l l' i j h c e f
 
       w : IsPendingOf z r l.row j c
@@ -423,7 +418,7 @@ module _ (z : Sizes) (r r' : Run) (s : ℕ) (choice : Choice) (l l' : Local) (i 
           let own = i.puts.owns t k g puts in
           let unstamped_now : (attempt r.history (r.seats t).own).is_stamped ≡ false = rw y w.unstamped in
           let cell : c ≡ k.cell = sym w.cell ∙ ap (λ x. (attempt r.history (r.seats x).own).cell) (sym y) ∙ own.cell in
-          let loses : r'.history ≡ noted r.history (log_entry z r (Freeze j) s choice l) (Loses (r.seats t).own) = rw y n in
+          let loses : r'.history ≡ noted r.history (log_entry z r (Activity.Rebalance (Rebalance.Freeze (Freeze.Entry j))) s choice l) (Loses (r.seats t).own) = rw y n in
           is_frozen (rw (row, y) (entry_frozen j h f))
           (while_pending (unstamped k.activity published (λ x. true_false (own.stamped x) unstamped_now)) (rw (row, y) (f ∙ ap pend_word e ∙ ap (λ x. pend_word (pend.Pending x)) cell)) unstamped_now
           (attempt_set_same r.history r'.history (r.seats t).own _ (ap (λ x. x.attempts) loses) own.within))

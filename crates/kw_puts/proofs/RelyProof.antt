@@ -2,7 +2,20 @@
 use Rattle.std.proofs.Common.{ℕ, ◌≡◌, ◌≢◌, ◌⊎◌, inl, inr, ◌<◌, Bool, true, false, Option, Some, None, arith, refl, sym, ◌∙◌, ap, subst, length, slice_get, ne_eqb, eq-eqb}
 use Rattle.kw_words.specs.declared.layout.Name.TheVariants as name
 use Rattle.kw_world.specs.declared.activity.Activity.{Activity}
-use Rattle.kw_world.specs.declared.activity.Activity.TheVariants.{LookHelp, PutAdd, PutKey, PutValue, PutVersion, InsSet, Insert, PutClear, Leave, WriteCount, WriteVersion, WriteAfter, Freeze, ScanWait, ScanSettle, HelpSettle, Reclaim, TakeRow, Replace}
+use Rattle.kw_world.specs.declared.activity.draw.Draw.TheVariants as Draw
+use Rattle.kw_world.specs.declared.activity.rebalance.freeze.Freeze.TheVariants as Freeze
+use Rattle.kw_world.specs.declared.activity.insert.Insert.TheVariants as Insert
+use Rattle.kw_world.specs.declared.activity.look.Look.TheVariants as Look
+use Rattle.kw_world.specs.declared.activity.put.Put.TheVariants as Put
+use Rattle.kw_world.specs.declared.activity.rebalance.Rebalance.TheVariants as Rebalance
+use Rattle.kw_world.specs.declared.activity.rebalance.replace.Replace.TheVariants as Replace
+use Rattle.kw_world.specs.declared.activity.rebalance.seek.Seek.TheVariants as Seek
+use Rattle.kw_world.specs.declared.activity.rebalance.write.Write.TheVariants as Write
+use Rattle.kw_world.specs.declared.activity.rebalance.engage.Engage.TheVariants as Engage
+use Rattle.kw_world.specs.declared.activity.enter.Enter.TheVariants as Enter
+use Rattle.kw_world.specs.declared.activity.rebalance.gather.Gather.TheVariants as Gather
+use Rattle.kw_world.specs.declared.activity.read.Read.TheVariants as Read
+use Rattle.kw_world.specs.declared.activity.walk.Walk.TheVariants as Walk
 use Rattle.kw_world.specs.declared.local.Local.{Local}
 use Rattle.kw_world.specs.declared.event.Choice.{Choice}
 use Rattle.kw_world.specs.Sizes.{Sizes}
@@ -67,28 +80,28 @@ use Rattle.kw_words.specs.declared.kind.Kind.TheVariants as kind
 
 -- a seat that stores a key, a value or a version has a cell
 pub key_puts : (a : Activity) → WritesKey a → IsPutting a × IsFresh a
-key_puts PutKey x = (tt, tt)
+key_puts (Activity.Put Put.Key) x = (tt, tt)
 key_puts _ x = absurd x
 
 pub value_puts : (a : Activity) → WritesValue a → IsPutting a × IsFresh a
-value_puts PutValue x = (tt, tt)
+value_puts (Activity.Put Put.Value) x = (tt, tt)
 value_puts _ x = absurd x
 
 set_puts : (a : Activity) → IsInsSet a → IsPutting a
-set_puts InsSet x = tt
+set_puts (Activity.Insert Insert.Set) x = tt
 set_puts _ x = absurd x
 
-insert_is : (a : Activity) → IsInsert a → a ≡ Insert
-insert_is Insert x = refl
+insert_is : (a : Activity) → IsInsert a → a ≡ Activity.Insert Insert.Exchange
+insert_is (Activity.Insert Insert.Exchange) x = refl
 insert_is _ x = absurd x
 
 pub version_puts : (a : Activity) → IsPutVersion a → IsPutting a
-version_puts PutVersion x = tt
+version_puts (Activity.Put Put.Version) x = tt
 version_puts _ x = absurd x
 
 -- a version that stands in a row that is or was linked is the one that is stored there
 pub rely_version : (z : Sizes) (r r' : Run) (s : ℕ) (choice : Choice) (l : Local) (a : Activity) (l' : Local) → Happens z r r' s choice l l' a → Below z r → (q c : ℕ) → WasLinked r.ledger.rows q → c < z.cells → word z r.world (name.Version q c) ≢ 0 → word z r'.world (name.Version q c) ≡ word z r.world (name.Version q c)
-rely_version z r r' s choice l PutVersion l' h i q c o w n = which (cases_eq q l.row) (cases_eq c l.cell)
+rely_version z r r' s choice l (Activity.Put Put.Version) l' h i q c o w n = which (cases_eq q l.row) (cases_eq c l.cell)
   where
     own : OwnsAttempt (word z r.world) r.history s l.activity l (r.seats s)
     own = i.puts.owns s l h.knows (subst IsPutting (sym h.activity) tt)
@@ -102,8 +115,8 @@ rely_version z r r' s choice l PutVersion l' h i q c o w n = which (cases_eq q l
 
     which : (q ≡ l.row) ⊎ (q ≡ l.row → ⊥) → (c ≡ l.cell) ⊎ (c ≡ l.cell → ⊥) → word z r'.world (name.Version q c) ≡ word z r.world (name.Version q c)
     which (inl e) (inl f) = subst (λ x. word z r'.world (name.Version x c) ≡ word z r.world (name.Version q c)) (sym e) (subst (λ x. word z r'.world (name.Version l.row x) ≡ word z r.world (name.Version q c)) (sym f) (h.changed.same ∙ sym (stands e f)))
-    which (inr d) f = linked_version PutVersion h i.shape q c o w (λ x e g. d e)
-    which (inl e) (inr d) = linked_version PutVersion h i.shape q c o w (λ x g f. d f)
+    which (inr d) f = linked_version (Activity.Put Put.Version) h i.shape q c o w (λ x e g. d e)
+    which (inl e) (inr d) = linked_version (Activity.Put Put.Version) h i.shape q c o w (λ x g f. d f)
 rely_version z r r' s choice l a l' h i q c o w n = linked_version a h i.shape q c o w (λ x e f. x)
 
 -- the words that concern another seat
@@ -117,33 +130,43 @@ rely_words z r r' s choice l a l' h i = record {
 -- The scan of another seat.
 
 -- only a seat that stores that it waits changes since when it does
-pub waits_stay : (z : Sizes) (r r' : Run) (s : ℕ) (choice : Choice) (l : Local) (a : Activity) (l' : Local) → Happens z r r' s choice l l' a → (t : ℕ) → (t ≡ s → a ≢ ScanWait) → r'.ledger.waits t ≡ r.ledger.waits t
-waits_stay z r r' s choice l ScanWait l' h t f = ap (λ (g : Ledger). g.waits t) h.ledger ∙ rw (ne_eqb t s (λ e. f e refl)) refl
-waits_stay z r r' s choice l Reclaim l' h t f = ap (λ (g : Ledger). g.waits t) h.ledger ∙ met (word z r.world (name.State l.rebalance.sought) == state_word (Retired l.rebalance.number))
+pub waits_stay : (z : Sizes) (r r' : Run) (s : ℕ) (choice : Choice) (l : Local) (a : Activity) (l' : Local) → Happens z r r' s choice l l' a → (t : ℕ) → (t ≡ s → a ≢ Activity.Draw Draw.Wait) → r'.ledger.waits t ≡ r.ledger.waits t
+waits_stay z r r' s choice l (Activity.Draw Draw.Wait) l' h t f = ap (λ (g : Ledger). g.waits t) h.ledger ∙ rw (ne_eqb t s (λ e. f e refl)) refl
+waits_stay z r r' s choice l (Activity.Rebalance (Rebalance.Seek Seek.Reclaim)) l' h t f = ap (λ (g : Ledger). g.waits t) h.ledger ∙ met (word z r.world (name.State l.rebalance.sought) == state_word (Retired l.rebalance.number))
   where
     met : (b : Bool) → (let g : Ledger = if b then record r.ledger { rows = with_fate r.ledger.rows l.rebalance.sought (fate_free (r.ledger.rows.fates l.rebalance.sought)) } else r.ledger in g.waits t) ≡ r.ledger.waits t
     met true = refl
     met false = refl
-waits_stay z r r' s choice l TakeRow l' h t f = ap (λ (g : Ledger). g.waits t) h.ledger ∙ met (word z r.world (name.State l.rebalance.sought) == state_word Free)
+waits_stay z r r' s choice l (Activity.Rebalance (Rebalance.Seek Seek.Take)) l' h t f = ap (λ (g : Ledger). g.waits t) h.ledger ∙ met (word z r.world (name.State l.rebalance.sought) == state_word Free)
   where
     met : (b : Bool) → (let g : Ledger = if b then record r.ledger { rows = with_fate r.ledger.rows l.rebalance.sought (fate_taken s (length r.history.log) (r.ledger.rows.fates l.rebalance.sought)) } else r.ledger in g.waits t) ≡ r.ledger.waits t
     met true = refl
     met false = refl
-waits_stay z r r' s choice l Replace l' h t f = ap (λ (g : Ledger). g.waits t) h.ledger ∙ met (word z r.world (replaced_link l.rebalance.before) == link_word (unmarked_link (Some l.row)))
+waits_stay z r r' s choice l (Activity.Rebalance (Rebalance.Replace Replace.Exchange)) l' h t f = ap (λ (g : Ledger). g.waits t) h.ledger ∙ met (word z r.world (replaced_link l.rebalance.before) == link_word (unmarked_link (Some l.row)))
   where
     met : (b : Bool) → (let g : Ledger = if b then record r.ledger { rows = with_replaced (word z r.world) s (length r.history.log) l r.ledger.rows } else r.ledger in g.waits t) ≡ r.ledger.waits t
     met true = refl
     met false = refl
+waits_stay z r r' s choice l (Activity.Enter Enter.Announce) l' h t f = ap (λ (g : Ledger). g.waits t) h.ledger
+waits_stay z r r' s choice l (Activity.Walk Walk.First) l' h t f = ap (λ (g : Ledger). g.waits t) h.ledger
+waits_stay z r r' s choice l (Activity.Look Look.Key) l' h t f = ap (λ (g : Ledger). g.waits t) h.ledger
+waits_stay z r r' s choice l (Activity.Read Read.Link) l' h t f = ap (λ (g : Ledger). g.waits t) h.ledger
+waits_stay z r r' s choice l (Activity.Put Put.Count) l' h t f = ap (λ (g : Ledger). g.waits t) h.ledger
+waits_stay z r r' s choice l (Activity.Insert Insert.Link) l' h t f = ap (λ (g : Ledger). g.waits t) h.ledger
+waits_stay z r r' s choice l (Activity.Rebalance (Rebalance.Engage Engage.Clock)) l' h t f = ap (λ (g : Ledger). g.waits t) h.ledger
+waits_stay z r r' s choice l (Activity.Rebalance (Rebalance.Freeze Freeze.Count)) l' h t f = ap (λ (g : Ledger). g.waits t) h.ledger
+waits_stay z r r' s choice l (Activity.Rebalance (Rebalance.Gather Gather.Link)) l' h t f = ap (λ (g : Ledger). g.waits t) h.ledger
+waits_stay z r r' s choice l (Activity.Rebalance (Rebalance.Write Write.Count)) l' h t f = ap (λ (g : Ledger). g.waits t) h.ledger
 waits_stay z r r' s choice l a l' h t f = ap (λ (g : Ledger). g.waits t) h.ledger
 
 -- an event that settles no scan of another seat leaves where the version in it was drawn
 pub draw_stays : (z : Sizes) (r r' : Run) (s : ℕ) (choice : Choice) (l : Local) (a : Activity) (l' : Local) → Happens z r r' s choice l l' a → (t : ℕ) → t ≢ s → (SettlesScan t a → ⊥) → r'.settled t ≡ r.settled t
-draw_stays z r r' s choice l ScanSettle l' h t d f = ap (λ (g : ℕ → ℕ). g t) h.settled ∙ own (word z r.world (name.Scan s) == scan_word (Waiting l.waiting))
+draw_stays z r r' s choice l (Activity.Draw Draw.Settle) l' h t d f = ap (λ (g : ℕ → ℕ). g t) h.settled ∙ own (word z r.world (name.Scan s) == scan_word (Waiting l.waiting))
   where
     own : (b : Bool) → with_settled (if b then Some (record { seat = s; at = (r.seats s).drawn }) else None) r.settled t ≡ r.settled t
     own true = rw (ne_eqb t s d) refl
     own false = refl
-draw_stays z r r' s choice l (HelpSettle i) l' h t d f = ap (λ (g : ℕ → ℕ). g t) h.settled ∙ other (word z r.world (name.Scan i) == scan_word (Waiting l.rebalance.waiting))
+draw_stays z r r' s choice l (Activity.Rebalance (Rebalance.Freeze (Freeze.Settle i))) l' h t d f = ap (λ (g : ℕ → ℕ). g t) h.settled ∙ other (word z r.world (name.Scan i) == scan_word (Waiting l.rebalance.waiting))
   where
     other : (b : Bool) → with_settled (if b then Some (record { seat = i; at = (r.seats s).drawn }) else None) r.settled t ≡ r.settled t
     other true = rw (ne_eqb t i f) refl
@@ -152,10 +175,10 @@ draw_stays z r r' s choice l a l' h t d f = ap (λ (g : ℕ → ℕ). g t) h.set
 
 -- a scan that another seat settles which waits since the clock that this seat found: it gets the
 -- version that was drawn for it, after it began to wait. Any other scan stays
-helped_scan : (z : Sizes) (r r' : Run) (s : ℕ) (choice : Choice) (l : Local) (t : ℕ) (l' : Local) → Happens z r r' s choice l l' (HelpSettle t) → Below z r → Step r.history r'.history (log_entry z r (HelpSettle t) s choice l) → t < z.seats → RelyScan (word z r.world) (word z r'.world) r'.history t (r.ledger.waits t) (r.settled t) (r'.settled t)
+helped_scan : (z : Sizes) (r r' : Run) (s : ℕ) (choice : Choice) (l : Local) (t : ℕ) (l' : Local) → Happens z r r' s choice l l' (Activity.Rebalance (Rebalance.Freeze (Freeze.Settle t))) → Below z r → Step r.history r'.history (log_entry z r (Activity.Rebalance (Rebalance.Freeze (Freeze.Settle t))) s choice l) → t < z.seats → RelyScan (word z r.world) (word z r'.world) r'.history t (r.ledger.waits t) (r.settled t) (r'.settled t)
 helped_scan z r r' s choice l t l' h i st o = which (cases_eq (word z r.world (name.Scan t)) (scan_word (Waiting l.rebalance.waiting)))
   where
-    n : Helping z r t (HelpSettle t) l (r.seats s)
+    n : Helping z r t (Activity.Rebalance (Rebalance.Freeze (Freeze.Settle t))) l (r.seats s)
     n = subst (λ b. Helping z r t b l (r.seats s)) h.activity (i.positions.helping s l h.knows t o)
 
     which : (word z r.world (name.Scan t) ≡ scan_word (Waiting l.rebalance.waiting)) ⊎ (word z r.world (name.Scan t) ≡ scan_word (Waiting l.rebalance.waiting) → ⊥) → RelyScan (word z r.world) (word z r'.world) r'.history t (r.ledger.waits t) (r.settled t) (r'.settled t)
@@ -168,11 +191,11 @@ helped_scan z r r' s choice l t l' h i st o = which (cases_eq (word z r.world (n
 
 -- the scan of another seat
 pub rely_scan : (z : Sizes) (r r' : Run) (s : ℕ) (choice : Choice) (l : Local) (a : Activity) (l' : Local) → Happens z r r' s choice l l' a → Below z r → Step r.history r'.history (log_entry z r a s choice l) → (t : ℕ) → t < z.seats → t ≢ s → RelyScan (word z r.world) (word z r'.world) r'.history t (r.ledger.waits t) (r.settled t) (r'.settled t)
-rely_scan z r r' s choice l (HelpSettle j) l' h i st t o d = which (cases_eq t j)
+rely_scan z r r' s choice l (Activity.Rebalance (Rebalance.Freeze (Freeze.Settle j))) l' h i st t o d = which (cases_eq t j)
   where
     which : (t ≡ j) ⊎ (t ≡ j → ⊥) → RelyScan (word z r.world) (word z r'.world) r'.history t (r.ledger.waits t) (r.settled t) (r'.settled t)
     which (inl e) = subst (λ q. RelyScan (word z r.world) (word z r'.world) r'.history q (r.ledger.waits q) (r.settled q) (r'.settled q)) (sym e) (helped_scan z r r' s choice l j l' h i st (subst (λ q. q < z.seats) e o))
-    which (inr n) = scan_stays (scan_word_stays (HelpSettle j) h t o d n) (draw_stays z r r' s choice l (HelpSettle j) l' h t d n)
+    which (inr n) = scan_stays (scan_word_stays (Activity.Rebalance (Rebalance.Freeze (Freeze.Settle j))) h t o d n) (draw_stays z r r' s choice l (Activity.Rebalance (Rebalance.Freeze (Freeze.Settle j))) l' h t d n)
 rely_scan z r r' s choice l a l' h i st t o d = scan_stays (scan_word_stays a h t o d (λ u. u)) (draw_stays z r r' s choice l a l' h t d (λ u. u))
 
 -- The cells.
@@ -195,7 +218,7 @@ rely_cells z r r' s choice l a l' h i t k d g = record {
 
 -- a put whose cell is not listed puts
 pub unlisted_puts : (a : Activity) → IsUnlisted a → IsPutting a
-unlisted_puts PutClear u = absurd u
+unlisted_puts (Activity.Put Put.Clear) u = absurd u
 unlisted_puts a u = u
 
 module _ (z : Sizes) (r r' : Run) (s : ℕ) (choice : Choice) (l : Local) (a : Activity) (l' : Local) (h : Happens z r r' s choice l l' a) (i : Below z r) (t : ℕ) (k : Local) (d : t ≢ s) (g : slice_get r.world.locals t ≡ Some k) (u : IsUnlisted k.activity) where
@@ -211,7 +234,7 @@ module _ (z : Sizes) (r r' : Run) (s : ℕ) (choice : Choice) (l : Local) (a : A
   others_unlisted : r'.listed k.row k.cell ≡ false
   others_unlisted = which (r'.listed k.row k.cell) refl
     where
-      not_now : (r.listed k.row k.cell ≡ true) ⊎ (a ≡ Insert) × (k.row ≡ l.row) × (k.cell ≡ l.cell) → ⊥
+      not_now : (r.listed k.row k.cell ≡ true) ⊎ (a ≡ Activity.Insert Insert.Exchange) × (k.row ≡ l.row) × (k.cell ≡ l.cell) → ⊥
       not_now (inl x) = true_false x ((i.lists.own t k g).unlisted u)
       not_now (inr x) = others_cell (subst IsPutting (sym x.0) tt) x.1 x.2
 
@@ -269,16 +292,16 @@ given_else true o r d p q c n = which (cases_eq q r) (cases_eq c d)
 given_else false o r d p q c n = refl
 
 -- in a row that is or was linked a cell stands for what it did, unless it is the one that is given
-pub origin_same : (z : Sizes) (r r' : Run) (s : ℕ) (choice : Choice) (l : Local) (a : Activity) (l' : Local) → Happens z r r' s choice l l' a → Below z r → (q c : ℕ) → WasLinked r.ledger.rows q → (a ≡ PutAdd → has_room z (count_of (word z r.world (name.Count l.row))) ≡ true → q ≡ l.row → c ≡ given_in (word z r.world) l.row → ⊥) → r'.origin q c ≡ r.origin q c
-origin_same z r r' s choice l PutAdd l' h i q c k n = ap (λ (o : Origins). o q c) h.origin ∙ given_else (has_room z (count_of (word z r.world (name.Count l.row)))) r.origin l.row (given_in (word z r.world) l.row) (length r.history.attempts) q c (n refl)
-origin_same z r r' s choice l (WriteVersion j) l' h i q c k n = origin_stays (WriteVersion j) h q c (λ x. not_hand (WriteVersion j) h i.shape tt q k x.0)
+pub origin_same : (z : Sizes) (r r' : Run) (s : ℕ) (choice : Choice) (l : Local) (a : Activity) (l' : Local) → Happens z r r' s choice l l' a → Below z r → (q c : ℕ) → WasLinked r.ledger.rows q → (a ≡ Activity.Put Put.Add → has_room z (count_of (word z r.world (name.Count l.row))) ≡ true → q ≡ l.row → c ≡ given_in (word z r.world) l.row → ⊥) → r'.origin q c ≡ r.origin q c
+origin_same z r r' s choice l (Activity.Put Put.Add) l' h i q c k n = ap (λ (o : Origins). o q c) h.origin ∙ given_else (has_room z (count_of (word z r.world (name.Count l.row)))) r.origin l.row (given_in (word z r.world) l.row) (length r.history.attempts) q c (n refl)
+origin_same z r r' s choice l (Activity.Rebalance (Rebalance.Write (Write.Version j))) l' h i q c k n = origin_stays (Activity.Rebalance (Rebalance.Write (Write.Version j))) h q c (λ x. not_hand (Activity.Rebalance (Rebalance.Write (Write.Version j))) h i.shape tt q k x.0)
 origin_same z r r' s choice l a l' h i q c k n = ap (λ (o : Origins). o q c) h.origin
 
 -- a cell that is given was nobody's
 pub origins_go_on : (z : Sizes) (r r' : Run) (s : ℕ) (choice : Choice) (l : Local) (a : Activity) (l' : Local) → Happens z r r' s choice l l' a → Below z r → (q c p : ℕ) → WasLinked r.ledger.rows q → r.origin q c ≡ Some p → r'.origin q c ≡ Some p
 origins_go_on z r r' s choice l a l' h i q c p k e = origin_same z r r' s choice l a l' h i q c k given ∙ e
   where
-    given : a ≡ PutAdd → has_room z (count_of (word z r.world (name.Count l.row))) ≡ true → q ≡ l.row → c ≡ given_in (word z r.world) l.row → ⊥
+    given : a ≡ Activity.Put Put.Add → has_room z (count_of (word z r.world (name.Count l.row))) ≡ true → q ≡ l.row → c ≡ given_in (word z r.world) l.row → ⊥
     given x m f g =
         let u : r.origin q c ≡ None = rw (f, g) (i.puts.places.nobody l.row (given_in (word z r.world) l.row) (subst (WasLinked r.ledger.rows) f k) (room_below z (count_of (word z r.world (name.Count l.row))) m) (omega arith)) in
         let y : None ≡ Some p = sym u ∙ e in cc
@@ -304,14 +327,14 @@ infant_same z r r' s choice l a l' h i t d q c x = (origin_stays a h q c (not_or
     not_its b h y e = d (sym x.owner ∙ subst (λ n. (r.ledger.rows.fates n).owner ≡ s) (sym e) (hand_infant b h i.shape y).owner)
 
     not_origin : (b : Activity) → Happens z r r' s choice l l' b → ChangesOrigin b l q c → ⊥
-    not_origin PutAdd h y = not_row PutAdd h tt y
-    not_origin (WriteVersion j) h y = not_its (WriteVersion j) h tt y.0
+    not_origin (Activity.Put Put.Add) h y = not_row (Activity.Put Put.Add) h tt y
+    not_origin (Activity.Rebalance (Rebalance.Write (Write.Version j))) h y = not_its (Activity.Rebalance (Rebalance.Write (Write.Version j))) h tt y.0
     not_origin _ h y = y
 
     not_listed : (b : Activity) → Happens z r r' s choice l l' b → ChangesListed b l q c → ⊥
-    not_listed Insert h y = not_row Insert h tt y.0
-    not_listed WriteCount h y = not_its WriteCount h tt y
-    not_listed (WriteAfter j) h y = not_its (WriteAfter j) h tt y.0
+    not_listed (Activity.Insert Insert.Exchange) h y = not_row (Activity.Insert Insert.Exchange) h tt y.0
+    not_listed (Activity.Rebalance (Rebalance.Write Write.Count)) h y = not_its (Activity.Rebalance (Rebalance.Write Write.Count)) h tt y
+    not_listed (Activity.Rebalance (Rebalance.Write (Write.After j))) h y = not_its (Activity.Rebalance (Rebalance.Write (Write.After j))) h tt y.0
     not_listed _ h y = y
 
 -- The record, whoever acts.
@@ -338,15 +361,15 @@ rely_history z r r' s choice l a l' h i t d =
     change_apart r.history r'.history _ z (word z r.world) s choice l (r.seats s) r.origin a _ (made z (word z r.world) s choice l (r.seats s) r.origin a)
     (λ answer e. (calling answer e).seat) h.history t d
   where
-    calling : (answer : Answer) → a ≡ Leave answer → Calling r.history s l.activity l (r.seats s)
+    calling : (answer : Answer) → a ≡ Activity.Leave answer → Calling r.history s l.activity l (r.seats s)
     calling answer e = i.positions.calling s l h.knows (subst IsBusy (sym (h.activity ∙ e)) tt)
 
 -- The entry.
 
 -- the entry of another seat
 pub rely_entry : (z : Sizes) (r r' : Run) (s : ℕ) (choice : Choice) (l : Local) (a : Activity) (l' : Local) → Happens z r r' s choice l l' a → Below z r → (t : ℕ) (k : Local) → t ≢ s → slice_get r.world.locals t ≡ Some k → RelyEntry (word z r.world) (word z r'.world) r.history r'.history t k.activity k (r.seats t)
-rely_entry z r r' s choice l LookHelp l' h i t k d g = entry_helped z r r' s choice l l' i t k d g h
-rely_entry z r r' s choice l (Freeze j) l' h i t k d g = entry_freezes z r r' s choice l l' i t k d g j h
+rely_entry z r r' s choice l (Activity.Look Look.Help) l' h i t k d g = entry_helped z r r' s choice l l' i t k d g h
+rely_entry z r r' s choice l (Activity.Rebalance (Rebalance.Freeze (Freeze.Entry j))) l' h i t k d g = entry_freezes z r r' s choice l l' i t k d g j h
 rely_entry z r r' s choice l a l' h i t k d g = entry_apart z r r' s choice l l' i t k d g a h (λ x. x) (λ x. x)
 
 -- all of it

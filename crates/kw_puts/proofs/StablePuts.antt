@@ -1,7 +1,7 @@
 -- What is known of a seat that puts or helps survives every event of another seat.
 use Rattle.std.proofs.Common.{ℕ, ◌≡◌, ◌<◌, true, false, Option, arith, refl, sym, ◌∙◌, ap, subst, length}
 use Rattle.kw_world.specs.declared.activity.Activity.{Activity}
-use Rattle.kw_world.specs.declared.activity.Activity.TheVariants.{PutKey, PutValue, Announce, PutClock, Stamp, InsFrom, InsKey, InsVer, InsSet, Insert, PutClear}
+use Rattle.kw_world.specs.declared.activity.put.Put.TheVariants as Put
 use Rattle.kw_world.specs.declared.local.Local.{Local}
 use Rattle.kw_world.specs.Sizes.{Sizes}
 use Rattle.kw_world.specs.Step.{word}
@@ -22,33 +22,29 @@ use Rattle.kw_puts.proofs.Rely.{SameAttempt, RelyEntry, as_it_was, is_helped, is
 
 -- a seat that is not stamped has announced its cell, and does not store its version yet
 not_fresh : (a : Activity) → IsUnstamped a → IsFresh a → ⊥
-not_fresh PutClock u f = f
-not_fresh Stamp u f = f
+not_fresh (Activity.Put Put.Clock) u f = f
+not_fresh (Activity.Put Put.Stamp) u f = f
 not_fresh _ u f = u
 
 unstamped_published : (a : Activity) → IsUnstamped a → IsPublished a
-unstamped_published PutClock u = tt
-unstamped_published Stamp u = tt
+unstamped_published (Activity.Put Put.Clock) u = tt
+unstamped_published (Activity.Put Put.Stamp) u = tt
 unstamped_published _ u = absurd u
 
 fresh_unpublished : (a : Activity) → IsFresh a → IsPublished a → ⊥
-fresh_unpublished PutKey u p = p
-fresh_unpublished PutValue u p = p
-fresh_unpublished Announce u p = p
+fresh_unpublished (Activity.Put Put.Key) u p = p
+fresh_unpublished (Activity.Put Put.Value) u p = p
+fresh_unpublished (Activity.Put Put.Announce) u p = p
 fresh_unpublished _ u p = u
 
 not_stamped : (a : Activity) → IsUnstamped a → IsStamped a → ⊥
-not_stamped PutClock u f = f
-not_stamped Stamp u f = f
+not_stamped (Activity.Put Put.Clock) u f = f
+not_stamped (Activity.Put Put.Stamp) u f = f
 not_stamped _ u f = u
 
 stored_stamped : (a : Activity) → IsStored a → IsStamped a
-stored_stamped InsFrom u = tt
-stored_stamped InsKey u = tt
-stored_stamped InsVer u = tt
-stored_stamped InsSet u = tt
-stored_stamped Insert u = tt
-stored_stamped PutClear u = tt
+stored_stamped (Activity.Insert _) u = tt
+stored_stamped (Activity.Put Put.Clear) u = tt
 stored_stamped _ u = absurd u
 
 -- a seat's own attempt

@@ -13,7 +13,8 @@ use Rattle.kw_lists.proofs.Inserting.{at_next}
 use Rattle.kw_lists.proofs.Reading.{list_ends}
 use Rattle.kw_lists.proofs.Walking.{not_behind, passed_next}
 use Rattle.kw_world.specs.declared.activity.Activity.{Activity}
-use Rattle.kw_world.specs.declared.activity.Activity.TheVariants.{TakeFrom, TakeKey, TakeVersion, TakeValue, TakeRestKey, TakeRestValue}
+use Rattle.kw_world.specs.declared.activity.rebalance.gather.Gather.TheVariants as Gather
+use Rattle.kw_world.specs.declared.activity.rebalance.Rebalance.TheVariants as Rebalance
 use Rattle.kw_world.specs.declared.local.Local.{Local}
 use Rattle.kw_world.specs.declared.marks.Mark.{Mark}
 use Rattle.kw_world.specs.Marks.{is_marked, unmarked, least_mark}
@@ -75,7 +76,7 @@ pub record IsLeft (z : Sizes) (h : History) (o : Origins) (l : Local) : Type 0 w
 module _ (z : Sizes) (row : Row) (h : History) (o : Origins) (l : Local) (n : IsLeft z h o l) where
   -- the least of the remembered cells is taken in hand
   pub takes_least : (m : Mark) → least_mark l.rebalance.marks ≡ Some m → All (IsMarkOf h o l.row) l.rebalance.marks →
-      Gathering z.cells row h o TakeRestKey (record l { place = m.cell; place_version = m.version; rebalance = record l.rebalance { marks = unmarked m.cell l.rebalance.marks }; activity = TakeRestKey })
+      Gathering z.cells row h o (Activity.Rebalance (Rebalance.Gather Gather.LeftOverKey)) (record l { place = m.cell; place_version = m.version; rebalance = record l.rebalance { marks = unmarked m.cell l.rebalance.marks }; activity = Activity.Rebalance (Rebalance.Gather Gather.LeftOverKey) })
   takes_least m e a = record {
     on = λ x. absurd x;
     behind = λ x. absurd x;
@@ -135,7 +136,7 @@ module _ (z : Sizes) (r : Run) (i : Below z r) (s : ℕ) (l : Local) (g : slice_
       which (inr y) = inr (i.lists.copied l.row c p k w o y.earlier)
 
   -- so a seat that begins the walk will meet it, where it is not remembered
-  pub begins_walk : (m : Local) → m.row ≡ l.row → m.rebalance.marks ≡ l.rebalance.marks → m.rebalance.gathered ≡ [] → m.link ≡ None → IsBeforeTaking l.activity → frozen_by z l.activity ≡ z.seats → Gathering z.cells row r.history r.origin TakeFrom m
+  pub begins_walk : (m : Local) → m.row ≡ l.row → m.rebalance.marks ≡ l.rebalance.marks → m.rebalance.gathered ≡ [] → m.link ≡ None → IsBeforeTaking l.activity → frozen_by z l.activity ≡ z.seats → Gathering z.cells row r.history r.origin (Activity.Rebalance (Rebalance.Gather Gather.Link)) m
   begins_walk m q e n u b f = record {
     on = λ x. rw u tt;
     behind = λ x. absurd x;
@@ -159,7 +160,7 @@ module _ (z : Sizes) (r : Run) (i : Below z r) (s : ℕ) (l : Local) (g : slice_
   -- The walk goes on.
 
   -- the cell to which the link leads is met
-  pub takes_cell : (c : ℕ) → cell_of_link_word (word z r.world (link_name l.row l.link)) ≡ Some c → Gathering z.cells row r.history r.origin TakeFrom l → Gathering z.cells row r.history r.origin TakeKey (record (taking z c l) { activity = TakeKey })
+  pub takes_cell : (c : ℕ) → cell_of_link_word (word z r.world (link_name l.row l.link)) ≡ Some c → Gathering z.cells row r.history r.origin (Activity.Rebalance (Rebalance.Gather Gather.Link)) l → Gathering z.cells row r.history r.origin (Activity.Rebalance (Rebalance.Gather Gather.Key)) (record (taking z c l) { activity = Activity.Rebalance (Rebalance.Gather Gather.Key) })
   takes_cell c e n = record {
     on = λ x. n.on tt;
     behind = λ x. (next.listed, next.behind);
@@ -184,7 +185,7 @@ module _ (z : Sizes) (r : Run) (i : Below z r) (s : ℕ) (l : Local) (g : slice_
       which d (inr (inr x)) m = inr (inr (x.0, next.first d x.0 x.1))
 
   -- its key is loaded
-  pub takes_its_key : Gathering z.cells row r.history r.origin TakeKey l → Gathering z.cells row r.history r.origin TakeVersion (record l { place_key = key_of_word (word z r.world (name.Key l.row l.place)); activity = TakeVersion })
+  pub takes_its_key : Gathering z.cells row r.history r.origin (Activity.Rebalance (Rebalance.Gather Gather.Key)) l → Gathering z.cells row r.history r.origin (Activity.Rebalance (Rebalance.Gather Gather.Version)) (record l { place_key = key_of_word (word z r.world (name.Key l.row l.place)); activity = Activity.Rebalance (Rebalance.Gather Gather.Version) })
   takes_its_key n = record {
     on = n.on;
     behind = n.behind;
@@ -199,7 +200,7 @@ module _ (z : Sizes) (r : Run) (i : Below z r) (s : ℕ) (l : Local) (g : slice_
   }
 
   -- and its version
-  pub takes_its_version : Gathering z.cells row r.history r.origin TakeVersion l → Gathering z.cells row r.history r.origin TakeValue (record l { place_version = unwrap_or (version_of_word (word z r.world (name.Version l.row l.place))) 1; activity = TakeValue })
+  pub takes_its_version : Gathering z.cells row r.history r.origin (Activity.Rebalance (Rebalance.Gather Gather.Version)) l → Gathering z.cells row r.history r.origin (Activity.Rebalance (Rebalance.Gather Gather.Value)) (record l { place_version = unwrap_or (version_of_word (word z r.world (name.Version l.row l.place))) 1; activity = Activity.Rebalance (Rebalance.Gather Gather.Value) })
   takes_its_version n = record {
     on = n.on;
     behind = n.behind;
@@ -252,15 +253,15 @@ module _ (z : Sizes) (r : Run) (i : Below z r) (s : ℕ) (l : Local) (g : slice_
         which (inr e) = true_false e (n.unmarked c x)
 
   -- a cell of the list is gathered, and passed
-  pub keeps_listed : Gathering z.cells row r.history r.origin TakeValue l → Gathering z.cells row r.history r.origin TakeFrom (take_past (keeping z value l)).local
+  pub keeps_listed : Gathering z.cells row r.history r.origin (Activity.Rebalance (Rebalance.Gather Gather.Value)) l → Gathering z.cells row r.history r.origin (Activity.Rebalance (Rebalance.Gather Gather.Link)) (take_past (keeping z value l)).local
   keeps_listed n = record {
     on = λ x. met.0;
     behind = λ x. absurd x;
     found = λ d p w o x. which d (n.found d p w o x);
     hand = λ x. absurd x;
     few = more.few;
-    below = more_below TakeValue n fresh (n.held tt);
-    unmarked = more_unmarked TakeValue n fresh (n.held tt);
+    below = more_below (Activity.Rebalance (Rebalance.Gather Gather.Value)) n fresh (n.held tt);
+    unmarked = more_unmarked (Activity.Rebalance (Rebalance.Gather Gather.Value)) n fresh (n.held tt);
     passed = λ x c y. past c (more.back c y);
     fresh = λ x. absurd x;
     held = λ x. absurd x;
@@ -274,7 +275,7 @@ module _ (z : Sizes) (r : Run) (i : Below z r) (s : ℕ) (l : Local) (g : slice_
       fresh = is_not (has_place l.place l.rebalance.gathered) (λ e. not_behind row l.link l.place (n.passed tt l.place e).1 met.1)
 
       more : OneMore z.cells l.place l.rebalance.gathered (keeping z value l).rebalance.gathered
-      more = one_more TakeValue n fresh (n.held tt)
+      more = one_more (Activity.Rebalance (Rebalance.Gather Gather.Value)) n fresh (n.held tt)
 
       which : (d : ℕ) → (has_place d l.rebalance.gathered ≡ true) ⊎ (is_marked d l.rebalance.marks ≡ true) ⊎ (row.listed d ≡ true) × ((d ≡ l.place) ⊎ Stands row l.place d) →
           (has_place d (keeping z value l).rebalance.gathered ≡ true) ⊎ (is_marked d l.rebalance.marks ≡ true) ⊎ (row.listed d ≡ true) × Stands row l.place d
@@ -290,7 +291,7 @@ module _ (z : Sizes) (r : Run) (i : Below z r) (s : ℕ) (l : Local) (g : slice_
   -- The list is at its end.
 
   -- no cell is to come: each one of a stamped attempt is gathered, or remembered
-  pub walk_ended : cell_of_link_word (word z r.world (link_name l.row l.link)) ≡ None → Gathering z.cells row r.history r.origin TakeFrom l → IsLeft z r.history r.origin l
+  pub walk_ended : cell_of_link_word (word z r.world (link_name l.row l.link)) ≡ None → Gathering z.cells row r.history r.origin (Activity.Rebalance (Rebalance.Gather Gather.Link)) l → IsLeft z r.history r.origin l
   walk_ended e n = record { found = λ c p w o x. which c (n.found c p w o x); few = n.few; below = n.below; unmarked = n.unmarked }
     where
       which : (c : ℕ) → (has_place c l.rebalance.gathered ≡ true) ⊎ (is_marked c l.rebalance.marks ≡ true) ⊎ (row.listed c ≡ true) × IsBehind row l.link c → (has_place c l.rebalance.gathered ≡ true) ⊎ (is_marked c l.rebalance.marks ≡ true)
@@ -299,19 +300,19 @@ module _ (z : Sizes) (r : Run) (i : Below z r) (s : ℕ) (l : Local) (g : slice_
       which c (inr (inr x)) = absurd (list_ends row l.link (row.link l.link) c (sound.list l.link (n.on tt)) (leads_to None e) x.0 x.1)
 
   -- and so it is where a remembered one is gathered
-  pub keeps_rest : Gathering z.cells row r.history r.origin TakeRestValue l → IsLeft z r.history r.origin (keeping z value l)
+  pub keeps_rest : Gathering z.cells row r.history r.origin (Activity.Rebalance (Rebalance.Gather Gather.LeftOverValue)) l → IsLeft z r.history r.origin (keeping z value l)
   keeps_rest n = record {
     found = λ c p w o x. which c (n.found c p w o x);
     few = more.few;
-    below = more_below TakeRestValue n fresh (n.held tt);
-    unmarked = more_unmarked TakeRestValue n fresh (n.held tt);
+    below = more_below (Activity.Rebalance (Rebalance.Gather Gather.LeftOverValue)) n fresh (n.held tt);
+    unmarked = more_unmarked (Activity.Rebalance (Rebalance.Gather Gather.LeftOverValue)) n fresh (n.held tt);
   }
     where
       fresh : has_place l.place l.rebalance.gathered ≡ false
       fresh = n.fresh tt (λ x. x)
 
       more : OneMore z.cells l.place l.rebalance.gathered (keeping z value l).rebalance.gathered
-      more = one_more TakeRestValue n fresh (n.held tt)
+      more = one_more (Activity.Rebalance (Rebalance.Gather Gather.LeftOverValue)) n fresh (n.held tt)
 
       which : (c : ℕ) → (has_place c l.rebalance.gathered ≡ true) ⊎ (is_marked c l.rebalance.marks ≡ true) ⊎ (c ≡ l.place) → (has_place c (keeping z value l).rebalance.gathered ≡ true) ⊎ (is_marked c l.rebalance.marks ≡ true)
       which c (inl x) = inl (more.old c x)
@@ -319,7 +320,7 @@ module _ (z : Sizes) (r : Run) (i : Below z r) (s : ℕ) (l : Local) (g : slice_
       which c (inr (inr e)) = inl (rw e more.new)
 
   -- a remembered cell's key is loaded
-  pub takes_rest_key : Gathering z.cells row r.history r.origin TakeRestKey l → Gathering z.cells row r.history r.origin TakeRestValue (record l { place_key = key_of_word (word z r.world (name.Key l.row l.place)); activity = TakeRestValue })
+  pub takes_rest_key : Gathering z.cells row r.history r.origin (Activity.Rebalance (Rebalance.Gather Gather.LeftOverKey)) l → Gathering z.cells row r.history r.origin (Activity.Rebalance (Rebalance.Gather Gather.LeftOverValue)) (record l { place_key = key_of_word (word z r.world (name.Key l.row l.place)); activity = Activity.Rebalance (Rebalance.Gather Gather.LeftOverValue) })
   takes_rest_key n = record {
     on = λ x. absurd x;
     behind = λ x. absurd x;

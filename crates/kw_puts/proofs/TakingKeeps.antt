@@ -7,7 +7,12 @@ use Rattle.kw_words.specs.declared.layout.Name.TheVariants as name
 use Rattle.kw_words.specs.Plain.{value_of_word}
 use Rattle.kw_cells.proofs.KeptOf.{kept_of-all}
 use Rattle.kw_world.specs.declared.activity.Activity.{Activity}
-use Rattle.kw_world.specs.declared.activity.Activity.TheVariants.{Leave, Again, BalClock, ScanLook, HelpSettle, TakeFrom, TakeKey, TakeVersion, TakeValue, TakeRestKey, TakeRestValue, SeekFirst}
+use Rattle.kw_world.specs.declared.activity.rebalance.engage.Engage.TheVariants as Engage
+use Rattle.kw_world.specs.declared.activity.rebalance.freeze.Freeze.TheVariants as Freeze
+use Rattle.kw_world.specs.declared.activity.rebalance.gather.Gather.TheVariants as Gather
+use Rattle.kw_world.specs.declared.activity.rebalance.Rebalance.TheVariants as Rebalance
+use Rattle.kw_world.specs.declared.activity.rebalance.seek.Seek.TheVariants as Seek
+use Rattle.kw_world.specs.declared.activity.rebalance.replace.Replace.TheVariants as Replace
 use Rattle.kw_world.specs.declared.local.Local.{Local}
 use Rattle.kw_world.specs.declared.event.Choice.{Choice}
 use Rattle.kw_world.specs.Sane.{frozen_by}
@@ -52,19 +57,17 @@ was_planned z v choice l a k _ x = tt
 
 -- a seat that has its plan builds
 planned_builds : (a : Activity) → IsAfterBuilding a → HasPlanned (nursing_of a) → IsBuilding a
-planned_builds Again o x = x
-planned_builds (Leave answer) o x = x
-planned_builds BalClock o x = x
+planned_builds Activity.Retry o x = x
+planned_builds (Activity.Leave answer) o x = x
+planned_builds (Activity.Rebalance (Rebalance.Engage Engage.Clock)) o x = x
+planned_builds (Activity.Rebalance (Rebalance.Seek Seek.Next)) o x = o
+planned_builds (Activity.Rebalance (Rebalance.Replace Replace.First)) o x = o
 planned_builds _ o x = o
 
 -- and after such an event none gathers
 gathers_before : (a : Activity) → IsAfterBuilding a → IsGathering a → ⊥
-gathers_before TakeFrom o x = o
-gathers_before TakeKey o x = o
-gathers_before TakeVersion o x = o
-gathers_before TakeValue o x = o
-gathers_before TakeRestKey o x = o
-gathers_before TakeRestValue o x = o
+gathers_before (Activity.Rebalance (Rebalance.Gather _)) o x = o
+gathers_before (Activity.Rebalance (Rebalance.Engage Engage.Clock)) o x = x
 gathers_before _ o x = x
 
 -- The acting seat.
@@ -107,14 +110,14 @@ module _ (z : Sizes) (r r' : Run) (s : ℕ) (choice : Choice) (l : Local) (a : A
     on b k e n x y = carried b k e (record { gathering = λ u. x; gathered = λ u. y; collected = λ u. absurd (n u); kept = λ u. absurd (n u); holds = λ u. absurd (n u) })
 
     -- where it has gathered all
-    all_gathered : (k : Local) → k.row ≡ l.row → All (IsGathered r.history r.origin k.row) k.rebalance.gathered → All (IsGathered r.history r.origin k.row) k.rebalance.kept → HoldsRow z.cells r.history r.origin k → Gathers z (list_in (word z r'.world) r'.listed k.row) r'.history r'.origin SeekFirst k
-    all_gathered k e n x y = carried SeekFirst k e (record { gathering = λ u. absurd u; gathered = λ u. absurd u; collected = λ u. n; kept = λ u. x; holds = λ u. y })
+    all_gathered : (k : Local) → k.row ≡ l.row → All (IsGathered r.history r.origin k.row) k.rebalance.gathered → All (IsGathered r.history r.origin k.row) k.rebalance.kept → HoldsRow z.cells r.history r.origin k → Gathers z (list_in (word z r'.world) r'.listed k.row) r'.history r'.origin (Activity.Rebalance (Rebalance.Seek Seek.First)) k
+    all_gathered k e n x y = carried (Activity.Rebalance (Rebalance.Seek Seek.First)) k e (record { gathering = λ u. absurd u; gathered = λ u. absurd u; collected = λ u. n; kept = λ u. x; holds = λ u. y })
 
     -- where it begins to gather
-    begins : (k : Local) → k.row ≡ l.row → k.rebalance.marks ≡ l.rebalance.marks → k.rebalance.gathered ≡ [] → k.link ≡ None → IsBeforeTaking a → Gathers z (list_in (word z r'.world) r'.listed k.row) r'.history r'.origin TakeFrom k
+    begins : (k : Local) → k.row ≡ l.row → k.rebalance.marks ≡ l.rebalance.marks → k.rebalance.gathered ≡ [] → k.link ≡ None → IsBeforeTaking a → Gathers z (list_in (word z r'.world) r'.listed k.row) r'.history r'.origin (Activity.Rebalance (Rebalance.Gather Gather.Link)) k
     begins k e m n u b =
-        on TakeFrom k e (λ x. x)
-        (subst (λ q. Gathering z.cells (list_in (word z r.world) r.listed q) r.history r.origin TakeFrom k) (sym e) (begins_walk z r i s l h.knows linked k e m n u (subst IsBeforeTaking (sym h.activity) b) passed.all))
+        on (Activity.Rebalance (Rebalance.Gather Gather.Link)) k e (λ x. x)
+        (subst (λ q. Gathering z.cells (list_in (word z r.world) r.listed q) r.history r.origin (Activity.Rebalance (Rebalance.Gather Gather.Link)) k) (sym e) (begins_walk z r i s l h.knows linked k e m n u (subst IsBeforeTaking (sym h.activity) b) passed.all))
         (rw n (All-nil (IsGathered r.history r.origin k.row)))
 
   -- where it builds rows
@@ -146,60 +149,60 @@ passes z a b f e = record { balances = b; frozen = f; all = e }
 -- what the acting seat knows then
 pub gathers_own : (z : Sizes) (r r' : Run) (s : ℕ) (choice : Choice) (l : Local) (a : Activity) (l' : Local) → Arrow z (word z r.world) s choice l a l' → Happens z r r' s choice l l' a → Below z r → Step r.history r'.history (log_entry z r a s choice l) → Gathers z (list_in (word z r'.world) r'.listed l'.row) r'.history r'.origin l'.activity l'
 gathers_own z r r' s choice l a l' (builds c next y b) h i st = goes_on z r r' s choice l a l' h i st next b
-gathers_own z r r' s choice l a l' (meets_quiet_last m e u) h i st = begins z r r' s choice l (ScanLook m) l' h i st (passes z (ScanLook m) tt tt refl) l' refl refl refl refl tt
-gathers_own z r r' s choice l a l' (meets_drawn_last m version e u) h i st = begins z r r' s choice l (ScanLook m) l' h i st (passes z (ScanLook m) tt tt refl) l' refl refl refl refl tt
-gathers_own z r r' s choice l a l' (settles_last m e u) h i st = begins z r r' s choice l (HelpSettle m) l' h i st (passes z (HelpSettle m) tt tt refl) l' refl refl refl refl tt
-gathers_own z r r' s choice l a l' (finds_drawn_last m version e u) h i st = begins z r r' s choice l (HelpSettle m) l' h i st (passes z (HelpSettle m) tt tt refl) l' refl refl refl refl tt
-gathers_own z r r' s choice l a l' (finds_no_scan_last m e u) h i st = begins z r r' s choice l (HelpSettle m) l' h i st (passes z (HelpSettle m) tt tt refl) l' refl refl refl refl tt
+gathers_own z r r' s choice l a l' (meets_quiet_last m e u) h i st = begins z r r' s choice l (Activity.Rebalance (Rebalance.Freeze (Freeze.Scan m))) l' h i st (passes z (Activity.Rebalance (Rebalance.Freeze (Freeze.Scan m))) tt tt refl) l' refl refl refl refl tt
+gathers_own z r r' s choice l a l' (meets_drawn_last m version e u) h i st = begins z r r' s choice l (Activity.Rebalance (Rebalance.Freeze (Freeze.Scan m))) l' h i st (passes z (Activity.Rebalance (Rebalance.Freeze (Freeze.Scan m))) tt tt refl) l' refl refl refl refl tt
+gathers_own z r r' s choice l a l' (settles_last m e u) h i st = begins z r r' s choice l (Activity.Rebalance (Rebalance.Freeze (Freeze.Settle m))) l' h i st (passes z (Activity.Rebalance (Rebalance.Freeze (Freeze.Settle m))) tt tt refl) l' refl refl refl refl tt
+gathers_own z r r' s choice l a l' (finds_drawn_last m version e u) h i st = begins z r r' s choice l (Activity.Rebalance (Rebalance.Freeze (Freeze.Settle m))) l' h i st (passes z (Activity.Rebalance (Rebalance.Freeze (Freeze.Settle m))) tt tt refl) l' refl refl refl refl tt
+gathers_own z r r' s choice l a l' (finds_no_scan_last m e u) h i st = begins z r r' s choice l (Activity.Rebalance (Rebalance.Freeze (Freeze.Settle m))) l' h i st (passes z (Activity.Rebalance (Rebalance.Freeze (Freeze.Settle m))) tt tt refl) l' refl refl refl refl tt
 gathers_own z r r' s choice l a l' (take_leads c e) h i st =
-    let p = passes z TakeFrom tt tt refl in
-    let n = was z r r' s choice l TakeFrom l' h i st in
-    let k = linked z r r' s choice l TakeFrom l' h i st p in
-    on z r r' s choice l TakeFrom l' h i st p TakeKey l' refl (λ x. x) (takes_cell z r i s l h.knows k c e (n.gathering tt)) (n.gathered tt)
+    let p = passes z (Activity.Rebalance (Rebalance.Gather Gather.Link)) tt tt refl in
+    let n = was z r r' s choice l (Activity.Rebalance (Rebalance.Gather Gather.Link)) l' h i st in
+    let k = linked z r r' s choice l (Activity.Rebalance (Rebalance.Gather Gather.Link)) l' h i st p in
+    on z r r' s choice l (Activity.Rebalance (Rebalance.Gather Gather.Link)) l' h i st p (Activity.Rebalance (Rebalance.Gather Gather.Key)) l' refl (λ x. x) (takes_cell z r i s l h.knows k c e (n.gathering tt)) (n.gathered tt)
 gathers_own z r r' s choice l a l' takes_key h i st =
-    let p = passes z TakeKey tt tt refl in
-    let n = was z r r' s choice l TakeKey l' h i st in
-    let k = linked z r r' s choice l TakeKey l' h i st p in
-    on z r r' s choice l TakeKey l' h i st p TakeVersion l' refl (λ x. x) (takes_its_key z r i s l h.knows k (n.gathering tt)) (n.gathered tt)
+    let p = passes z (Activity.Rebalance (Rebalance.Gather Gather.Key)) tt tt refl in
+    let n = was z r r' s choice l (Activity.Rebalance (Rebalance.Gather Gather.Key)) l' h i st in
+    let k = linked z r r' s choice l (Activity.Rebalance (Rebalance.Gather Gather.Key)) l' h i st p in
+    on z r r' s choice l (Activity.Rebalance (Rebalance.Gather Gather.Key)) l' h i st p (Activity.Rebalance (Rebalance.Gather Gather.Version)) l' refl (λ x. x) (takes_its_key z r i s l h.knows k (n.gathering tt)) (n.gathered tt)
 gathers_own z r r' s choice l a l' takes_version h i st =
-    let p = passes z TakeVersion tt tt refl in
-    let n = was z r r' s choice l TakeVersion l' h i st in
-    let k = linked z r r' s choice l TakeVersion l' h i st p in
-    on z r r' s choice l TakeVersion l' h i st p TakeValue l' refl (λ x. x) (takes_its_version z r i s l h.knows k (n.gathering tt)) (n.gathered tt)
+    let p = passes z (Activity.Rebalance (Rebalance.Gather Gather.Version)) tt tt refl in
+    let n = was z r r' s choice l (Activity.Rebalance (Rebalance.Gather Gather.Version)) l' h i st in
+    let k = linked z r r' s choice l (Activity.Rebalance (Rebalance.Gather Gather.Version)) l' h i st p in
+    on z r r' s choice l (Activity.Rebalance (Rebalance.Gather Gather.Version)) l' h i st p (Activity.Rebalance (Rebalance.Gather Gather.Value)) l' refl (λ x. x) (takes_its_version z r i s l h.knows k (n.gathering tt)) (n.gathered tt)
 gathers_own z r r' s choice l a l' keeps_taken h i st =
-    let p = passes z TakeValue tt tt refl in
-    let n = was z r r' s choice l TakeValue l' h i st in
-    let k = linked z r r' s choice l TakeValue l' h i st p in
-    on z r r' s choice l TakeValue l' h i st p TakeFrom l' refl (λ x. x) (keeps_listed z r i s l h.knows k (n.gathering tt)) (keeps_gathered z r i s l h.knows k TakeValue tt tt ((n.gathering tt).hand tt) (n.gathered tt))
+    let p = passes z (Activity.Rebalance (Rebalance.Gather Gather.Value)) tt tt refl in
+    let n = was z r r' s choice l (Activity.Rebalance (Rebalance.Gather Gather.Value)) l' h i st in
+    let k = linked z r r' s choice l (Activity.Rebalance (Rebalance.Gather Gather.Value)) l' h i st p in
+    on z r r' s choice l (Activity.Rebalance (Rebalance.Gather Gather.Value)) l' h i st p (Activity.Rebalance (Rebalance.Gather Gather.Link)) l' refl (λ x. x) (keeps_listed z r i s l h.knows k (n.gathering tt)) (keeps_gathered z r i s l h.knows k (Activity.Rebalance (Rebalance.Gather Gather.Value)) tt tt ((n.gathering tt).hand tt) (n.gathered tt))
 gathers_own z r r' s choice l a l' (takes_left m e u) h i st =
-    let p = passes z TakeFrom tt tt refl in
-    let n = was z r r' s choice l TakeFrom l' h i st in
-    let k = linked z r r' s choice l TakeFrom l' h i st p in
-    on z r r' s choice l TakeFrom l' h i st p TakeRestKey l' refl (λ x. x) (takes_least z (list_in (word z r.world) r.listed l.row) r.history r.origin l (walk_ended z r i s l h.knows k e (n.gathering tt)) m u (own_marks z r r' s choice l TakeFrom l' h i st tt)) (n.gathered tt)
+    let p = passes z (Activity.Rebalance (Rebalance.Gather Gather.Link)) tt tt refl in
+    let n = was z r r' s choice l (Activity.Rebalance (Rebalance.Gather Gather.Link)) l' h i st in
+    let k = linked z r r' s choice l (Activity.Rebalance (Rebalance.Gather Gather.Link)) l' h i st p in
+    on z r r' s choice l (Activity.Rebalance (Rebalance.Gather Gather.Link)) l' h i st p (Activity.Rebalance (Rebalance.Gather Gather.LeftOverKey)) l' refl (λ x. x) (takes_least z (list_in (word z r.world) r.listed l.row) r.history r.origin l (walk_ended z r i s l h.knows k e (n.gathering tt)) m u (own_marks z r r' s choice l (Activity.Rebalance (Rebalance.Gather Gather.Link)) l' h i st tt)) (n.gathered tt)
 gathers_own z r r' s choice l a l' takes_left_key h i st =
-    let p = passes z TakeRestKey tt tt refl in
-    let n = was z r r' s choice l TakeRestKey l' h i st in
-    let k = linked z r r' s choice l TakeRestKey l' h i st p in
-    on z r r' s choice l TakeRestKey l' h i st p TakeRestValue l' refl (λ x. x) (takes_rest_key z r i s l h.knows k (n.gathering tt)) (n.gathered tt)
+    let p = passes z (Activity.Rebalance (Rebalance.Gather Gather.LeftOverKey)) tt tt refl in
+    let n = was z r r' s choice l (Activity.Rebalance (Rebalance.Gather Gather.LeftOverKey)) l' h i st in
+    let k = linked z r r' s choice l (Activity.Rebalance (Rebalance.Gather Gather.LeftOverKey)) l' h i st p in
+    on z r r' s choice l (Activity.Rebalance (Rebalance.Gather Gather.LeftOverKey)) l' h i st p (Activity.Rebalance (Rebalance.Gather Gather.LeftOverValue)) l' refl (λ x. x) (takes_rest_key z r i s l h.knows k (n.gathering tt)) (n.gathered tt)
 gathers_own z r r' s choice l a l' (keeps_left m u) h i st =
-    let p = passes z TakeRestValue tt tt refl in
-    let n = was z r r' s choice l TakeRestValue l' h i st in
-    let k = linked z r r' s choice l TakeRestValue l' h i st p in
-    on z r r' s choice l TakeRestValue l' h i st p TakeRestKey l' refl (λ x. x) (takes_least z (list_in (word z r.world) r.listed l.row) r.history r.origin (keeping z (value_of_word (word z r.world (name.Value l.row l.place))) l) (keeps_rest z r i s l h.knows k (n.gathering tt)) m u (own_marks z r r' s choice l TakeRestValue l' h i st tt)) (keeps_gathered z r i s l h.knows k TakeRestValue tt tt ((n.gathering tt).hand tt) (n.gathered tt))
+    let p = passes z (Activity.Rebalance (Rebalance.Gather Gather.LeftOverValue)) tt tt refl in
+    let n = was z r r' s choice l (Activity.Rebalance (Rebalance.Gather Gather.LeftOverValue)) l' h i st in
+    let k = linked z r r' s choice l (Activity.Rebalance (Rebalance.Gather Gather.LeftOverValue)) l' h i st p in
+    on z r r' s choice l (Activity.Rebalance (Rebalance.Gather Gather.LeftOverValue)) l' h i st p (Activity.Rebalance (Rebalance.Gather Gather.LeftOverKey)) l' refl (λ x. x) (takes_least z (list_in (word z r.world) r.listed l.row) r.history r.origin (keeping z (value_of_word (word z r.world (name.Value l.row l.place))) l) (keeps_rest z r i s l h.knows k (n.gathering tt)) m u (own_marks z r r' s choice l (Activity.Rebalance (Rebalance.Gather Gather.LeftOverValue)) l' h i st tt)) (keeps_gathered z r i s l h.knows k (Activity.Rebalance (Rebalance.Gather Gather.LeftOverValue)) tt tt ((n.gathering tt).hand tt) (n.gathered tt))
 gathers_own z r r' s choice l a l' (takes_no_more e u) h i st =
-    let p = passes z TakeFrom tt tt refl in
-    let n = was z r r' s choice l TakeFrom l' h i st in
-    let k = linked z r r' s choice l TakeFrom l' h i st p in
-    all_gathered z r r' s choice l TakeFrom l' h i st p l' refl
+    let p = passes z (Activity.Rebalance (Rebalance.Gather Gather.Link)) tt tt refl in
+    let n = was z r r' s choice l (Activity.Rebalance (Rebalance.Gather Gather.Link)) l' h i st in
+    let k = linked z r r' s choice l (Activity.Rebalance (Rebalance.Gather Gather.Link)) l' h i st p in
+    all_gathered z r r' s choice l (Activity.Rebalance (Rebalance.Gather Gather.Link)) l' h i st p l' refl
     (n.gathered tt)
     (kept_of-all (IsGathered r.history r.origin l.row) l.rebalance.gathered l.rebalance.needed (n.gathered tt))
     (holds_all z (list_in (word z r.world) r.listed l.row) r.history r.origin l (walk_ended z r i s l h.knows k e (n.gathering tt)) u)
 gathers_own z r r' s choice l a l' (keeps_no_more u) h i st =
-    let p = passes z TakeRestValue tt tt refl in
-    let n = was z r r' s choice l TakeRestValue l' h i st in
-    let k = linked z r r' s choice l TakeRestValue l' h i st p in
-    let all = keeps_gathered z r i s l h.knows k TakeRestValue tt tt ((n.gathering tt).hand tt) (n.gathered tt) in
-    all_gathered z r r' s choice l TakeRestValue l' h i st p l' refl
+    let p = passes z (Activity.Rebalance (Rebalance.Gather Gather.LeftOverValue)) tt tt refl in
+    let n = was z r r' s choice l (Activity.Rebalance (Rebalance.Gather Gather.LeftOverValue)) l' h i st in
+    let k = linked z r r' s choice l (Activity.Rebalance (Rebalance.Gather Gather.LeftOverValue)) l' h i st p in
+    let all = keeps_gathered z r i s l h.knows k (Activity.Rebalance (Rebalance.Gather Gather.LeftOverValue)) tt tt ((n.gathering tt).hand tt) (n.gathered tt) in
+    all_gathered z r r' s choice l (Activity.Rebalance (Rebalance.Gather Gather.LeftOverValue)) l' h i st p l' refl
     all
     (kept_of-all (IsGathered r.history r.origin l.row) (keeping z (value_of_word (word z r.world (name.Value l.row l.place))) l).rebalance.gathered l.rebalance.needed all)
     (holds_all z (list_in (word z r.world) r.listed l.row) r.history r.origin (keeping z (value_of_word (word z r.world (name.Value l.row l.place))) l) (keeps_rest z r i s l h.knows k (n.gathering tt)) u)

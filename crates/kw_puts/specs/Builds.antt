@@ -6,7 +6,9 @@ use Rattle.kw_lists.specs.Counts.{count_below}
 use Rattle.kw_lists.specs.Rows.{Row, Stands, IsOn, IsBehind}
 use Rattle.kw_lists.specs.Walks.{IsPassed}
 use Rattle.kw_world.specs.declared.activity.Activity.{Activity}
-use Rattle.kw_world.specs.declared.activity.Activity.TheVariants.{TakeFrom, TakeKey, TakeVersion, TakeValue, TakeRestKey, TakeRestValue, Before}
+use Rattle.kw_world.specs.declared.activity.rebalance.gather.Gather.TheVariants as Gather
+use Rattle.kw_world.specs.declared.activity.rebalance.Rebalance.TheVariants as Rebalance
+use Rattle.kw_world.specs.declared.activity.rebalance.replace.Replace.TheVariants as Replace
 use Rattle.kw_world.specs.declared.local.Local.{Local}
 use Rattle.kw_world.specs.Marks.{is_marked}
 use Rattle.kw_world.specs.SeekTransitions.{at_infant, infant}
@@ -41,55 +43,48 @@ has_place c (d ∷ cells) = if d.place == c then true else has_place c cells
 
 -- the seat reads the cells of its frozen row
 abbrev pub IsGathering : Activity → Type 0
-IsGathering TakeFrom = Unit {0}
-IsGathering TakeKey = Unit {0}
-IsGathering TakeVersion = Unit {0}
-IsGathering TakeValue = Unit {0}
-IsGathering TakeRestKey = Unit {0}
-IsGathering TakeRestValue = Unit {0}
+IsGathering (Activity.Rebalance (Rebalance.Gather _)) = Unit {0}
 IsGathering _ = ⊥
 
 -- it walks along the list
 abbrev pub IsTakeListing : Activity → Type 0
-IsTakeListing TakeFrom = Unit {0}
-IsTakeListing TakeKey = Unit {0}
-IsTakeListing TakeVersion = Unit {0}
-IsTakeListing TakeValue = Unit {0}
+IsTakeListing (Activity.Rebalance (Rebalance.Gather Gather.Link)) = Unit {0}
+IsTakeListing (Activity.Rebalance (Rebalance.Gather Gather.Key)) = Unit {0}
+IsTakeListing (Activity.Rebalance (Rebalance.Gather Gather.Version)) = Unit {0}
+IsTakeListing (Activity.Rebalance (Rebalance.Gather Gather.Value)) = Unit {0}
 IsTakeListing _ = ⊥
 
 -- it has a cell in hand
 abbrev pub HasTaken : Activity → Type 0
-HasTaken TakeFrom = ⊥
+HasTaken (Activity.Rebalance (Rebalance.Gather Gather.Link)) = ⊥
 HasTaken a = IsGathering a
 
 -- one that it met in the list
 abbrev pub HasTakenListed : Activity → Type 0
-HasTakenListed TakeKey = Unit {0}
-HasTakenListed TakeVersion = Unit {0}
-HasTakenListed TakeValue = Unit {0}
+HasTakenListed (Activity.Rebalance (Rebalance.Gather Gather.Key)) = Unit {0}
+HasTakenListed (Activity.Rebalance (Rebalance.Gather Gather.Version)) = Unit {0}
+HasTakenListed (Activity.Rebalance (Rebalance.Gather Gather.Value)) = Unit {0}
 HasTakenListed _ = ⊥
 
 -- with its version, with its key
 abbrev pub HasTakenVersion : Activity → Type 0
-HasTakenVersion TakeValue = Unit {0}
-HasTakenVersion TakeRestKey = Unit {0}
-HasTakenVersion TakeRestValue = Unit {0}
+HasTakenVersion (Activity.Rebalance (Rebalance.Gather Gather.Value)) = Unit {0}
+HasTakenVersion (Activity.Rebalance (Rebalance.Gather Gather.LeftOverKey)) = Unit {0}
+HasTakenVersion (Activity.Rebalance (Rebalance.Gather Gather.LeftOverValue)) = Unit {0}
 HasTakenVersion _ = ⊥
 
 abbrev pub HasTakenKey : Activity → Type 0
-HasTakenKey TakeVersion = Unit {0}
-HasTakenKey TakeValue = Unit {0}
-HasTakenKey TakeRestValue = Unit {0}
+HasTakenKey (Activity.Rebalance (Rebalance.Gather Gather.Version)) = Unit {0}
+HasTakenKey (Activity.Rebalance (Rebalance.Gather Gather.Value)) = Unit {0}
+HasTakenKey (Activity.Rebalance (Rebalance.Gather Gather.LeftOverValue)) = Unit {0}
 HasTakenKey _ = ⊥
 
 -- the walk will meet the cell, or it is in hand
 abbrev pub IsToTake : Row → Activity → Local → ℕ → Type 0
-IsToTake r TakeFrom l c = (r.listed c ≡ true) × IsBehind r l.link c
-IsToTake r TakeKey l c = (r.listed c ≡ true) × ((c ≡ l.place) ⊎ Stands r l.place c)
-IsToTake r TakeVersion l c = (r.listed c ≡ true) × ((c ≡ l.place) ⊎ Stands r l.place c)
-IsToTake r TakeValue l c = (r.listed c ≡ true) × ((c ≡ l.place) ⊎ Stands r l.place c)
-IsToTake r TakeRestKey l c = c ≡ l.place
-IsToTake r TakeRestValue l c = c ≡ l.place
+IsToTake r (Activity.Rebalance (Rebalance.Gather Gather.Link)) l c = (r.listed c ≡ true) × IsBehind r l.link c
+IsToTake r (Activity.Rebalance (Rebalance.Gather Gather.LeftOverKey)) l c = c ≡ l.place
+IsToTake r (Activity.Rebalance (Rebalance.Gather Gather.LeftOverValue)) l c = c ≡ l.place
+IsToTake r (Activity.Rebalance (Rebalance.Gather _)) l c = (r.listed c ≡ true) × ((c ≡ l.place) ⊎ Stands r l.place c)
 IsToTake r _ l c = ⊥
 
 -- the cell in hand is that of a stamped attempt, with the version and the key in hand, once they
@@ -143,5 +138,5 @@ pub record Builds (z : Sizes) (r : Row) (h : History) (o : Origins) (f : Listed)
   pub collected : HasPlanned (nursing_of a) → All (IsGathered h o l.row) l.rebalance.gathered
   pub kept : HasPlanned (nursing_of a) → All (IsGathered h o l.row) l.rebalance.kept
   pub holds : HasPlanned (nursing_of a) → HoldsRow z.cells h o l
-  pub whole : (i q : ℕ) → IsWhole (nursing_of a) l i → slice_get l.rebalance.taken i ≡ Some q → Copied z h o f Before (at_infant i l) q
+  pub whole : (i q : ℕ) → IsWhole (nursing_of a) l i → slice_get l.rebalance.taken i ≡ Some q → Copied z h o f (Activity.Rebalance (Rebalance.Replace Replace.Start)) (at_infant i l) q
   pub words : IsWriting (nursing_of a) → Copied z h o f a l (infant l)

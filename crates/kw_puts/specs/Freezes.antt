@@ -7,7 +7,8 @@ use Rattle.kw_words.specs.declared.pend.Pend.TheVariants.{Idle, Pending, Stamped
 use Rattle.kw_words.specs.Pend.{pend_word}
 use Rattle.kw_words.specs.Count.{count_of}
 use Rattle.kw_world.specs.declared.activity.Activity.{Activity}
-use Rattle.kw_world.specs.declared.activity.Activity.TheVariants.{FreezeLook, Freeze, ScanLook, HelpDraw, HelpSettle}
+use Rattle.kw_world.specs.declared.activity.rebalance.freeze.Freeze.TheVariants as Freeze
+use Rattle.kw_world.specs.declared.activity.rebalance.Rebalance.TheVariants as Rebalance
 use Rattle.kw_world.specs.declared.local.Local.{Local}
 use Rattle.kw_world.specs.declared.marks.Mark.{Mark}
 use Rattle.kw_world.specs.Marks.{is_marked}
@@ -39,7 +40,7 @@ IsUnsettled Frozen = ⊥
 
 -- what the seat found in the entry that it is to freeze
 abbrev pub IsToFreeze : Activity → Local → Type 0
-IsToFreeze (Freeze i) l = IsUnsettled l.rebalance.entry
+IsToFreeze (Activity.Rebalance (Rebalance.Freeze (Freeze.Entry i))) l = IsUnsettled l.rebalance.entry
 IsToFreeze _ l = Unit {0}
 
 -- The row that a seat has frozen.
@@ -67,11 +68,11 @@ pub record IsMarkOf (h : History) (o : Origins) (row : ℕ) (m : Mark) : Type 0 
 
 -- the seat passes the entries of its row, or looks at the scans, and has gathered no cell
 abbrev pub IsBeforeTaking : Activity → Type 0
-IsBeforeTaking (FreezeLook i) = Unit {0}
-IsBeforeTaking (Freeze i) = Unit {0}
-IsBeforeTaking (ScanLook i) = Unit {0}
-IsBeforeTaking (HelpDraw i) = Unit {0}
-IsBeforeTaking (HelpSettle i) = Unit {0}
+IsBeforeTaking (Activity.Rebalance (Rebalance.Freeze (Freeze.Look i))) = Unit {0}
+IsBeforeTaking (Activity.Rebalance (Rebalance.Freeze (Freeze.Entry i))) = Unit {0}
+IsBeforeTaking (Activity.Rebalance (Rebalance.Freeze (Freeze.Scan i))) = Unit {0}
+IsBeforeTaking (Activity.Rebalance (Rebalance.Freeze (Freeze.Draw i))) = Unit {0}
+IsBeforeTaking (Activity.Rebalance (Rebalance.Freeze (Freeze.Settle i))) = Unit {0}
 IsBeforeTaking _ = ⊥
 
 -- what is remembered is the cells of stamped attempts. Each stamped attempt that was made in the

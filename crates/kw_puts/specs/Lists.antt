@@ -12,7 +12,7 @@ use Rattle.kw_lists.specs.Puts.{IsFrom, IsAt, IsSet}
 use Rattle.kw_lists.specs.Walks.{IsWalking}
 use Rattle.kw_lists.specs.Words.{row_in}
 use Rattle.kw_world.specs.declared.activity.Activity.{Activity}
-use Rattle.kw_world.specs.declared.activity.Activity.TheVariants.{InsFrom, InsKey, InsVer, InsSet, Insert}
+use Rattle.kw_world.specs.declared.activity.insert.Insert.TheVariants as Insert
 use Rattle.kw_world.specs.declared.local.Local.{Local}
 use Rattle.kw_world.specs.Sizes.{Sizes}
 use Rattle.kw_world.specs.Step.{word}
@@ -51,20 +51,20 @@ pub record IsOwnListed (f : Listed) (a : Activity) (l : Local) : Type 0 where
 -- same, or fewer exchanges were lost than cells are listed. The cell of which it asks the version
 -- has the own key. What it stores in its own link stands behind its own cell
 abbrev pub Inserts : ℕ → Row → Activity → Local → Type 0
-Inserts n r InsFrom l = IsFrom n r l.cell l.lost l.link
-Inserts n r InsKey l = IsAt n r l.cell l.lost l.link l.held × (l.held ≡ Some l.place)
-Inserts n r InsVer l = IsAt n r l.cell l.lost l.link l.held × (l.held ≡ Some l.place) × (r.key l.place ≡ r.key l.cell)
-Inserts n r InsSet l = IsAt n r l.cell l.lost l.link l.held × IsAhead r l.cell l.held
-Inserts n r Insert l = IsSet n r l.cell l.lost l.link l.held
+Inserts n r (Activity.Insert Insert.Link) l = IsFrom n r l.cell l.lost l.link
+Inserts n r (Activity.Insert Insert.Key) l = IsAt n r l.cell l.lost l.link l.held × (l.held ≡ Some l.place)
+Inserts n r (Activity.Insert Insert.Version) l = IsAt n r l.cell l.lost l.link l.held × (l.held ≡ Some l.place) × (r.key l.place ≡ r.key l.cell)
+Inserts n r (Activity.Insert Insert.Set) l = IsAt n r l.cell l.lost l.link l.held × IsAhead r l.cell l.held
+Inserts n r (Activity.Insert Insert.Exchange) l = IsSet n r l.cell l.lost l.link l.held
 Inserts n r _ l = Unit {0}
 
 -- where a put's walk is: at its link, or at the cell that it has met, which is listed and stands
 -- behind the link. It has counted no more cells than there are listed ones up to there, for it
 -- meets none twice
 abbrev pub WalksList : ℕ → Row → Activity → Local → Type 0
-WalksList n r InsFrom l = IsWalking n r l.link l.walked
-WalksList n r InsKey l = IsBehind r l.link l.place × IsWalking n r (Some l.place) l.walked
-WalksList n r InsVer l = IsBehind r l.link l.place × IsWalking n r (Some l.place) l.walked
+WalksList n r (Activity.Insert Insert.Link) l = IsWalking n r l.link l.walked
+WalksList n r (Activity.Insert Insert.Key) l = IsBehind r l.link l.place × IsWalking n r (Some l.place) l.walked
+WalksList n r (Activity.Insert Insert.Version) l = IsBehind r l.link l.place × IsWalking n r (Some l.place) l.walked
 WalksList n r _ l = Unit {0}
 
 -- The group.

@@ -8,7 +8,9 @@ use Rattle.kw_words.specs.declared.kind.Kind.TheVariants as kind
 use Rattle.kw_words.specs.declared.scan.ScanWord.TheVariants.{Quiet, Waiting, Drawn}
 use Rattle.kw_words.specs.Scan.{scan_word}
 use Rattle.kw_world.specs.declared.activity.Activity.{Activity}
-use Rattle.kw_world.specs.declared.activity.Activity.TheVariants.{ScanWait, ScanDraw, HelpDraw, HelpSettle}
+use Rattle.kw_world.specs.declared.activity.draw.Draw.TheVariants as Draw
+use Rattle.kw_world.specs.declared.activity.rebalance.freeze.Freeze.TheVariants as Freeze
+use Rattle.kw_world.specs.declared.activity.rebalance.Rebalance.TheVariants as Rebalance
 use Rattle.kw_world.specs.declared.local.Local.{Local}
 use Rattle.kw_world.specs.Sizes.{Sizes}
 use Rattle.kw_world.specs.Calls.{is_scan}
@@ -73,13 +75,13 @@ pub record IsHelped (v : Words) (h : History) (t since at : ℕ) : Type 0 where
 
 -- a scan has loaded the clock, and has not drawn
 abbrev pub HasLoaded : Activity → Type 0
-HasLoaded ScanWait = Unit {0}
-HasLoaded ScanDraw = Unit {0}
+HasLoaded (Activity.Draw Draw.Wait) = Unit {0}
+HasLoaded (Activity.Draw Draw.Version) = Unit {0}
 HasLoaded _ = ⊥
 
 -- it is about to store that it waits
 abbrev pub IsToWait : Activity → Type 0
-IsToWait ScanWait = Unit {0}
+IsToWait (Activity.Draw Draw.Wait) = Unit {0}
 IsToWait _ = ⊥
 
 -- a waiting scan, which began to wait at `since` in its call, has a word that says so, or it was
@@ -104,13 +106,13 @@ pub record Draws (v : Words) (h : History) (t since at : ℕ) (a : Activity) (l 
 
 -- the seat helps the scan of seat t: it draws for it, or has drawn
 abbrev pub HelpsScan : ℕ → Activity → Type 0
-HelpsScan t (HelpDraw i) = t ≡ i
-HelpsScan t (HelpSettle i) = t ≡ i
+HelpsScan t (Activity.Rebalance (Rebalance.Freeze (Freeze.Draw i))) = t ≡ i
+HelpsScan t (Activity.Rebalance (Rebalance.Freeze (Freeze.Settle i))) = t ≡ i
 HelpsScan t _ = ⊥
 
 -- it has drawn
 abbrev pub HasDrawnFor : ℕ → Activity → Type 0
-HasDrawnFor t (HelpSettle i) = t ≡ i
+HasDrawnFor t (Activity.Rebalance (Rebalance.Freeze (Freeze.Settle i))) = t ≡ i
 HasDrawnFor t _ = ⊥
 
 -- a seat that helps the scan of seat t found that it waits since a clock. It still does, or the

@@ -11,7 +11,7 @@ use Rattle.kw_lists.specs.Rows.{Row}
 use Rattle.kw_lists.specs.Walks.{IsPassed}
 use Rattle.kw_lists.proofs.Walking.{not_behind, passed_next}
 use Rattle.kw_world.specs.declared.activity.Activity.{Activity}
-use Rattle.kw_world.specs.declared.activity.Activity.TheVariants.{ListFrom, ListVal, RestVal}
+use Rattle.kw_world.specs.declared.activity.read.Read.TheVariants as Read
 use Rattle.kw_world.specs.declared.local.Local.{Local}
 use Rattle.kw_world.specs.declared.event.Choice.{Choice}
 use Rattle.kw_world.specs.Marks.{is_marked}
@@ -45,7 +45,7 @@ is_not true f = absurd (f refl)
 is_not false f = refl
 
 -- where nothing is gathered
-apart_none : (z : Sizes) (row : Row) (l : Local) → l.gathered ≡ [] → Apart z row ListFrom l
+apart_none : (z : Sizes) (row : Row) (l : Local) → l.gathered ≡ [] → Apart z row (Activity.Read Read.Link) l
 apart_none z row l e = record {
   few = rw e (omega arith);
   unmarked = λ c m. rw e refl;
@@ -78,7 +78,7 @@ apart_rest z row l _ (ends_scan c e f) x k = absurd x
 apart_rest z row l _ (scans_on q c e f u) x k = absurd x
 
 -- the cell in hand, of which the key is known, is not gathered
-pub hand_fresh : (z : Sizes) (row : Row) (l : Local) → HasMetCell z.cells row l → Apart z row ListVal l → has_place l.place l.gathered ≡ false
+pub hand_fresh : (z : Sizes) (row : Row) (l : Local) → HasMetCell z.cells row l → Apart z row (Activity.Read Read.Value) l → has_place l.place l.gathered ≡ false
 hand_fresh z row l k x = is_not (has_place l.place l.gathered) (λ e. not_behind row l.link l.place (x.passed tt l.place e) k.behind)
 
 -- one more is gathered
@@ -133,7 +133,7 @@ abbrev value_found : Sizes → Run → Local → Option ℕ
 value_found z r l = value_of_word (word z r.world (name.Value l.row l.place))
 
 -- a cell of the list is gathered, and passed
-apart_listed : {z : Sizes} {r r' : Run} {s : ℕ} {choice : Choice} {l l' : Local} (h : Happens z r r' s choice l l' ListVal) (i : Inv z r) (k : Local) → k.gathered ≡ (gathering z (value_found z r l) l).gathered → k.remembered ≡ l.remembered → k.link ≡ Some l.place → Apart z (list_in (word z r'.world) r'.listed l.row) ListFrom k
+apart_listed : {z : Sizes} {r r' : Run} {s : ℕ} {choice : Choice} {l l' : Local} (h : Happens z r r' s choice l l' (Activity.Read Read.Value)) (i : Inv z r) (k : Local) → k.gathered ≡ (gathering z (value_found z r l) l).gathered → k.remembered ≡ l.remembered → k.link ≡ Some l.place → Apart z (list_in (word z r'.world) r'.listed l.row) (Activity.Read Read.Link) k
 apart_listed {z} {r} {r'} {s} {choice} {l} {l'} h i k g m e = record {
   few = rw g left.few;
   unmarked = λ c n. rw g (left.unmarked c (rw m at n));
@@ -143,17 +143,17 @@ apart_listed {z} {r} {r'} {s} {choice} {l} {l'} h i k g m e = record {
   hand = λ y. absurd y;
 }
   where
-    x : Apart z (list_in (word z r'.world) r'.listed l.row) ListVal l
+    x : Apart z (list_in (word z r'.world) r'.listed l.row) (Activity.Read Read.Value) l
     x = apart_after h i tt tt
 
     met : HasMetCell z.cells (list_in (word z r'.world) r'.listed l.row) l
     met = walks_after h i tt
 
     left : ApartLeft z (gathering z (value_found z r l) l)
-    left = gather_left z (list_in (word z r'.world) r'.listed l.row) ListVal l (value_found z r l) x (place_below h i) (hand_fresh z (list_in (word z r'.world) r'.listed l.row) l met x) (x.hand tt)
+    left = gather_left z (list_in (word z r'.world) r'.listed l.row) (Activity.Read Read.Value) l (value_found z r l) x (place_below h i) (hand_fresh z (list_in (word z r'.world) r'.listed l.row) l met x) (x.hand tt)
 
     back : (c : ℕ) → has_place c (gathering z (value_found z r l) l).gathered ≡ true → (c ≡ l.place) ⊎ (has_place c l.gathered ≡ true)
-    back = gather_back z (list_in (word z r'.world) r'.listed l.row) ListVal l (value_found z r l) x (place_below h i) (hand_fresh z (list_in (word z r'.world) r'.listed l.row) l met x) (x.hand tt)
+    back = gather_back z (list_in (word z r'.world) r'.listed l.row) (Activity.Read Read.Value) l (value_found z r l) x (place_below h i) (hand_fresh z (list_in (word z r'.world) r'.listed l.row) l met x) (x.hand tt)
 
     listed : (c : ℕ) → (c ≡ l.place) ⊎ (has_place c l.gathered ≡ true) → r'.listed l.row c ≡ true
     listed c (inl f) = rw f met.walks.on
@@ -196,5 +196,5 @@ apart_by z r r' s choice l _ _ gathers_listed h i p = apart_listed h i _ refl re
 apart_by z r r' s choice l _ _ (rest_wanted e) h i p = let x = apart_after h i tt tt in record { few = x.few; unmarked = x.unmarked; listed = λ y. absurd y; passed = λ y. absurd y; fresh = x.fresh; hand = x.hand }
 apart_by z r r' s choice l _ _ (rest_passed next e n) h i p = apart_rest z _ l next n p (left_after h i tt tt)
 apart_by z r r' s choice l _ _ (gathers_rest next n) h i p =
-    let x = apart_after h i tt tt in apart_rest z _ (gathering z (value_found z r l) l) next n p (gather_left z _ RestVal l (value_found z r l) x (place_below h i) (x.fresh tt) (x.hand tt))
+    let x = apart_after h i tt tt in apart_rest z _ (gathering z (value_found z r l) l) next n p (gather_left z _ (Activity.Read Read.LeftOverValue) l (value_found z r l) x (place_below h i) (x.fresh tt) (x.hand tt))
 apart_by z r r' s choice l a l' b h i p = absurd p

@@ -3,7 +3,15 @@
 use Rattle.std.proofs.Common.{ℕ, ◌≡◌, ◌⊎◌, inl, inr}
 use Rattle.kw_lists.specs.Rows.{Row}
 use Rattle.kw_world.specs.declared.activity.Activity.{Activity}
-use Rattle.kw_world.specs.declared.activity.Activity.TheVariants.{Idle, Enter, ScanClock, ScanWait, ScanDraw, ScanSettle, Look, LookKey, LookClock, LookHelp, ListFrom, ListKey, ListVer, ListVal, RestKey, RestVal, ClearScan, PutAdd, PutClock, Leave, AgainEpoch, BalClock, HelpDraw}
+use Rattle.kw_world.specs.declared.activity.draw.Draw.TheVariants as Draw
+use Rattle.kw_world.specs.declared.activity.rebalance.engage.Engage.TheVariants as Engage
+use Rattle.kw_world.specs.declared.activity.rebalance.freeze.Freeze.TheVariants as Freeze
+use Rattle.kw_world.specs.declared.activity.look.Look.TheVariants as Look
+use Rattle.kw_world.specs.declared.activity.put.Put.TheVariants as Put
+use Rattle.kw_world.specs.declared.activity.read.Read.TheVariants as Read
+use Rattle.kw_world.specs.declared.activity.rebalance.Rebalance.TheVariants as Rebalance
+use Rattle.kw_world.specs.declared.activity.rebalance.seek.Seek.TheVariants as Seek
+use Rattle.kw_world.specs.declared.activity.walk.Walk.TheVariants as Walk
 use Rattle.kw_world.specs.declared.answer.Answer.TheVariants.{Done, NoRows}
 use Rattle.kw_world.specs.declared.event.Choice.{Choice}
 use Rattle.kw_world.specs.declared.local.Local.{Local}
@@ -21,19 +29,12 @@ use Rattle.kw_reads.specs.Replies.{HasPairs, IsCovered}
 
 -- a reader that looks at entries or reads cells is at its row
 pub looking_reads : (a : Activity) → IsLooking a → IsAtRead a
-looking_reads (Look i) x = tt
-looking_reads LookKey x = tt
-looking_reads LookClock x = tt
-looking_reads LookHelp x = tt
+looking_reads (Activity.Look _) x = tt
 looking_reads _ x = absurd x
 
 pub taking_reads : (a : Activity) → IsTaking a → IsAtRead a
-taking_reads ListFrom x = tt
-taking_reads ListKey x = tt
-taking_reads ListVer x = tt
-taking_reads ListVal x = tt
-taking_reads RestKey x = tt
-taking_reads RestVal x = tt
+taking_reads (Activity.Read _) x = tt
+taking_reads (Activity.Rebalance (Rebalance.Seek Seek.Next)) x = absurd x
 taking_reads _ x = absurd x
 
 pub reader_reads : (a : Activity) → IsLooking a ⊎ IsTaking a → IsAtRead a
@@ -46,33 +47,27 @@ after_rests a n x = after_at_read a n (reader_reads a x)
 
 -- it is nowhere in the list of a row
 pub after_walks : (n : ℕ) (row : Row) (a : Activity) (l : Local) → IsAfterBuilding a → ReadsList n row a l
-after_walks n row (Look i) l b = absurd b
-after_walks n row LookKey l b = absurd b
-after_walks n row LookClock l b = absurd b
-after_walks n row LookHelp l b = absurd b
-after_walks n row ListFrom l b = absurd b
-after_walks n row ListKey l b = absurd b
-after_walks n row ListVer l b = absurd b
-after_walks n row ListVal l b = absurd b
+after_walks n row (Activity.Look _) l b = absurd b
+after_walks n row (Activity.Read Read.Link) l b = absurd b
+after_walks n row (Activity.Read Read.Key) l b = absurd b
+after_walks n row (Activity.Read Read.Version) l b = absurd b
+after_walks n row (Activity.Read Read.Value) l b = absurd b
+after_walks n row (Activity.Walk Walk.First) l b = tt
 after_walks n row _ l b = tt
 
 -- it has entered
 pub after_enters : {A : Type 0} (a : Activity) → IsAfterBuilding a → IsEarly a → A
-after_enters Idle b x = absurd b
-after_enters Enter b x = absurd b
-after_enters AgainEpoch b x = absurd b
-after_enters ScanClock b x = absurd b
-after_enters ScanWait b x = absurd b
-after_enters ScanDraw b x = absurd b
-after_enters ScanSettle b x = absurd b
+after_enters Activity.Idle b x = absurd b
+after_enters (Activity.Enter _) b x = absurd b
+after_enters (Activity.Draw _) b x = absurd b
 after_enters _ b x = absurd x
 
 -- a scan that is over is none
 pub after_covered : (a : Activity) (h : History) (l : Local) (g : SeatLog) → IsAfterBuilding a → IsCovered a h l g
-after_covered (ClearScan answer) h l g b = absurd b
-after_covered (Leave NoRows) h l g b = tt
-after_covered (Leave Done) h l g b = tt
-after_covered (Leave answer) h l g b = absurd b
+after_covered (Activity.EndScan answer) h l g b = absurd b
+after_covered (Activity.Leave NoRows) h l g b = tt
+after_covered (Activity.Leave Done) h l g b = tt
+after_covered (Activity.Leave answer) h l g b = absurd b
 after_covered _ h l g b = tt
 
 -- so of its pairs nothing is said
@@ -81,28 +76,25 @@ after_pairs h a l g b = record { early = λ x. after_enters a b x; from = λ e x
 
 -- a seat that builds keeps what it gathered before
 pub building_keeping : (a : Activity) → IsBuilding a → IsKeeping a
-building_keeping Idle b = absurd b
-building_keeping (Look i) b = absurd b
-building_keeping LookKey b = absurd b
-building_keeping LookClock b = absurd b
-building_keeping LookHelp b = absurd b
+building_keeping Activity.Idle b = absurd b
+building_keeping (Activity.Look _) b = absurd b
 building_keeping _ b = tt
 
 -- and its log is as it was
 pub building_log : {z : Sizes} {r r' : Run} {s : ℕ} {choice : Choice} {l l' : Local} (a : Activity) → IsBuilding a → Happens z r r' s choice l l' a → r'.seats s ≡ r.seats s
-building_log Idle b h = absurd b
-building_log ScanClock b h = absurd b
-building_log ScanDraw b h = absurd b
-building_log ScanSettle b h = absurd b
-building_log (Look i) b h = absurd b
-building_log LookClock b h = absurd b
-building_log ListFrom b h = absurd b
-building_log ListKey b h = absurd b
-building_log ListVal b h = absurd b
-building_log RestKey b h = absurd b
-building_log RestVal b h = absurd b
-building_log PutAdd b h = absurd b
-building_log PutClock b h = absurd b
-building_log BalClock b h = absurd b
-building_log (HelpDraw i) b h = absurd b
+building_log Activity.Idle b h = absurd b
+building_log (Activity.Draw Draw.Clock) b h = absurd b
+building_log (Activity.Draw Draw.Version) b h = absurd b
+building_log (Activity.Draw Draw.Settle) b h = absurd b
+building_log (Activity.Look (Look.Entry i)) b h = absurd b
+building_log (Activity.Look Look.Clock) b h = absurd b
+building_log (Activity.Read Read.Link) b h = absurd b
+building_log (Activity.Read Read.Key) b h = absurd b
+building_log (Activity.Read Read.Value) b h = absurd b
+building_log (Activity.Read Read.LeftOverKey) b h = absurd b
+building_log (Activity.Read Read.LeftOverValue) b h = absurd b
+building_log (Activity.Put Put.Add) b h = absurd b
+building_log (Activity.Put Put.Clock) b h = absurd b
+building_log (Activity.Rebalance (Rebalance.Engage Engage.Clock)) b h = absurd b
+building_log (Activity.Rebalance (Rebalance.Freeze (Freeze.Draw i))) b h = absurd b
 building_log _ b h = h.log

@@ -16,7 +16,7 @@ use Rattle.kw_lists.proofs.Inserting.{reached}
 use Rattle.kw_lists.proofs.Reading as reading
 use Rattle.kw_lists.proofs.Reading.{above_range}
 use Rattle.kw_world.specs.declared.activity.Activity.{Activity}
-use Rattle.kw_world.specs.declared.activity.Activity.TheVariants.{ListFrom, ListKey, ListVer, ListVal, RestKey, RestVal}
+use Rattle.kw_world.specs.declared.activity.read.Read.TheVariants as Read
 use Rattle.kw_model.specs.declared.call.Call.{Call}
 use Rattle.kw_world.specs.declared.local.Local.{Local}
 use Rattle.kw_world.specs.declared.event.Choice.{Choice}
@@ -166,37 +166,37 @@ reads_begin {z} {r} k j _ l g (lists w) x n e = record {
   hand = λ y. absurd y;
 }
   where
-    ready : (c p : ℕ) → IsDue r.history r.origin l.row l.call g.looked c p → IsReady r.listed r.history (record l { activity = ListFrom }) c p
+    ready : (c p : ℕ) → IsDue r.history r.origin l.row l.call g.looked c p → IsReady r.listed r.history (record l { activity = Activity.Read Read.Link }) c p
     ready c p d = n.past c p d (k.puts.placed p (announced_within r.history p d.announced)).seat
 
-    which : (c : ℕ) → IsNoted r.listed (record l { activity = ListFrom }) c → (is_marked c l.remembered ≡ true) ⊎ (r.listed l.row c ≡ true) × IsBehind (list_in (word z r.world) r.listed l.row) l.link c
+    which : (c : ℕ) → IsNoted r.listed (record l { activity = Activity.Read Read.Link }) c → (is_marked c l.remembered ≡ true) ⊎ (r.listed l.row c ≡ true) × IsBehind (list_in (word z r.world) r.listed l.row) l.link c
     which c (inl y) = inl y
     which c (inr y) = inr (y, rw e tt)
 
 -- the reader loads its link
-module _ {z : Sizes} {r r' : Run} {s : ℕ} {choice : Choice} {l l' : Local} (h : Happens z r r' s choice l l' ListFrom) (i : Inv z r) (k : Below z r') where
+module _ {z : Sizes} {r r' : Run} {s : ℕ} {choice : Choice} {l l' : Local} (h : Happens z r r' s choice l l' (Activity.Read Read.Link)) (i : Inv z r) (k : Below z r') where
   -- what it knew of the cells
-  before_link : Reads (list_in (word z r'.world) r'.listed l.row) r'.history r'.origin ListFrom l (r.seats s)
+  before_link : Reads (list_in (word z r'.world) r'.listed l.row) r'.history r'.origin (Activity.Read Read.Link) l (r.seats s)
   before_link = cells_after h i tt tt
 
   -- it leads to a cell, which is met
-  reads_met : (n : ℕ) → cell_of_link_word (word z r.world (link_name l.row l.link)) ≡ Some n → (m : Local) → m.row ≡ l.row → m.call ≡ l.call → m.place ≡ n → m.remembered ≡ unmarked n l.remembered → Reads (list_in (word z r'.world) r'.listed l.row) r'.history r'.origin ListKey m (r.seats s)
+  reads_met : (n : ℕ) → cell_of_link_word (word z r.world (link_name l.row l.link)) ≡ Some n → (m : Local) → m.row ≡ l.row → m.call ≡ l.call → m.place ≡ n → m.remembered ≡ unmarked n l.remembered → Reads (list_in (word z r'.world) r'.listed l.row) r'.history r'.origin (Activity.Read Read.Key) m (r.seats s)
   reads_met n e m row call place marks = record {
     stamped = λ c p d. before_link.stamped c p (due c p d);
     found = λ c p d. rw (place, marks) (which c p (before_link.found c p (due c p d)) (cases_eq c n));
-    hand = λ y. listed_in_hand k ListKey m _ (rw row (row_linked_on h i tt)) (rw (row, place) (cell_next h i n e).listed) refl (λ u. absurd u) (λ u. absurd u) (λ u. absurd u);
+    hand = λ y. listed_in_hand k (Activity.Read Read.Key) m _ (rw row (row_linked_on h i tt)) (rw (row, place) (cell_next h i n e).listed) refl (λ u. absurd u) (λ u. absurd u) (λ u. absurd u);
   }
     where
       due : (c p : ℕ) → IsDue r'.history r'.origin m.row m.call (r.seats s).looked c p → IsDue r'.history r'.origin l.row l.call (r.seats s).looked c p
       due c p d = subst (λ x. IsDue r'.history r'.origin x l.call (r.seats s).looked c p) row (subst (λ x. IsDue r'.history r'.origin m.row x (r.seats s).looked c p) call d)
 
-      ahead : (c : ℕ) → IsToCome (list_in (word z r'.world) r'.listed l.row) ListFrom l c → (c ≡ n) ⊎ Stands (list_in (word z r'.world) r'.listed l.row) n c
+      ahead : (c : ℕ) → IsToCome (list_in (word z r'.world) r'.listed l.row) (Activity.Read Read.Link) l c → (c ≡ n) ⊎ Stands (list_in (word z r'.world) r'.listed l.row) n c
       ahead c x = at (reached (list_in (word z r'.world) r'.listed l.row) l.link _ ((row_sound h i tt).list l.link (walks_after h i tt).on) c x.0 x.1)
         where
           at : (d : ℕ) × ((list_in (word z r'.world) r'.listed l.row).link l.link ≡ Some d) × ((c ≡ d) ⊎ Stands (list_in (word z r'.world) r'.listed l.row) d c) → (c ≡ n) ⊎ Stands (list_in (word z r'.world) r'.listed l.row) n c
           at (d, f, y) = subst (λ u. (c ≡ u) ⊎ Stands (list_in (word z r'.world) r'.listed l.row) u c) (same_Some d n (sym f ∙ link_loaded h i (Some n) e)) y
 
-      which : (c p : ℕ) → Contains (r.seats s).ids p ⊎ (is_marked c l.remembered ≡ true) ⊎ IsToCome (list_in (word z r'.world) r'.listed l.row) ListFrom l c → (c ≡ n) ⊎ (c ≡ n → ⊥) →
+      which : (c p : ℕ) → Contains (r.seats s).ids p ⊎ (is_marked c l.remembered ≡ true) ⊎ IsToCome (list_in (word z r'.world) r'.listed l.row) (Activity.Read Read.Link) l c → (c ≡ n) ⊎ (c ≡ n → ⊥) →
           Contains (r.seats s).ids p ⊎ (is_marked c (unmarked n l.remembered) ≡ true) ⊎ (r'.listed l.row c ≡ true) × ((c ≡ n) ⊎ Stands (list_in (word z r'.world) r'.listed l.row) n c)
       which c p (inl x) d = inl x
       which c p (inr (inl x)) (inl d) = inr (inr (rw d (cell_next h i n e).listed, inl d))
@@ -207,15 +207,15 @@ module _ {z : Sizes} {r r' : Run} {s : ℕ} {choice : Choice} {l l' : Local} (h 
   pub left_at_end : cell_of_link_word (word z r.world (link_name l.row l.link)) ≡ None → ReadLeft r'.history r'.origin l (r.seats s).looked (r.seats s).ids
   left_at_end e = record { stamped = before_link.stamped; found = λ c p d. which c p (before_link.found c p d) }
     where
-      which : (c p : ℕ) → Contains (r.seats s).ids p ⊎ (is_marked c l.remembered ≡ true) ⊎ IsToCome (list_in (word z r'.world) r'.listed l.row) ListFrom l c → Contains (r.seats s).ids p ⊎ (is_marked c l.remembered ≡ true)
+      which : (c p : ℕ) → Contains (r.seats s).ids p ⊎ (is_marked c l.remembered ≡ true) ⊎ IsToCome (list_in (word z r'.world) r'.listed l.row) (Activity.Read Read.Link) l c → Contains (r.seats s).ids p ⊎ (is_marked c l.remembered ≡ true)
       which c p (inl x) = inl x
       which c p (inr (inl x)) = inr x
       which c p (inr (inr x)) = absurd (reading.list_ends (list_in (word z r'.world) r'.listed l.row) l.link _ c ((row_sound h i tt).list l.link (walks_after h i tt).on) (link_loaded h i None e) x.0 x.1)
 
 -- the reader loads the key of a cell that it has met
-module _ {z : Sizes} {r r' : Run} {s : ℕ} {choice : Choice} {l l' : Local} (h : Happens z r r' s choice l l' ListKey) (i : Inv z r) (k : Below z r') where
+module _ {z : Sizes} {r r' : Run} {s : ℕ} {choice : Choice} {l l' : Local} (h : Happens z r r' s choice l l' (Activity.Read Read.Key)) (i : Inv z r) (k : Below z r') where
   -- what it knew of the cells
-  before_key : Reads (list_in (word z r'.world) r'.listed l.row) r'.history r'.origin ListKey l (r.seats s)
+  before_key : Reads (list_in (word z r'.world) r'.listed l.row) r'.history r'.origin (Activity.Read Read.Key) l (r.seats s)
   before_key = cells_after h i tt tt
 
   -- the key as it was found
@@ -227,7 +227,7 @@ module _ {z : Sizes} {r r' : Run} {s : ℕ} {choice : Choice} {l l' : Local} (h 
   due_between c p d = rw (due_key_stands k l.call l.row (r.seats s).looked c p (row_linked_on h i tt) (within h i l.row c p d.origin) d) (in_range_between l.call (attempt r'.history p).key d.key)
 
   -- it is below the range: the cell is passed
-  reads_below : key_of_word (word z r.world (name.Key l.row l.place)) < first_key l.call → (m : Local) → m.row ≡ l.row → m.call ≡ l.call → m.link ≡ Some l.place → m.remembered ≡ l.remembered → Reads (list_in (word z r'.world) r'.listed l.row) r'.history r'.origin ListFrom m (r.seats s)
+  reads_below : key_of_word (word z r.world (name.Key l.row l.place)) < first_key l.call → (m : Local) → m.row ≡ l.row → m.call ≡ l.call → m.link ≡ Some l.place → m.remembered ≡ l.remembered → Reads (list_in (word z r'.world) r'.listed l.row) r'.history r'.origin (Activity.Read Read.Link) m (r.seats s)
   reads_below e m row call link marks = record {
     stamped = λ c p d. before_key.stamped c p (due c p d);
     found = λ c p d. rw (link, marks) (which c p (due c p d) (before_key.found c p (due c p d)));
@@ -237,7 +237,7 @@ module _ {z : Sizes} {r r' : Run} {s : ℕ} {choice : Choice} {l l' : Local} (h 
       due : (c p : ℕ) → IsDue r'.history r'.origin m.row m.call (r.seats s).looked c p → IsDue r'.history r'.origin l.row l.call (r.seats s).looked c p
       due c p d = subst (λ x. IsDue r'.history r'.origin x l.call (r.seats s).looked c p) row (subst (λ x. IsDue r'.history r'.origin m.row x (r.seats s).looked c p) call d)
 
-      which : (c p : ℕ) → IsDue r'.history r'.origin l.row l.call (r.seats s).looked c p → Contains (r.seats s).ids p ⊎ (is_marked c l.remembered ≡ true) ⊎ IsToCome (list_in (word z r'.world) r'.listed l.row) ListKey l c →
+      which : (c p : ℕ) → IsDue r'.history r'.origin l.row l.call (r.seats s).looked c p → Contains (r.seats s).ids p ⊎ (is_marked c l.remembered ≡ true) ⊎ IsToCome (list_in (word z r'.world) r'.listed l.row) (Activity.Read Read.Key) l c →
           Contains (r.seats s).ids p ⊎ (is_marked c l.remembered ≡ true) ⊎ (r'.listed l.row c ≡ true) × Stands (list_in (word z r'.world) r'.listed l.row) l.place c
       which c p d (inl x) = inl x
       which c p d (inr (inl x)) = inr (inl x)
@@ -248,13 +248,13 @@ module _ {z : Sizes} {r r' : Run} {s : ℕ} {choice : Choice} {l l' : Local} (h 
   pub left_above : last_key l.call < key_of_word (word z r.world (name.Key l.row l.place)) → ReadLeft r'.history r'.origin l (r.seats s).looked (r.seats s).ids
   left_above e = record { stamped = before_key.stamped; found = λ c p d. which c p d (before_key.found c p d) }
     where
-      which : (c p : ℕ) → IsDue r'.history r'.origin l.row l.call (r.seats s).looked c p → Contains (r.seats s).ids p ⊎ (is_marked c l.remembered ≡ true) ⊎ IsToCome (list_in (word z r'.world) r'.listed l.row) ListKey l c → Contains (r.seats s).ids p ⊎ (is_marked c l.remembered ≡ true)
+      which : (c p : ℕ) → IsDue r'.history r'.origin l.row l.call (r.seats s).looked c p → Contains (r.seats s).ids p ⊎ (is_marked c l.remembered ≡ true) ⊎ IsToCome (list_in (word z r'.world) r'.listed l.row) (Activity.Read Read.Key) l c → Contains (r.seats s).ids p ⊎ (is_marked c l.remembered ≡ true)
       which c p d (inl x) = inl x
       which c p d (inr (inl x)) = inr x
       which c p d (inr (inr x)) = absurd (omega (arith, above_range (list_in (word z r'.world) r'.listed l.row) l.place c (last_key l.call) (omega (arith, e, key_loaded)) x.1, (due_between c p d).1))
 
 -- the key in hand is that of the cell in hand
-hand_key : {z : Sizes} {r r' : Run} {s : ℕ} {choice : Choice} {l l' : Local} (h : Happens z r r' s choice l l' ListVer) (i : Inv z r) (k : Below z r') → Reads (list_in (word z r'.world) r'.listed l.row) r'.history r'.origin ListVer l (r.seats s) → key_of_word (word z r'.world (name.Key l.row l.place)) ≡ l.place_key
+hand_key : {z : Sizes} {r r' : Run} {s : ℕ} {choice : Choice} {l l' : Local} (h : Happens z r r' s choice l l' (Activity.Read Read.Version)) (i : Inv z r) (k : Below z r') → Reads (list_in (word z r'.world) r'.listed l.row) r'.history r'.origin (Activity.Read Read.Version) l (r.seats s) → key_of_word (word z r'.world (name.Key l.row l.place)) ≡ l.place_key
 hand_key {l = l} h i k n = let m = n.hand tt in key_stands k l.row l.place m.put (row_linked_on h i tt) (within h i l.row l.place m.put m.origin) m.origin m.stamped ∙ m.key tt
 
 -- a cell is gathered, which is that of the attempt in hand
@@ -272,10 +272,10 @@ module _ {z : Sizes} {r r' : Run} {s : ℕ} {choice : Choice} {l l' : Local} {a 
   hand_taken n c p d f = rw (hand_put.origin, is_hand c p d f) (contains_new (r.seats s).ids n hand_put.put)
 
 -- the key of a remembered cell is not one of the range: no attempt that is due has it
-pub left_passed : {z : Sizes} {r r' : Run} {s : ℕ} {choice : Choice} {l l' : Local} (h : Happens z r r' s choice l l' RestKey) (i : Inv z r) (k : Below z r') → is_in_range l.call (key_of_word (word z r.world (name.Key l.row l.place))) ≡ false → ReadLeft r'.history r'.origin l (r.seats s).looked (r.seats s).ids
+pub left_passed : {z : Sizes} {r r' : Run} {s : ℕ} {choice : Choice} {l l' : Local} (h : Happens z r r' s choice l l' (Activity.Read Read.LeftOverKey)) (i : Inv z r) (k : Below z r') → is_in_range l.call (key_of_word (word z r.world (name.Key l.row l.place))) ≡ false → ReadLeft r'.history r'.origin l (r.seats s).looked (r.seats s).ids
 left_passed {z} {r} {r'} {s} {choice} {l} {l'} h i k e = record { stamped = n.stamped; found = λ c p d. which c p d (n.found c p d) }
   where
-    n : Reads (list_in (word z r'.world) r'.listed l.row) r'.history r'.origin RestKey l (r.seats s)
+    n : Reads (list_in (word z r'.world) r'.listed l.row) r'.history r'.origin (Activity.Read Read.LeftOverKey) l (r.seats s)
     n = cells_after h i tt tt
 
     key : (c p : ℕ) → IsDue r'.history r'.origin l.row l.call (r.seats s).looked c p → c ≡ l.place → (attempt r'.history p).key ≡ key_of_word (word z r.world (name.Key l.row l.place))
@@ -287,10 +287,10 @@ left_passed {z} {r} {r'} {s} {choice} {l} {l'} h i k e = record { stamped = n.st
     which c p d (inr (inr x)) = true_false (subst (λ q. is_in_range l.call q ≡ true) (key c p d x) d.key) e
 
 -- a remembered cell is gathered
-pub left_gathered : {z : Sizes} {r r' : Run} {s : ℕ} {choice : Choice} {l l' : Local} (h : Happens z r r' s choice l l' RestVal) (i : Inv z r) (k : Below z r') (value : Option ℕ) (at : ℕ) → ReadLeft r'.history r'.origin (gathering z value l) (r.seats s).looked (insert (r.seats s).ids at (unwrap_or (r.origin l.row l.place) 0))
+pub left_gathered : {z : Sizes} {r r' : Run} {s : ℕ} {choice : Choice} {l l' : Local} (h : Happens z r r' s choice l l' (Activity.Read Read.LeftOverValue)) (i : Inv z r) (k : Below z r') (value : Option ℕ) (at : ℕ) → ReadLeft r'.history r'.origin (gathering z value l) (r.seats s).looked (insert (r.seats s).ids at (unwrap_or (r.origin l.row l.place) 0))
 left_gathered {z} {r} {r'} {s} {choice} {l} {l'} h i k value at = record { stamped = n.stamped; found = λ c p d. which c p d (n.found c p d) }
   where
-    n : Reads (list_in (word z r'.world) r'.listed l.row) r'.history r'.origin RestVal l (r.seats s)
+    n : Reads (list_in (word z r'.world) r'.listed l.row) r'.history r'.origin (Activity.Read Read.LeftOverValue) l (r.seats s)
     n = cells_after h i tt tt
 
     which : (c p : ℕ) → IsDue r'.history r'.origin l.row l.call (r.seats s).looked c p → Contains (r.seats s).ids p ⊎ (is_marked c l.remembered ≡ true) ⊎ (c ≡ l.place) → Contains (insert (r.seats s).ids at (unwrap_or (r.origin l.row l.place) 0)) p ⊎ (is_marked c l.remembered ≡ true)
@@ -299,20 +299,20 @@ left_gathered {z} {r} {r'} {s} {choice} {l} {l'} h i k value at = record { stamp
     which c p d (inr (inr x)) = inl (hand_taken h i k tt tt at c p d x)
 
 -- a listed cell is gathered, and passed
-reads_gathered : {z : Sizes} {r r' : Run} {s : ℕ} {choice : Choice} {l l' : Local} (h : Happens z r r' s choice l l' ListVal) (i : Inv z r) (k : Below z r') (m : Local) (at : ℕ) → m.row ≡ l.row → m.call ≡ l.call → m.link ≡ Some l.place → m.remembered ≡ l.remembered → Reads (list_in (word z r'.world) r'.listed l.row) r'.history r'.origin ListFrom m (log_gathered (r.origin l.row l.place) at (r.seats s))
+reads_gathered : {z : Sizes} {r r' : Run} {s : ℕ} {choice : Choice} {l l' : Local} (h : Happens z r r' s choice l l' (Activity.Read Read.Value)) (i : Inv z r) (k : Below z r') (m : Local) (at : ℕ) → m.row ≡ l.row → m.call ≡ l.call → m.link ≡ Some l.place → m.remembered ≡ l.remembered → Reads (list_in (word z r'.world) r'.listed l.row) r'.history r'.origin (Activity.Read Read.Link) m (log_gathered (r.origin l.row l.place) at (r.seats s))
 reads_gathered {z} {r} {r'} {s} {choice} {l} {l'} h i k m at row call link marks = record {
   stamped = λ c p d. n.stamped c p (due c p d);
   found = λ c p d. rw (link, marks) (which c p (due c p d) (n.found c p (due c p d)));
   hand = λ y. absurd y;
 }
   where
-    n : Reads (list_in (word z r'.world) r'.listed l.row) r'.history r'.origin ListVal l (r.seats s)
+    n : Reads (list_in (word z r'.world) r'.listed l.row) r'.history r'.origin (Activity.Read Read.Value) l (r.seats s)
     n = cells_after h i tt tt
 
     due : (c p : ℕ) → IsDue r'.history r'.origin m.row m.call (r.seats s).looked c p → IsDue r'.history r'.origin l.row l.call (r.seats s).looked c p
     due c p d = subst (λ x. IsDue r'.history r'.origin x l.call (r.seats s).looked c p) row (subst (λ x. IsDue r'.history r'.origin m.row x (r.seats s).looked c p) call d)
 
-    which : (c p : ℕ) → IsDue r'.history r'.origin l.row l.call (r.seats s).looked c p → Contains (r.seats s).ids p ⊎ (is_marked c l.remembered ≡ true) ⊎ IsToCome (list_in (word z r'.world) r'.listed l.row) ListVal l c →
+    which : (c p : ℕ) → IsDue r'.history r'.origin l.row l.call (r.seats s).looked c p → Contains (r.seats s).ids p ⊎ (is_marked c l.remembered ≡ true) ⊎ IsToCome (list_in (word z r'.world) r'.listed l.row) (Activity.Read Read.Value) l c →
         Contains (insert (r.seats s).ids at (unwrap_or (r.origin l.row l.place) 0)) p ⊎ (is_marked c l.remembered ≡ true) ⊎ (r'.listed l.row c ≡ true) × Stands (list_in (word z r'.world) r'.listed l.row) l.place c
     which c p d (inl x) = inl (contains_old (r.seats s).ids at _ p x)
     which c p d (inr (inl x)) = inr (inl x)
@@ -322,18 +322,18 @@ reads_gathered {z} {r} {r'} {s} {choice} {l} {l'} h i k m at row call link marks
 -- the cells that the acting reader reads
 pub reads_by : (z : Sizes) (r r' : Run) (s : ℕ) (choice : Choice) (l : Local) (a : Activity) (l' : Local) → Arrow z (word z r.world) s choice l a l' → Happens z r r' s choice l l' a → Inv z r → Below z r' → IsTaking l'.activity → Reads (list_in (word z r'.world) r'.listed l'.row) r'.history r'.origin l'.activity l' (r'.seats s)
 reads_by z r r' s choice l a l' (builds b next y t) h i k p = after_rests l'.activity (built_next z (word z r.world) choice l b l' t) (inr p)
-reads_by z r r' s choice l _ _ (list_leads c e) h i k p = subst (Reads (list_in (word z r'.world) r'.listed l.row) r'.history r'.origin ListKey _) (sym h.log) (reads_met h i k c e _ refl refl refl refl)
+reads_by z r r' s choice l _ _ (list_leads c e) h i k p = subst (Reads (list_in (word z r'.world) r'.listed l.row) r'.history r'.origin (Activity.Read Read.Key) _) (sym h.log) (reads_met h i k c e _ refl refl refl refl)
 reads_by z r r' s choice l _ _ (list_ends next e n) h i k p = subst (Reads _ r'.history r'.origin next.activity next) (sym h.log) (reads_next _ r'.history r'.origin l next (r.seats s) n (left_at_end h i k e) (marks_after h i (inr tt)) p)
-reads_by z r r' s choice l _ _ (key_below e) h i k p = subst (Reads (list_in (word z r'.world) r'.listed l.row) r'.history r'.origin ListFrom _) (sym h.log) (reads_below h i k e _ refl refl refl refl)
-reads_by z r r' s choice l _ _ (key_within e w) h i k p = subst (Reads (list_in (word z r'.world) r'.listed l.row) r'.history r'.origin ListVer _) (sym h.log)
+reads_by z r r' s choice l _ _ (key_below e) h i k p = subst (Reads (list_in (word z r'.world) r'.listed l.row) r'.history r'.origin (Activity.Read Read.Link) _) (sym h.log) (reads_below h i k e _ refl refl refl refl)
+reads_by z r r' s choice l _ _ (key_within e w) h i k p = subst (Reads (list_in (word z r'.world) r'.listed l.row) r'.history r'.origin (Activity.Read Read.Version) _) (sym h.log)
     (let n = before_key h i k in
-    record { stamped = n.stamped; found = n.found; hand = λ x. listed_in_hand k ListVer _ _ (row_linked_on h i tt) (walks_after h i tt).walks.on refl (λ y. absurd y) (λ y. key_loaded h i k) (λ y. in_range_of l.call _ e w) })
+    record { stamped = n.stamped; found = n.found; hand = λ x. listed_in_hand k (Activity.Read Read.Version) _ _ (row_linked_on h i tt) (walks_after h i tt).walks.on refl (λ y. absurd y) (λ y. key_loaded h i k) (λ y. in_range_of l.call _ e w) })
 reads_by z r r' s choice l _ _ (key_above next e n) h i k p = subst (Reads _ r'.history r'.origin next.activity next) (sym h.log) (reads_next _ r'.history r'.origin l next (r.seats s) n (left_above h i k e) (marks_after h i (inr tt)) p)
-reads_by z r r' s choice l _ _ loads_version h i k p = subst (Reads (list_in (word z r'.world) r'.listed l.row) r'.history r'.origin ListVal _) (sym h.log)
+reads_by z r r' s choice l _ _ loads_version h i k p = subst (Reads (list_in (word z r'.world) r'.listed l.row) r'.history r'.origin (Activity.Read Read.Value) _) (sym h.log)
     (let n = cells_after h i tt tt in
-    record { stamped = n.stamped; found = n.found; hand = λ x. listed_in_hand k ListVal _ _ (row_linked_on h i tt) (walks_after h i tt).walks.on (h.changed.loaded refl (name.Version l.row l.place)) (λ y. refl) (λ y. hand_key h i k n) (λ y. (n.hand tt).in_range tt) })
-reads_by z r r' s choice l _ _ gathers_listed h i k p = subst (Reads (list_in (word z r'.world) r'.listed l.row) r'.history r'.origin ListFrom _) (sym h.log) (reads_gathered h i k _ _ refl refl refl refl)
-reads_by z r r' s choice l _ _ (rest_wanted e) h i k p = subst (Reads (list_in (word z r'.world) r'.listed l.row) r'.history r'.origin RestVal _) (sym h.log)
+    record { stamped = n.stamped; found = n.found; hand = λ x. listed_in_hand k (Activity.Read Read.Value) _ _ (row_linked_on h i tt) (walks_after h i tt).walks.on (h.changed.loaded refl (name.Version l.row l.place)) (λ y. refl) (λ y. hand_key h i k n) (λ y. (n.hand tt).in_range tt) })
+reads_by z r r' s choice l _ _ gathers_listed h i k p = subst (Reads (list_in (word z r'.world) r'.listed l.row) r'.history r'.origin (Activity.Read Read.Link) _) (sym h.log) (reads_gathered h i k _ _ refl refl refl refl)
+reads_by z r r' s choice l _ _ (rest_wanted e) h i k p = subst (Reads (list_in (word z r'.world) r'.listed l.row) r'.history r'.origin (Activity.Read Read.LeftOverValue) _) (sym h.log)
     (let n = cells_after h i tt tt in
     let m = n.hand tt in
     record { stamped = n.stamped; found = n.found; hand = λ x. record { put = m.put; origin = m.origin; stamped = m.stamped; version = λ y. m.version tt; key = λ y. sym (key_stands k l.row l.place m.put (row_linked_on h i tt) (within h i l.row l.place m.put m.origin) m.origin m.stamped) ∙ ap key_of_word (h.changed.loaded refl (name.Key l.row l.place)); in_range = λ y. e } })

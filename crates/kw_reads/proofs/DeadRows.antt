@@ -10,7 +10,9 @@ use Rattle.kw_words.specs.declared.state.State.TheVariants as state
 use Rattle.kw_words.specs.State.{state_word}
 use Rattle.kw_rows.specs.Ledger.{Dead, Fate, Free, Infant, IsDead, Live}
 use Rattle.kw_world.specs.declared.activity.Activity.{Activity}
-use Rattle.kw_world.specs.declared.activity.Activity.TheVariants.{GiveBack, Reclaim, Replace, TakeRow}
+use Rattle.kw_world.specs.declared.activity.rebalance.Rebalance.TheVariants as Rebalance
+use Rattle.kw_world.specs.declared.activity.rebalance.replace.Replace.TheVariants as Replace
+use Rattle.kw_world.specs.declared.activity.rebalance.seek.Seek.TheVariants as Seek
 use Rattle.kw_world.specs.declared.event.Choice.{Choice}
 use Rattle.kw_world.specs.declared.local.Local.{Local}
 use Rattle.kw_world.specs.SeekTransitions.{infant}
@@ -98,31 +100,31 @@ inside_of z r i b q p d x = which (i.puts.places.owner q x.cell p (inr d) x.with
 -- A row goes by the event that replaces it.
 
 -- no other event unlinks a row
-pub goes_replaces : {z : Sizes} {r r' : Run} {s : ℕ} {choice : Choice} {l l' : Local} (a : Activity) → Happens z r r' s choice l l' a → (q : ℕ) → GoesNow r.ledger.rows r'.ledger.rows s (length r.history.log) q → a ≡ Replace
-goes_replaces {z} {r} {r'} {s} {choice} {l} {l'} TakeRow h q y = which (cases_eq (word z r.world (name.State l.rebalance.sought)) (state_word state.Free)) (cases_eq q l.rebalance.sought)
+pub goes_replaces : {z : Sizes} {r r' : Run} {s : ℕ} {choice : Choice} {l l' : Local} (a : Activity) → Happens z r r' s choice l l' a → (q : ℕ) → GoesNow r.ledger.rows r'.ledger.rows s (length r.history.log) q → a ≡ Activity.Rebalance (Rebalance.Replace Replace.Exchange)
+goes_replaces {z} {r} {r'} {s} {choice} {l} {l'} (Activity.Rebalance (Rebalance.Seek Seek.Take)) h q y = which (cases_eq (word z r.world (name.State l.rebalance.sought)) (state_word state.Free)) (cases_eq q l.rebalance.sought)
   where
-    stays : r'.ledger.rows.fates q ≡ r.ledger.rows.fates q → TakeRow ≡ Replace
+    stays : r'.ledger.rows.fates q ≡ r.ledger.rows.fates q → (Activity.Rebalance (Rebalance.Seek Seek.Take)) ≡ Activity.Rebalance (Rebalance.Replace Replace.Exchange)
     stays e = let x : Live ≡ Dead = sym y.live ∙ ap (λ (f : Fate). f.status) (sym e ∙ y.fate) in absurd (cc)
 
-    which : (word z r.world (name.State l.rebalance.sought) ≡ state_word state.Free) ⊎ (word z r.world (name.State l.rebalance.sought) ≡ state_word state.Free → ⊥) → (q ≡ l.rebalance.sought) ⊎ (q ≡ l.rebalance.sought → ⊥) → TakeRow ≡ Replace
+    which : (word z r.world (name.State l.rebalance.sought) ≡ state_word state.Free) ⊎ (word z r.world (name.State l.rebalance.sought) ≡ state_word state.Free → ⊥) → (q ≡ l.rebalance.sought) ⊎ (q ≡ l.rebalance.sought → ⊥) → (Activity.Rebalance (Rebalance.Seek Seek.Take)) ≡ Activity.Rebalance (Rebalance.Replace Replace.Exchange)
     which (inl e) (inl f) = let x : Infant ≡ Dead = sym (ap (λ (v : Fate). v.status) (fate_of_taken h e)) ∙ ap (λ n. (r'.ledger.rows.fates n).status) (sym f) ∙ ap (λ (v : Fate). v.status) y.fate in absurd (cc)
-    which (inl e) (inr d) = stays (fate_stays TakeRow h q d)
+    which (inl e) (inr d) = stays (fate_stays (Activity.Rebalance (Rebalance.Seek Seek.Take)) h q d)
     which (inr d) f = stays (ap (λ (g : ledger.Ledger). g.rows.fates q) (none_taken h d))
-goes_replaces {z} {r} {r'} {s} {choice} {l} {l'} Reclaim h q y = which (cases_eq (word z r.world (name.State l.rebalance.sought)) (state_word (state.Retired l.rebalance.number))) (cases_eq q l.rebalance.sought)
+goes_replaces {z} {r} {r'} {s} {choice} {l} {l'} (Activity.Rebalance (Rebalance.Seek Seek.Reclaim)) h q y = which (cases_eq (word z r.world (name.State l.rebalance.sought)) (state_word (state.Retired l.rebalance.number))) (cases_eq q l.rebalance.sought)
   where
-    stays : r'.ledger.rows.fates q ≡ r.ledger.rows.fates q → Reclaim ≡ Replace
+    stays : r'.ledger.rows.fates q ≡ r.ledger.rows.fates q → (Activity.Rebalance (Rebalance.Seek Seek.Reclaim)) ≡ Activity.Rebalance (Rebalance.Replace Replace.Exchange)
     stays e = let x : Live ≡ Dead = sym y.live ∙ ap (λ (f : Fate). f.status) (sym e ∙ y.fate) in absurd (cc)
 
-    which : (word z r.world (name.State l.rebalance.sought) ≡ state_word (state.Retired l.rebalance.number)) ⊎ (word z r.world (name.State l.rebalance.sought) ≡ state_word (state.Retired l.rebalance.number) → ⊥) → (q ≡ l.rebalance.sought) ⊎ (q ≡ l.rebalance.sought → ⊥) → Reclaim ≡ Replace
+    which : (word z r.world (name.State l.rebalance.sought) ≡ state_word (state.Retired l.rebalance.number)) ⊎ (word z r.world (name.State l.rebalance.sought) ≡ state_word (state.Retired l.rebalance.number) → ⊥) → (q ≡ l.rebalance.sought) ⊎ (q ≡ l.rebalance.sought → ⊥) → (Activity.Rebalance (Rebalance.Seek Seek.Reclaim)) ≡ Activity.Rebalance (Rebalance.Replace Replace.Exchange)
     which (inl e) (inl f) = let x : Free ≡ Dead = sym (ap (λ (v : Fate). v.status) (fate_of_freed h e)) ∙ ap (λ n. (r'.ledger.rows.fates n).status) (sym f) ∙ ap (λ (v : Fate). v.status) y.fate in absurd (cc)
-    which (inl e) (inr d) = stays (fate_stays Reclaim h q d)
+    which (inl e) (inr d) = stays (fate_stays (Activity.Rebalance (Rebalance.Seek Seek.Reclaim)) h q d)
     which (inr d) f = stays (ap (λ (g : ledger.Ledger). g.rows.fates q) (none_freed h d))
-goes_replaces {z} {r} {r'} {s} {choice} {l} {l'} GiveBack h q y = which (cases_eq q (infant l))
+goes_replaces {z} {r} {r'} {s} {choice} {l} {l'} (Activity.Rebalance (Rebalance.Seek Seek.GiveBack)) h q y = which (cases_eq q (infant l))
   where
-    which : (q ≡ infant l) ⊎ (q ≡ infant l → ⊥) → GiveBack ≡ Replace
+    which : (q ≡ infant l) ⊎ (q ≡ infant l → ⊥) → (Activity.Rebalance (Rebalance.Seek Seek.GiveBack)) ≡ Activity.Rebalance (Rebalance.Replace Replace.Exchange)
     which (inl f) = let x : Free ≡ Dead = sym (ap (λ (v : Fate). v.status) (fate_of_given h)) ∙ ap (λ n. (r'.ledger.rows.fates n).status) (sym f) ∙ ap (λ (v : Fate). v.status) y.fate in absurd (cc)
-    which (inr d) = let x : Live ≡ Dead = sym y.live ∙ ap (λ (f : Fate). f.status) (sym (fate_stays GiveBack h q d) ∙ y.fate) in absurd (cc)
-goes_replaces Replace h q y = refl
+    which (inr d) = let x : Live ≡ Dead = sym y.live ∙ ap (λ (f : Fate). f.status) (sym (fate_stays (Activity.Rebalance (Rebalance.Seek Seek.GiveBack)) h q d) ∙ y.fate) in absurd (cc)
+goes_replaces (Activity.Rebalance (Rebalance.Replace Replace.Exchange)) h q y = refl
 goes_replaces a h q y = let x : Live ≡ Dead = sym y.live ∙ ap (λ (f : Fate). f.status) (sym (fate_stays a h q (λ x. x)) ∙ y.fate) in absurd (cc)
 
 -- What dead rows show.

@@ -9,7 +9,7 @@ use Rattle.kw_words.specs.declared.sizes.TheConstants.{VERSION_END}
 use Rattle.kw_words.specs.Pend.{pend_of, pend_word}
 use Rattle.kw_words.proofs.PendWords.{pend_of-Idle, pend_of-Pending, pend_of-Stamped, pend_of-Frozen}
 use Rattle.kw_world.specs.declared.activity.Activity.{Activity}
-use Rattle.kw_world.specs.declared.activity.Activity.TheVariants.{PutKey, PutValue, Announce, PutClock, Stamp, PutVersion, InsFrom, InsKey, InsVer, InsSet, Insert, PutClear}
+use Rattle.kw_world.specs.declared.activity.put.Put.TheVariants as Put
 use Rattle.kw_world.specs.declared.local.Local.{Local}
 use Rattle.kw_world.specs.Sizes.{Sizes}
 use Rattle.kw_world.specs.Marks.{mark_of}
@@ -36,18 +36,14 @@ pub data EntrySays (v : Words) (f : Listed) (h : History) (q j c p : ℕ) : Type
 
 -- a seat that puts has not announced its cell, or has
 fresh_or_published : (a : Activity) → IsPutting a → IsFresh a ⊎ IsPublished a
-fresh_or_published PutKey p = inl tt
-fresh_or_published PutValue p = inl tt
-fresh_or_published Announce p = inl tt
-fresh_or_published PutClock p = inr tt
-fresh_or_published Stamp p = inr tt
-fresh_or_published PutVersion p = inr tt
-fresh_or_published InsFrom p = inr tt
-fresh_or_published InsKey p = inr tt
-fresh_or_published InsVer p = inr tt
-fresh_or_published InsSet p = inr tt
-fresh_or_published Insert p = inr tt
-fresh_or_published PutClear p = inr tt
+fresh_or_published (Activity.Put Put.Key) p = inl tt
+fresh_or_published (Activity.Put Put.Value) p = inl tt
+fresh_or_published (Activity.Put Put.Announce) p = inl tt
+fresh_or_published (Activity.Put Put.Clock) p = inr tt
+fresh_or_published (Activity.Put Put.Stamp) p = inr tt
+fresh_or_published (Activity.Put Put.Version) p = inr tt
+fresh_or_published (Activity.Insert _) p = inr tt
+fresh_or_published (Activity.Put Put.Clear) p = inr tt
 fresh_or_published _ p = absurd p
 
 module _ {z : Sizes} {r : Run} (k : Below z r) where

@@ -4,7 +4,7 @@ use Rattle.std.proofs.Common.{ℕ, ◌≡◌, ◌<◌, Bool, true, false, Option
 use Rattle.kw_model.specs.declared.call.Call.{Call}
 use Rattle.kw_model.specs.declared.call.Call.TheVariants.{Put, Del, Get, Scan}
 use Rattle.kw_world.specs.declared.activity.Activity.{Activity}
-use Rattle.kw_world.specs.declared.activity.Activity.TheVariants.{Idle, Start, Head, GuessMin, Walk, WalkMin, Look, LookKey, LookClock, LookHelp, ListFrom, ListKey, ListVer, ListVal, RestKey, RestVal, PutCount, PutAdd, PutKey, PutValue, Announce, PutClock, Stamp, PutVersion, InsFrom, InsKey, InsVer, InsSet, Insert, PutClear}
+use Rattle.kw_world.specs.declared.activity.walk.Walk.TheVariants as Walk
 use Rattle.kw_world.specs.declared.event.Choice.{Choice}
 use Rattle.kw_world.specs.declared.local.Local.{Local}
 use Rattle.kw_world.specs.Calls.{is_scan}
@@ -30,13 +30,13 @@ use Rattle.kw_reads.proofs.Later.{after_building}
 
 -- the seat is about to walk, walks, or is at its row
 abbrev pub IsOnWay : Activity → Type 0
-IsOnWay Start = Unit {0}
-IsOnWay Head = Unit {0}
+IsOnWay (Activity.Walk Walk.Start) = Unit {0}
+IsOnWay (Activity.Walk Walk.First) = Unit {0}
 IsOnWay a = HasRow a
 
 -- such a seat is busy with its call
 way_busy : (a : Activity) → IsOnWay a → IsBusy a
-way_busy Idle x = absurd x
+way_busy Activity.Idle x = absurd x
 way_busy _ x = tt
 
 -- a put or a delete is no scan
@@ -49,69 +49,21 @@ not_scan None x e = absurd x
 
 -- a scan that is on its way has drawn
 way_draws : (a : Activity) (l : Local) → IsOnWay a → IsKind a l → is_scan l.call ≡ true → HasDrawn a
-way_draws PutCount l x k e = not_scan l.call k e
-way_draws PutAdd l x k e = not_scan l.call k e
-way_draws PutKey l x k e = not_scan l.call k e
-way_draws PutValue l x k e = not_scan l.call k e
-way_draws Announce l x k e = not_scan l.call k e
-way_draws PutClock l x k e = not_scan l.call k e
-way_draws Stamp l x k e = not_scan l.call k e
-way_draws PutVersion l x k e = not_scan l.call k e
-way_draws InsFrom l x k e = not_scan l.call k e
-way_draws InsKey l x k e = not_scan l.call k e
-way_draws InsVer l x k e = not_scan l.call k e
-way_draws InsSet l x k e = not_scan l.call k e
-way_draws Insert l x k e = not_scan l.call k e
-way_draws PutClear l x k e = not_scan l.call k e
-way_draws Start l x k e = tt
-way_draws Head l x k e = tt
-way_draws GuessMin l x k e = tt
-way_draws Walk l x k e = tt
-way_draws WalkMin l x k e = tt
-way_draws (Look i) l x k e = tt
-way_draws LookKey l x k e = tt
-way_draws LookClock l x k e = tt
-way_draws LookHelp l x k e = tt
-way_draws ListFrom l x k e = tt
-way_draws ListKey l x k e = tt
-way_draws ListVer l x k e = tt
-way_draws ListVal l x k e = tt
-way_draws RestKey l x k e = tt
-way_draws RestVal l x k e = tt
+way_draws (Activity.Put _) l x k e = not_scan l.call k e
+way_draws (Activity.Insert _) l x k e = not_scan l.call k e
+way_draws (Activity.Walk _) l x k e = tt
+way_draws (Activity.Look _) l x k e = tt
+way_draws (Activity.Read _) l x k e = tt
 way_draws _ l x k e = absurd x
 
 -- a seat that names a row was on its way, and its event neither begins nor ends a call, nor draws
 pub row_from : (z : Sizes) (v : Words) (s : ℕ) (choice : Choice) (l : Local) (a : Activity) (k : Local) → Arrow z v s choice l a k → HasRow k.activity → IsOnWay a × IsUnderway a × IsNoDraw a
 row_from z v s choice l a k (builds b next y t) x = after_building k.activity (built_next z v choice l a k t) x
-row_from z v s choice l Start k b x = (tt, tt, tt)
-row_from z v s choice l Head k b x = (tt, tt, tt)
-row_from z v s choice l GuessMin k b x = (tt, tt, tt)
-row_from z v s choice l Walk k b x = (tt, tt, tt)
-row_from z v s choice l WalkMin k b x = (tt, tt, tt)
-row_from z v s choice l (Look i) k b x = (tt, tt, tt)
-row_from z v s choice l LookKey k b x = (tt, tt, tt)
-row_from z v s choice l LookClock k b x = (tt, tt, tt)
-row_from z v s choice l LookHelp k b x = (tt, tt, tt)
-row_from z v s choice l ListFrom k b x = (tt, tt, tt)
-row_from z v s choice l ListKey k b x = (tt, tt, tt)
-row_from z v s choice l ListVer k b x = (tt, tt, tt)
-row_from z v s choice l ListVal k b x = (tt, tt, tt)
-row_from z v s choice l RestKey k b x = (tt, tt, tt)
-row_from z v s choice l RestVal k b x = (tt, tt, tt)
-row_from z v s choice l PutCount k b x = (tt, tt, tt)
-row_from z v s choice l PutAdd k b x = (tt, tt, tt)
-row_from z v s choice l PutKey k b x = (tt, tt, tt)
-row_from z v s choice l PutValue k b x = (tt, tt, tt)
-row_from z v s choice l Announce k b x = (tt, tt, tt)
-row_from z v s choice l PutClock k b x = (tt, tt, tt)
-row_from z v s choice l Stamp k b x = (tt, tt, tt)
-row_from z v s choice l PutVersion k b x = (tt, tt, tt)
-row_from z v s choice l InsFrom k b x = (tt, tt, tt)
-row_from z v s choice l InsKey k b x = (tt, tt, tt)
-row_from z v s choice l InsVer k b x = (tt, tt, tt)
-row_from z v s choice l InsSet k b x = (tt, tt, tt)
-row_from z v s choice l Insert k b x = (tt, tt, tt)
-row_from z v s choice l PutClear k b x = (tt, tt, tt)
+row_from z v s choice l (Activity.Walk _) k b x = (tt, tt, tt)
+row_from z v s choice l (Activity.Look _) k b x = (tt, tt, tt)
+row_from z v s choice l (Activity.Read _) k b x = (tt, tt, tt)
+row_from z v s choice l (Activity.Put _) k b x = (tt, tt, tt)
+row_from z v s choice l (Activity.Insert _) k b x = (tt, tt, tt)
 row_from z v s choice l a k b x = absurd x
 
 module _ (z : Sizes) (r : Run) (i : Inv z r) (t : ℕ) (l : Local) (k : slice_get r.world.locals t ≡ Some l) (x : IsOnWay l.activity) where

@@ -4,7 +4,7 @@ use Rattle.std.proofs.Common.{ℕ, ◌≡◌, ◌⊎◌, inl, inr, ◌≤◌, �
 use Rattle.std.proofs.lemmas.Option.{slice_get_within}
 use Rattle.kw_words.specs.declared.layout.Name.TheVariants as name
 use Rattle.kw_world.specs.declared.activity.Activity.{Activity}
-use Rattle.kw_world.specs.declared.activity.Activity.TheVariants.{Look}
+use Rattle.kw_world.specs.declared.activity.look.Look.TheVariants as Look
 use Rattle.kw_world.specs.declared.event.Choice.{Choice}
 use Rattle.kw_world.specs.declared.limits.TheConstants.{NEWEST}
 use Rattle.kw_world.specs.declared.local.Local.{Local}
@@ -91,7 +91,7 @@ module _ {z : Sizes} {r r' : Run} {s : ℕ} {choice : Choice} {l l' : Local} whe
 
 -- At the first look.
 
-module _ (z : Sizes) (r : Run) (i : Inv z r) (c : Contents z r) (t : ℕ) (l : Local) (k : slice_get r.world.locals t ≡ Some l) (at : l.activity ≡ Look 0) where
+module _ (z : Sizes) (r : Run) (i : Inv z r) (c : Contents z r) (t : ℕ) (l : Local) (k : slice_get r.world.locals t ≡ Some l) (at : l.activity ≡ Activity.Look (Look.Entry 0)) where
   -- the version at which it reads is needed
   version_needed : Needed z r (version_of l)
   version_needed = met (is_scan l.call) refl

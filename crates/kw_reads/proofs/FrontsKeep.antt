@@ -2,7 +2,8 @@
 -- row.
 use Rattle.std.proofs.Common.{ℕ, zero, suc, ◌≡◌, ◌≢◌, ◌⊎◌, inl, inr, ◌≤◌, Some, arith, refl, sym, ◌∙◌, ap, subst, length, slice_get}
 use Rattle.kw_world.specs.declared.activity.Activity.{Activity}
-use Rattle.kw_world.specs.declared.activity.Activity.TheVariants.{Look, LookKey, LookClock, LookHelp, ListFrom, ListKey, ListVer, ListVal, RestKey, RestVal}
+use Rattle.kw_world.specs.declared.activity.look.Look.TheVariants as Look
+use Rattle.kw_world.specs.declared.activity.read.Read.TheVariants as Read
 use Rattle.kw_world.specs.declared.event.Choice.{Choice}
 use Rattle.kw_world.specs.declared.local.Local.{Local}
 use Rattle.kw_world.specs.Sizes.{Sizes}
@@ -28,42 +29,28 @@ use Rattle.kw_reads.proofs.Relying.{rely}
 
 -- a reader is at its row
 pub reading_row : (a : Activity) → IsReading a → HasRow a × IsAtRow a × IsOnWay a
-reading_row (Look j) x = (tt, tt, tt)
-reading_row LookKey x = (tt, tt, tt)
-reading_row LookClock x = (tt, tt, tt)
-reading_row LookHelp x = (tt, tt, tt)
-reading_row ListFrom x = (tt, tt, tt)
-reading_row ListKey x = (tt, tt, tt)
-reading_row ListVer x = (tt, tt, tt)
-reading_row ListVal x = (tt, tt, tt)
-reading_row RestKey x = (tt, tt, tt)
-reading_row RestVal x = (tt, tt, tt)
+reading_row (Activity.Look Look.Key) x = (tt, tt, tt)
+reading_row (Activity.Look _) x = (tt, tt, tt)
+reading_row (Activity.Read _) x = (tt, tt, tt)
 reading_row _ x = absurd x
 
 -- and its event neither begins nor ends a call, nor draws
 reading_way : (a : Activity) → IsReading a → IsUnderway a × IsNoDraw a
-reading_way (Look j) x = (tt, tt)
-reading_way LookKey x = (tt, tt)
-reading_way LookClock x = (tt, tt)
-reading_way LookHelp x = (tt, tt)
-reading_way ListFrom x = (tt, tt)
-reading_way ListKey x = (tt, tt)
-reading_way ListVer x = (tt, tt)
-reading_way ListVal x = (tt, tt)
-reading_way RestKey x = (tt, tt)
-reading_way RestVal x = (tt, tt)
+reading_way (Activity.Look Look.Key) x = (tt, tt)
+reading_way (Activity.Look _) x = (tt, tt)
+reading_way (Activity.Read _) x = (tt, tt)
 reading_way _ x = absurd x
 
 -- a seat that reads has looked at its first entry now, or read before, and is at the row at which
 -- it was
 record FromReading (l : Local) (a : Activity) (k : Local) : Type 0 where
-  at : (a ≡ Look 0) ⊎ IsReading a
+  at : (a ≡ Activity.Look (Look.Entry 0)) ⊎ IsReading a
   row : k.row ≡ l.row
   call : k.call ≡ l.call
   version : k.version ≡ l.version
 
 -- a look is the first, or a later one
-look_at : (j : ℕ) → (Look j ≡ Look 0) ⊎ (1 ≤ j)
+look_at : (j : ℕ) → ((Activity.Look (Look.Entry j)) ≡ Activity.Look (Look.Entry 0)) ⊎ (1 ≤ j)
 look_at zero = inl refl
 look_at (suc j) = inr (omega arith)
 
@@ -78,23 +65,21 @@ reading_from : (z : Sizes) (v : Words) (s : ℕ) (choice : Choice) (l : Local) (
 reading_from z v s choice l a k (builds b next y t) x = after_building k.activity (built_next z v choice l a k t) (reading_row k.activity x).0
 reading_from z v s choice l a k (reads_last f n) x = absurd (omega (arith, x))
 reading_from z v s choice l a k (reads_before f w) x = absurd (omega (arith, x))
-reading_from z v s choice l a k (list_ends next e n) x = rests_from l _ next ListFrom tt refl refl refl n x
-reading_from z v s choice l a k (key_above next e n) x = rests_from l _ next ListKey tt refl refl refl n x
-reading_from z v s choice l a k (rest_passed next e n) x = rests_from l _ next RestKey tt refl refl refl n x
-reading_from z v s choice l a k (gathers_rest next n) x = rests_from l _ next RestVal tt refl refl refl n x
-reading_from z v s choice l (Look j) k b x = record { at = look_at j; row = refl; call = refl; version = refl }
-reading_from z v s choice l LookKey k b x = record { at = inr tt; row = refl; call = refl; version = refl }
-reading_from z v s choice l LookClock k b x = record { at = inr tt; row = refl; call = refl; version = refl }
-reading_from z v s choice l LookHelp k b x = record { at = inr tt; row = refl; call = refl; version = refl }
-reading_from z v s choice l ListFrom k b x = record { at = inr tt; row = refl; call = refl; version = refl }
-reading_from z v s choice l ListKey k b x = record { at = inr tt; row = refl; call = refl; version = refl }
-reading_from z v s choice l ListVer k b x = record { at = inr tt; row = refl; call = refl; version = refl }
-reading_from z v s choice l ListVal k b x = record { at = inr tt; row = refl; call = refl; version = refl }
-reading_from z v s choice l RestKey k b x = record { at = inr tt; row = refl; call = refl; version = refl }
+reading_from z v s choice l a k (list_ends next e n) x = rests_from l _ next (Activity.Read Read.Link) tt refl refl refl n x
+reading_from z v s choice l a k (key_above next e n) x = rests_from l _ next (Activity.Read Read.Key) tt refl refl refl n x
+reading_from z v s choice l a k (rest_passed next e n) x = rests_from l _ next (Activity.Read Read.LeftOverKey) tt refl refl refl n x
+reading_from z v s choice l a k (gathers_rest next n) x = rests_from l _ next (Activity.Read Read.LeftOverValue) tt refl refl refl n x
+reading_from z v s choice l (Activity.Look (Look.Entry j)) k b x = record { at = look_at j; row = refl; call = refl; version = refl }
+reading_from z v s choice l (Activity.Look _) k b x = record { at = inr tt; row = refl; call = refl; version = refl }
+reading_from z v s choice l (Activity.Read Read.Link) k b x = record { at = inr tt; row = refl; call = refl; version = refl }
+reading_from z v s choice l (Activity.Read Read.Key) k b x = record { at = inr tt; row = refl; call = refl; version = refl }
+reading_from z v s choice l (Activity.Read Read.Version) k b x = record { at = inr tt; row = refl; call = refl; version = refl }
+reading_from z v s choice l (Activity.Read Read.Value) k b x = record { at = inr tt; row = refl; call = refl; version = refl }
+reading_from z v s choice l (Activity.Read Read.LeftOverKey) k b x = record { at = inr tt; row = refl; call = refl; version = refl }
 reading_from z v s choice l a k b x = absurd x
 
 -- the first look is now
-look_now : (z : Sizes) (choice : Choice) (l : Local) (found : ℕ) (next : Activity) (g : SeatLog) (o : Origins) (h : History) (settled : ℕ) (a : Activity) → a ≡ Look 0 → (seat_after z a choice l found next g o h settled).looked ≡ length h.log
+look_now : (z : Sizes) (choice : Choice) (l : Local) (found : ℕ) (next : Activity) (g : SeatLog) (o : Origins) (h : History) (settled : ℕ) (a : Activity) → a ≡ Activity.Look (Look.Entry 0) → (seat_after z a choice l found next g o h settled).looked ≡ length h.log
 look_now z choice l found next g o h settled a e = subst (λ b. (seat_after z b choice l found next g o h settled).looked ≡ length h.log) (sym e) refl
 
 -- a call reads at the version at which it read
@@ -126,13 +111,13 @@ module _ (z : Sizes) (r r' : Run) (s : ℕ) (choice : Choice) (l : Local) (a : A
       y : FromReading l a l'
       y = reading_from z (word z r.world) s choice l a l' h.arrow x
 
-      first : a ≡ Look 0 → IsFronted z r' l'.row (version_of l') (floor_of r' s l') (r'.seats s).looked
+      first : a ≡ Activity.Look (Look.Entry 0) → IsFronted z r' l'.row (version_of l') (floor_of r' s l') (r'.seats s).looked
       first e =
           let u = row_from z (word z r.world) s choice l a l' h.arrow (reading_row l'.activity x).0 in
           fronted_as z r' l.row l'.row _ _ _ _ _ _ y.row (version_same l l' y.call y.version) (floor_own z r r' s choice l a l' h i u.1 u.2 l' y.call) (ap (λ (g : SeatLog). g.looked) h.log ∙ look_now z choice l _ l'.activity (r.seats s) r.origin r.history (r.settled s) a e)
           (lasts s l h.knows (subst IsAtRow (sym (h.activity ∙ e)) tt) (subst IsOnWay (sym (h.activity ∙ e)) tt) (length r.history.log) (omega arith) (first_look z r i c s l h.knows (h.activity ∙ e)))
 
-      which : (a ≡ Look 0) ⊎ IsReading a → IsFronted z r' l'.row (version_of l') (floor_of r' s l') (r'.seats s).looked
+      which : (a ≡ Activity.Look (Look.Entry 0)) ⊎ IsReading a → IsFronted z r' l'.row (version_of l') (floor_of r' s l') (r'.seats s).looked
       which (inl e) = first e
       which (inr u) = front_after u l' y.row y.call y.version
 

@@ -18,7 +18,6 @@ use Rattle.kw_words.proofs.Refusals.{none_unless}
 use Rattle.kw_model.specs.declared.call.Call.{Call}
 use Rattle.kw_model.specs.declared.call.Call.TheVariants.{Put, Del, Get, Scan}
 use Rattle.kw_world.specs.declared.answer.Answer.TheVariants.{Done, Value, Absent, Pairs, NoRows, Spent, Stopped}
-use Rattle.kw_world.specs.declared.activity.Activity.TheVariants.{Leave}
 use Rattle.kw_world.specs.Calls.{first_key, last_key, put_value, is_scan}
 use Rattle.kw_core.specs.declared.history.Drawn.{Drawn}
 use Rattle.kw_core.specs.History.{LoadClock}
@@ -65,7 +64,7 @@ module _ (z : Sizes) (r r' : Run) (s : ℕ) (choice : Choice) (l l' : Local) (i 
   }
 
   -- a call that ends is answered as its kind is
-  answers_call : (c : Call) (answer : Answer) (pairs : List (ℕ × ℕ)) (put : Option ℕ) → IsAnswerOf (Some c) answer → (IsDone (Leave answer) → (p : ℕ) × (put ≡ Some p)) → ((p : ℕ) → put ≡ Some p → IsDone (Leave answer)) → Answers c put (reply_of answer pairs)
+  answers_call : (c : Call) (answer : Answer) (pairs : List (ℕ × ℕ)) (put : Option ℕ) → IsAnswerOf (Some c) answer → (IsDone (Activity.Leave answer) → (p : ℕ) × (put ≡ Some p)) → ((p : ℕ) → put ≡ Some p → IsDone (Activity.Leave answer)) → Answers c put (reply_of answer pairs)
   answers_call (Put key value) Done pairs put f d n = d tt
   answers_call (Put key value) NoRows pairs put f d n = none_unless put (λ p e. n p e)
   answers_call (Put key value) Spent pairs put f d n = none_unless put (λ p e. n p e)
@@ -108,15 +107,15 @@ rises_within low upto [] h = tt
 rises_within low upto (p ∷ pairs) h = (h.0, omega (arith, h.1), rises_within (suc p.0) upto pairs h.2)
 
 -- what is known of a call where it ends
-may_end : (z : Sizes) (r : Run) (s : ℕ) (l : Local) → Inv z r → slice_get r.world.locals s ≡ Some l → (c : Call) (answer : Answer) → l.activity ≡ Leave answer → l.call ≡ Some c → MayEnd r.history c (called r.history (r.seats s).call).first (reply_of answer l.pairs) (answering (Some c) l (r.seats s)) (drawing answer l (r.seats s))
+may_end : (z : Sizes) (r : Run) (s : ℕ) (l : Local) → Inv z r → slice_get r.world.locals s ≡ Some l → (c : Call) (answer : Answer) → l.activity ≡ Activity.Leave answer → l.call ≡ Some c → MayEnd r.history c (called r.history (r.seats s).call).first (reply_of answer l.pairs) (answering (Some c) l (r.seats s)) (drawing answer l (r.seats s))
 may_end z r s l i k (Put key value) answer a e = tt
 may_end z r s l i k (Del key) answer a e = tt
 may_end z r s l i k (Get key) answer a e =
     let x = i.replies.answers s l k in
-    let y : IsAnswered (Leave answer) (Some (Get key)) r.history l (r.seats s) = subst (λ q. IsAnswered (Leave answer) q r.history l (r.seats s)) e (subst (λ q. IsAnswered q l.call r.history l (r.seats s)) a x) in
+    let y : IsAnswered (Activity.Leave answer) (Some (Get key)) r.history l (r.seats s) = subst (λ q. IsAnswered (Activity.Leave answer) q r.history l (r.seats s)) e (subst (λ q. IsAnswered q l.call r.history l (r.seats s)) a x) in
     (y.gap, y.knows, y.answer)
 may_end z r s l i k (Scan from upto) Pairs a e =
-    let x : IsCovered (Leave Pairs) r.history l (r.seats s) = subst (λ q. IsCovered q r.history l (r.seats s)) a (i.replies.pairs s l k).covered in
+    let x : IsCovered (Activity.Leave Pairs) r.history l (r.seats s) = subst (λ q. IsCovered q r.history l (r.seats s)) a (i.replies.pairs s l k).covered in
     let y : Covers r.history from l.version (r.seats s).drawn (upto + 1) l.pairs = subst (λ q. Covers r.history (first_key q) l.version (r.seats s).drawn (last_key q + 1) l.pairs) e x in
     (record { at = (r.seats s).drawn; version = l.version }, refl, (i.positions.draws s l k).drawn_first (ap is_scan e) (subst HasDrawn (sym a) tt), rises_within from upto l.pairs y.rises, λ key o w. y.keys key o (omega (arith, w)))
 may_end z r s l i k (Scan from upto) Done a e = tt
@@ -135,7 +134,7 @@ pairs_of_scan (Some (Scan from upto)) h = refl
 pairs_of_scan None h = absurd h
 
 -- where a scan that ends with pairs drew
-may_draw : (z : Sizes) (r : Run) (s : ℕ) (l : Local) → Inv z r → slice_get r.world.locals s ≡ Some l → (answer : Answer) → l.activity ≡ Leave answer → (d : Drawn) → drawing answer l (r.seats s) ≡ Some d → DrawLogged r.history d × (d.version < word z r.world name.Clock)
+may_draw : (z : Sizes) (r : Run) (s : ℕ) (l : Local) → Inv z r → slice_get r.world.locals s ≡ Some l → (answer : Answer) → l.activity ≡ Activity.Leave answer → (d : Drawn) → drawing answer l (r.seats s) ≡ Some d → DrawLogged r.history d × (d.version < word z r.world name.Clock)
 may_draw z r s l i k Pairs a d e =
     let x = i.positions.draws s l k in
     let scan = pairs_of_scan l.call (subst (λ q. IsKind q l) a (i.shape.kinds s l k).kind) in
@@ -200,12 +199,12 @@ may_make z r r' s choice l a l' c (makes_end answer) h i =
       subst (λ q. MayEnd r.history (called r.history (r.seats s).call).call (called r.history (r.seats s).call).first (reply_of answer l.pairs) (answering q l (r.seats s)) (drawing answer l (r.seats s))) (sym x.call) (may_end z r s l i h.knows (called r.history (r.seats s).call).call answer h.activity x.call),
     )
   where
-    tidied : IsBalancing l.activity ⊎ IsDone l.activity → IsDone (Leave answer)
-    tidied (inl y) = let x : IsBalancing (Leave answer) = subst IsBalancing h.activity y in absurd x
+    tidied : IsBalancing l.activity ⊎ IsDone l.activity → IsDone (Activity.Leave answer)
+    tidied (inl y) = let x : IsBalancing (Activity.Leave answer) = subst IsBalancing h.activity y in absurd x
     tidied (inr y) = subst IsDone h.activity y
 
-    leave_done : IsPublished l.activity ⊎ IsDone l.activity ⊎ (l.tidies ≡ true) → IsDone (Leave answer)
-    leave_done (inl y) = let x : IsPublished (Leave answer) = subst IsPublished h.activity y in absurd x
+    leave_done : IsPublished l.activity ⊎ IsDone l.activity ⊎ (l.tidies ≡ true) → IsDone (Activity.Leave answer)
+    leave_done (inl y) = let x : IsPublished (Activity.Leave answer) = subst IsPublished h.activity y in absurd x
     leave_done (inr (inl y)) = subst IsDone h.activity y
     leave_done (inr (inr y)) = tidied (i.shape.tidies s l h.knows y)
 

@@ -8,7 +8,8 @@ use Rattle.kw_rows.specs.Ledger.{Dead, Fate, Free, IsLive, Live}
 use Rattle.kw_rows.specs.Rows.{WasLinked}
 use Rattle.kw_rows.proofs.Named.{one_row}
 use Rattle.kw_world.specs.declared.activity.Activity.{Activity}
-use Rattle.kw_world.specs.declared.activity.Activity.TheVariants.{Replace}
+use Rattle.kw_world.specs.declared.activity.rebalance.Rebalance.TheVariants as Rebalance
+use Rattle.kw_world.specs.declared.activity.rebalance.replace.Replace.TheVariants as Replace
 use Rattle.kw_world.specs.declared.event.Choice.{Choice}
 use Rattle.kw_world.specs.declared.local.Local.{Local}
 use Rattle.kw_world.specs.Sizes.{Sizes}
@@ -71,7 +72,7 @@ module _ {z : Sizes} {r r' : Run} {s : ℕ} {choice : Choice} {l l' : Local} (a 
 -- A row that is linked now.
 
 -- what is needed is listed, or at least all versions of the full row
-need_covered : (z : Sizes) (r : Run) (l : Local) (n : Needs z r Replace l) (u : ℕ) → Needed z r u → Contains l.rebalance.needed u ⊎ (n.most ≤ u)
+need_covered : (z : Sizes) (r : Run) (l : Local) (n : Needs z r (Activity.Rebalance (Rebalance.Replace Replace.Exchange)) l) (u : ℕ) → Needed z r u → Contains l.rebalance.needed u ⊎ (n.most ≤ u)
 need_covered z r l n u m = all_covered (word z r.world name.Clock) (Through z r) (λ j. j < z.seats) (Contains l.rebalance.needed) n.most u n.reached within n.covered m
   where
     within : (j v : ℕ) → Through z r j v → j < z.seats
@@ -80,8 +81,8 @@ need_covered z r l n u m = all_covered (word z r.world name.Clock) (Through z r)
     within j v (is_helped t k o g e f w) = o
 
 -- so the row shows what all stamped puts show
-rebuilt_shows : (z : Sizes) (r r' : Run) (s : ℕ) (choice : Choice) (l l' : Local) → (h : Happens z r r' s choice l l' Replace) → Below z r → Step r.history r'.history (log_entry z r Replace s choice l) → Contents z r → (q k u : ℕ) →
-    ComesNow (word z r.world) r.ledger.rows r'.ledger.rows s (length r.history.log) l Replace q → HoldsKey (word z r'.world) r'.ledger.rows q k → Needed z r u → Shows (puts_of r.history) (InRow z r' q) (IsPut r.history) k u
+rebuilt_shows : (z : Sizes) (r r' : Run) (s : ℕ) (choice : Choice) (l l' : Local) → (h : Happens z r r' s choice l l' (Activity.Rebalance (Rebalance.Replace Replace.Exchange))) → Below z r → Step r.history r'.history (log_entry z r (Activity.Rebalance (Rebalance.Replace Replace.Exchange)) s choice l) → Contents z r → (q k u : ℕ) →
+    ComesNow (word z r.world) r.ledger.rows r'.ledger.rows s (length r.history.log) l (Activity.Rebalance (Rebalance.Replace Replace.Exchange)) q → HoldsKey (word z r'.world) r'.ledger.rows q k → Needed z r u → Shows (puts_of r.history) (InRow z r' q) (IsPut r.history) k u
 rebuilt_shows z r r' s choice l l' h i st c q k u y x m =
     rebuild_shown (puts_of r.history) (InRow z r l.row) (InRow z r' q) (IsPut r.history) (Contains l.rebalance.needed) k u needs.most needs.most (is_rebuilt h i st q y k x needs) (omega arith) (need_covered z r l needs u m)
     (c.kept l.row k u (record { live = full_live h i.shape y.won; holds = held_by_full h i.shape place.0 q place.1 k y.fate x }) m)
@@ -89,7 +90,7 @@ rebuilt_shows z r r' s choice l l' h i st c q k u y x m =
     place : (n : ℕ) × (slice_get l.rebalance.taken n ≡ Some q)
     place = place_of_row l.rebalance.taken q y.taken
 
-    needs : Needs z r Replace l
+    needs : Needs z r (Activity.Rebalance (Rebalance.Replace Replace.Exchange)) l
     needs = subst (λ b. Needs z r b l) h.activity (c.needs s l h.knows (subst HasPassedRow (sym h.activity) tt))
 
 -- Over an event.
@@ -177,7 +178,7 @@ module _ (z : Sizes) (r r' : Run) (s : ℕ) (choice : Choice) (l : Local) (a : A
     -- A row that is linked now.
 
     -- a row that is linked now shows what it must
-    new_kept : a ≡ Replace → (q k u : ℕ) → ComesNow (word z r.world) r.ledger.rows r'.ledger.rows s (length r.history.log) l a q → HoldsKey (word z r'.world) r'.ledger.rows q k → Needed z r u → Shows (puts_of r.history) (InRow z r' q) (IsPut r.history) k u
+    new_kept : a ≡ Activity.Rebalance (Rebalance.Replace Replace.Exchange) → (q k u : ℕ) → ComesNow (word z r.world) r.ledger.rows r'.ledger.rows s (length r.history.log) l a q → HoldsKey (word z r'.world) r'.ledger.rows q k → Needed z r u → Shows (puts_of r.history) (InRow z r' q) (IsPut r.history) k u
     new_kept e q k u y x m = rebuilt_shows z r r' s choice l l' (subst (λ b. Happens z r r' s choice l l' b) e h) i (subst (λ b. Step r.history r'.history (log_entry z r b s choice l)) e st) c q k u (subst (λ b. ComesNow (word z r.world) r.ledger.rows r'.ledger.rows s (length r.history.log) l b q) e y) x m
 
     -- All events.

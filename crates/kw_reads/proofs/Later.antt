@@ -3,7 +3,13 @@
 use Rattle.std.proofs.Common.{ℕ, ◌≡◌, inl, inr, ◌<◌, ◌≤◌, Some, None, arith, refl, sym, ◌∙◌, ap, subst}
 use Rattle.std.proofs.lemmas.Option.{same_Some}
 use Rattle.kw_world.specs.declared.activity.Activity.{Activity}
-use Rattle.kw_world.specs.declared.activity.Activity.TheVariants.{Again, Leave, BalClock, GuessMin, Walk, WalkMin, Look, LookKey, LookClock, LookHelp, ListFrom, ListKey, ListVer, ListVal, RestKey, RestVal, PutCount, PutAdd, PutKey, PutValue, Announce, PutClock, Stamp, PutVersion, InsFrom, InsKey, InsVer, InsSet, Insert, PutClear}
+use Rattle.kw_world.specs.declared.activity.rebalance.engage.Engage.TheVariants as Engage
+use Rattle.kw_world.specs.declared.activity.insert.Insert.TheVariants as Insert
+use Rattle.kw_world.specs.declared.activity.look.Look.TheVariants as Look
+use Rattle.kw_world.specs.declared.activity.put.Put.TheVariants as Put
+use Rattle.kw_world.specs.declared.activity.read.Read.TheVariants as Read
+use Rattle.kw_world.specs.declared.activity.rebalance.Rebalance.TheVariants as Rebalance
+use Rattle.kw_world.specs.declared.activity.walk.Walk.TheVariants as Walk
 use Rattle.kw_world.specs.declared.local.Local.{Local}
 use Rattle.kw_world.specs.declared.event.Choice.{Choice}
 use Rattle.kw_world.specs.Sizes.{Sizes}
@@ -24,52 +30,32 @@ use Rattle.kw_core.proofs.BuiltNext.{IsAfterBuilding, built_next}
 
 -- a seat at its row has no candidate, and has a row
 pub at_row_has : (a : Activity) → IsAtRow a → HasRow a
-at_row_has GuessMin x = absurd x
-at_row_has Walk x = absurd x
-at_row_has WalkMin x = absurd x
+at_row_has (Activity.Walk Walk.GuessedLeast) x = absurd x
+at_row_has (Activity.Walk Walk.Next) x = absurd x
+at_row_has (Activity.Walk Walk.NextLeast) x = absurd x
 at_row_has _ x = x
 
 no_candidate : {A : Type 0} (a : Activity) → IsAtRow a → HasCandidate a → A
-no_candidate WalkMin x y = absurd x
+no_candidate (Activity.Walk Walk.NextLeast) x y = absurd x
 no_candidate _ x y = absurd y
 
 -- a seat with a candidate has a row
 pub candidate_has : (a : Activity) → HasCandidate a → HasRow a
-candidate_has WalkMin x = tt
+candidate_has (Activity.Walk Walk.NextLeast) x = tt
 candidate_has _ x = absurd x
 
 -- new rows are taken, written and linked at no row of a walk
 pub after_building : {A : Type 0} (a : Activity) → IsAfterBuilding a → HasRow a → A
-after_building Again x y = absurd y
-after_building BalClock x y = absurd y
-after_building (Leave answer) x y = absurd y
-after_building GuessMin x y = absurd x
-after_building Walk x y = absurd x
-after_building WalkMin x y = absurd x
-after_building (Look i) x y = absurd x
-after_building LookKey x y = absurd x
-after_building LookClock x y = absurd x
-after_building LookHelp x y = absurd x
-after_building ListFrom x y = absurd x
-after_building ListKey x y = absurd x
-after_building ListVer x y = absurd x
-after_building ListVal x y = absurd x
-after_building RestKey x y = absurd x
-after_building RestVal x y = absurd x
-after_building PutCount x y = absurd x
-after_building PutAdd x y = absurd x
-after_building PutKey x y = absurd x
-after_building PutValue x y = absurd x
-after_building Announce x y = absurd x
-after_building PutClock x y = absurd x
-after_building Stamp x y = absurd x
-after_building PutVersion x y = absurd x
-after_building InsFrom x y = absurd x
-after_building InsKey x y = absurd x
-after_building InsVer x y = absurd x
-after_building InsSet x y = absurd x
-after_building Insert x y = absurd x
-after_building PutClear x y = absurd x
+after_building Activity.Retry x y = absurd y
+after_building (Activity.Rebalance (Rebalance.Engage Engage.Clock)) x y = absurd y
+after_building (Activity.Leave answer) x y = absurd y
+after_building (Activity.Walk Walk.GuessedLeast) x y = absurd x
+after_building (Activity.Walk Walk.Next) x y = absurd x
+after_building (Activity.Walk Walk.NextLeast) x y = absurd x
+after_building (Activity.Look _) x y = absurd x
+after_building (Activity.Read _) x y = absurd x
+after_building (Activity.Put _) x y = absurd x
+after_building (Activity.Insert _) x y = absurd x
 after_building _ x y = absurd y
 
 module _ (g : Ledger) (d : ℕ) where
@@ -83,22 +69,22 @@ module _ (g : Ledger) (d : ℕ) where
 
   -- the next look of a reader
   look_stays : (z : Sizes) (j : ℕ) (a : Activity) (l : Local) (next : Activity) (k : Local) → NextLook z j next → IsAtRow a → k.row ≡ l.row → k.next ≡ l.next → IsLater g d a l → IsLater g d next k
-  look_stays z j a l next k (looks o) x row after w = stays a l (Look j) k x tt row after w
-  look_stays z j a l next k (lists o) x row after w = stays a l ListFrom k x tt row after w
+  look_stays z j a l next k (looks o) x row after w = stays a l (Activity.Look (Look.Entry j)) k x tt row after w
+  look_stays z j a l next k (lists o) x row after w = stays a l (Activity.Read Read.Link) k x tt row after w
 
   -- the next cell of a reader, or the next row of a scan
   cell_goes : (a : Activity) (l : Local) (k next : Local) → NextRest k next → IsAtRow a → k.row ≡ l.row → k.next ≡ l.next → IsLater g d a l → IsLater g d next.activity next
-  cell_goes a l k next (rests m o) x row after w = stays a l RestKey next x tt row after w
+  cell_goes a l k next (rests m o) x row after w = stays a l (Activity.Read Read.LeftOverKey) next x tt row after w
   cell_goes a l k next (answers o n) x row after w = nowhere _ next (λ u. u) (λ u. u) (λ u. u)
   cell_goes a l k next (ends_scan o y n) x row after w = nowhere _ next (λ u. u) (λ u. u) (λ u. u)
   cell_goes a l k next (scans_on q o y n u) x row after w = record { row = λ c. w.next x q (sym after ∙ n); met = λ c. absurd c; next = λ c. absurd c }
 
   -- a seat that has come to the row before its candidate
-  arrives_before : (b : Activity) (l k : Local) → IsAtRow b → k.row ≡ l.row → k.next ≡ Some l.candidate → IsLater g d WalkMin l → IsLater g d b k
+  arrives_before : (b : Activity) (l k : Local) → IsAtRow b → k.row ≡ l.row → k.next ≡ Some l.candidate → IsLater g d (Activity.Walk Walk.NextLeast) l → IsLater g d b k
   arrives_before b l k y row next w = record { row = λ q. subst (IsSince g d) (sym row) (w.row tt); met = λ q. no_candidate b y q; next = λ q n e. subst (IsSince g d) (same_Some l.candidate n (sym next ∙ e)) (w.met tt) }
 
   -- or to the last one
-  arrives_last : (b : Activity) (l k : Local) → IsAtRow b → k.row ≡ l.row → k.next ≡ None → IsLater g d Walk l → IsLater g d b k
+  arrives_last : (b : Activity) (l k : Local) → IsAtRow b → k.row ≡ l.row → k.next ≡ None → IsLater g d (Activity.Walk Walk.Next) l → IsLater g d b k
   arrives_last b l k y row next w = record { row = λ q. subst (IsSince g d) (sym row) (w.row tt); met = λ q. no_candidate b y q; next = λ q n e. let x : None ≡ Some n = sym next ∙ e in absurd (cc) }
 
   -- a row of the list is later than any position
@@ -123,52 +109,52 @@ later_by z v g s choice l a l' d (builds b next y t) c k w = built l' (built_nex
   where
     built : (k : Local) → IsAfterBuilding k.activity → IsLater g d k.activity k
     built k x = record { row = λ q. after_building k.activity x q; met = λ q. after_building k.activity x (candidate_has k.activity q); next = λ q. after_building k.activity x (at_row_has k.activity q) }
-later_by z v g s choice l a l' d starts_at_head c k w = in_list g d Walk _ (subst (IsLive g) (sym (ap row_or_first c.chain.leads)) c.chain.first_live) (λ x. x) (λ x. x)
-later_by z v g s choice l a l' d takes_head c k w = in_list g d Walk _ (subst (IsLive g) (sym (ap row_or_first c.chain.leads)) c.chain.first_live) (λ x. x) (λ x. x)
-later_by z v g s choice l a l' d (guesses q y n) c k w = in_list g d GuessMin _ (normal_live (rows_in v) g q c.states (ap state_met n)) (λ x. x) (λ x. x)
+later_by z v g s choice l a l' d starts_at_head c k w = in_list g d (Activity.Walk Walk.Next) _ (subst (IsLive g) (sym (ap row_or_first c.chain.leads)) c.chain.first_live) (λ x. x) (λ x. x)
+later_by z v g s choice l a l' d takes_head c k w = in_list g d (Activity.Walk Walk.Next) _ (subst (IsLive g) (sym (ap row_or_first c.chain.leads)) c.chain.first_live) (λ x. x) (λ x. x)
+later_by z v g s choice l a l' d (guesses q y n) c k w = in_list g d (Activity.Walk Walk.GuessedLeast) _ (normal_live (rows_in v) g q c.states (ap state_met n)) (λ x. x) (λ x. x)
 later_by z v g s choice l a l' d (guess_serves o) c k w = record { row = λ x. w.row tt; met = λ x. absurd x; next = λ x. absurd x }
 later_by z v g s choice l a l' d (meets_next q n) c k w = record { row = λ x. w.row tt; met = λ x. next_since g d v s l.row q c.closed k.on.0 n (w.row tt); next = λ x. absurd x }
 later_by z v g s choice l a l' d (walks_on o) c k w = record { row = λ x. w.met tt; met = λ x. absurd x; next = λ x. absurd x }
-later_by z v g s choice l a l' d (puts_in_last y n) c k w = arrives_last g d PutCount l _ tt refl refl w
-later_by z v g s choice l a l' d (reads_last y n) c k w = arrives_last g d (Look 0) l _ tt refl refl w
-later_by z v g s choice l a l' d (puts_before y o) c k w = arrives_before g d PutCount l _ tt refl refl w
-later_by z v g s choice l a l' d (reads_before y o) c k w = arrives_before g d (Look 0) l _ tt refl refl w
-later_by z v g s choice l a l' d (meets_pending j x y) c k w = stays g d (Look j) l LookKey _ tt tt refl refl w
-later_by z v g s choice l a l' d (meets_stamped j x version next y n) c k w = look_stays g d z _ (Look j) l next _ n tt refl refl w
-later_by z v g s choice l a l' d (meets_neither j next y n) c k w = look_stays g d z _ (Look j) l next _ n tt refl refl w
-later_by z v g s choice l a l' d (is_wanted y) c k w = stays g d LookKey l LookClock _ tt tt refl refl w
-later_by z v g s choice l a l' d (is_passed next y n) c k w = look_stays g d z _ LookKey l next _ n tt refl refl w
-later_by z v g s choice l a l' d loads_to_help c k w = stays g d LookClock l LookHelp _ tt tt refl refl w
-later_by z v g s choice l a l' d (helps next y n) c k w = look_stays g d z _ LookHelp l next _ n tt refl refl w
-later_by z v g s choice l a l' d (finds_stamped x version next y n) c k w = look_stays g d z _ LookHelp l next _ n tt refl refl w
-later_by z v g s choice l a l' d (finds_other next y n) c k w = look_stays g d z _ LookHelp l next _ n tt refl refl w
-later_by z v g s choice l a l' d (list_ends next e n) c k w = cell_goes g d ListFrom l _ next n tt refl refl w
-later_by z v g s choice l a l' d (list_leads x y) c k w = stays g d ListFrom l ListKey _ tt tt refl refl w
-later_by z v g s choice l a l' d (key_below y) c k w = stays g d ListKey l ListFrom _ tt tt refl refl w
-later_by z v g s choice l a l' d (key_within y u) c k w = stays g d ListKey l ListVer _ tt tt refl refl w
-later_by z v g s choice l a l' d loads_version c k w = stays g d ListVer l ListVal _ tt tt refl refl w
-later_by z v g s choice l a l' d gathers_listed c k w = stays g d ListVal l ListFrom _ tt tt refl refl w
-later_by z v g s choice l a l' d (rest_wanted y) c k w = stays g d RestKey l RestVal _ tt tt refl refl w
-later_by z v g s choice l a l' d (key_above next y n) c k w = cell_goes g d ListKey l _ next n tt refl refl w
-later_by z v g s choice l a l' d (rest_passed next y n) c k w = cell_goes g d RestKey l _ next n tt refl refl w
-later_by z v g s choice l a l' d (gathers_rest next n) c k w = cell_goes g d RestVal l _ next n tt refl refl w
-later_by z v g s choice l a l' d (finds_room y) c k w = stays g d PutCount l PutAdd _ tt tt refl refl w
-later_by z v g s choice l a l' d (takes_cell y) c k w = stays g d PutAdd l PutKey _ tt tt refl refl w
-later_by z v g s choice l a l' d stores_key c k w = stays g d PutKey l PutValue _ tt tt refl refl w
-later_by z v g s choice l a l' d stores_value c k w = stays g d PutValue l Announce _ tt tt refl refl w
-later_by z v g s choice l a l' d (announces y) c k w = stays g d Announce l PutClock _ tt tt refl refl w
-later_by z v g s choice l a l' d loads_clock c k w = stays g d PutClock l Stamp _ tt tt refl refl w
-later_by z v g s choice l a l' d (stamps y) c k w = stays g d Stamp l PutVersion _ tt tt refl refl w
-later_by z v g s choice l a l' d (is_stamped version y) c k w = stays g d Stamp l PutVersion _ tt tt refl refl w
-later_by z v g s choice l a l' d stores_version c k w = stays g d PutVersion l InsFrom _ tt tt refl refl w
-later_by z v g s choice l a l' d (meets_cell x y) c k w = stays g d InsFrom l InsKey _ tt tt refl refl w
-later_by z v g s choice l a l' d (meets_none y) c k w = stays g d InsFrom l InsSet _ tt tt refl refl w
-later_by z v g s choice l a l' d (key_before y) c k w = stays g d InsKey l InsFrom _ tt tt refl refl w
-later_by z v g s choice l a l' d (key_same y) c k w = stays g d InsKey l InsVer _ tt tt refl refl w
-later_by z v g s choice l a l' d (key_after y) c k w = stays g d InsKey l InsSet _ tt tt refl refl w
-later_by z v g s choice l a l' d (version_before y) c k w = stays g d InsVer l InsFrom _ tt tt refl refl w
-later_by z v g s choice l a l' d (version_after y) c k w = stays g d InsVer l InsSet _ tt tt refl refl w
-later_by z v g s choice l a l' d stores_after c k w = stays g d InsSet l Insert _ tt tt refl refl w
-later_by z v g s choice l a l' d (inserts y) c k w = stays g d Insert l PutClear _ tt tt refl refl w
-later_by z v g s choice l a l' d (loses y) c k w = stays g d Insert l InsFrom _ tt tt refl refl w
+later_by z v g s choice l a l' d (puts_in_last y n) c k w = arrives_last g d (Activity.Put Put.Count) l _ tt refl refl w
+later_by z v g s choice l a l' d (reads_last y n) c k w = arrives_last g d (Activity.Look (Look.Entry 0)) l _ tt refl refl w
+later_by z v g s choice l a l' d (puts_before y o) c k w = arrives_before g d (Activity.Put Put.Count) l _ tt refl refl w
+later_by z v g s choice l a l' d (reads_before y o) c k w = arrives_before g d (Activity.Look (Look.Entry 0)) l _ tt refl refl w
+later_by z v g s choice l a l' d (meets_pending j x y) c k w = stays g d (Activity.Look (Look.Entry j)) l (Activity.Look Look.Key) _ tt tt refl refl w
+later_by z v g s choice l a l' d (meets_stamped j x version next y n) c k w = look_stays g d z _ (Activity.Look (Look.Entry j)) l next _ n tt refl refl w
+later_by z v g s choice l a l' d (meets_neither j next y n) c k w = look_stays g d z _ (Activity.Look (Look.Entry j)) l next _ n tt refl refl w
+later_by z v g s choice l a l' d (is_wanted y) c k w = stays g d (Activity.Look Look.Key) l (Activity.Look Look.Clock) _ tt tt refl refl w
+later_by z v g s choice l a l' d (is_passed next y n) c k w = look_stays g d z _ (Activity.Look Look.Key) l next _ n tt refl refl w
+later_by z v g s choice l a l' d loads_to_help c k w = stays g d (Activity.Look Look.Clock) l (Activity.Look Look.Help) _ tt tt refl refl w
+later_by z v g s choice l a l' d (helps next y n) c k w = look_stays g d z _ (Activity.Look Look.Help) l next _ n tt refl refl w
+later_by z v g s choice l a l' d (finds_stamped x version next y n) c k w = look_stays g d z _ (Activity.Look Look.Help) l next _ n tt refl refl w
+later_by z v g s choice l a l' d (finds_other next y n) c k w = look_stays g d z _ (Activity.Look Look.Help) l next _ n tt refl refl w
+later_by z v g s choice l a l' d (list_ends next e n) c k w = cell_goes g d (Activity.Read Read.Link) l _ next n tt refl refl w
+later_by z v g s choice l a l' d (list_leads x y) c k w = stays g d (Activity.Read Read.Link) l (Activity.Read Read.Key) _ tt tt refl refl w
+later_by z v g s choice l a l' d (key_below y) c k w = stays g d (Activity.Read Read.Key) l (Activity.Read Read.Link) _ tt tt refl refl w
+later_by z v g s choice l a l' d (key_within y u) c k w = stays g d (Activity.Read Read.Key) l (Activity.Read Read.Version) _ tt tt refl refl w
+later_by z v g s choice l a l' d loads_version c k w = stays g d (Activity.Read Read.Version) l (Activity.Read Read.Value) _ tt tt refl refl w
+later_by z v g s choice l a l' d gathers_listed c k w = stays g d (Activity.Read Read.Value) l (Activity.Read Read.Link) _ tt tt refl refl w
+later_by z v g s choice l a l' d (rest_wanted y) c k w = stays g d (Activity.Read Read.LeftOverKey) l (Activity.Read Read.LeftOverValue) _ tt tt refl refl w
+later_by z v g s choice l a l' d (key_above next y n) c k w = cell_goes g d (Activity.Read Read.Key) l _ next n tt refl refl w
+later_by z v g s choice l a l' d (rest_passed next y n) c k w = cell_goes g d (Activity.Read Read.LeftOverKey) l _ next n tt refl refl w
+later_by z v g s choice l a l' d (gathers_rest next n) c k w = cell_goes g d (Activity.Read Read.LeftOverValue) l _ next n tt refl refl w
+later_by z v g s choice l a l' d (finds_room y) c k w = stays g d (Activity.Put Put.Count) l (Activity.Put Put.Add) _ tt tt refl refl w
+later_by z v g s choice l a l' d (takes_cell y) c k w = stays g d (Activity.Put Put.Add) l (Activity.Put Put.Key) _ tt tt refl refl w
+later_by z v g s choice l a l' d stores_key c k w = stays g d (Activity.Put Put.Key) l (Activity.Put Put.Value) _ tt tt refl refl w
+later_by z v g s choice l a l' d stores_value c k w = stays g d (Activity.Put Put.Value) l (Activity.Put Put.Announce) _ tt tt refl refl w
+later_by z v g s choice l a l' d (announces y) c k w = stays g d (Activity.Put Put.Announce) l (Activity.Put Put.Clock) _ tt tt refl refl w
+later_by z v g s choice l a l' d loads_clock c k w = stays g d (Activity.Put Put.Clock) l (Activity.Put Put.Stamp) _ tt tt refl refl w
+later_by z v g s choice l a l' d (stamps y) c k w = stays g d (Activity.Put Put.Stamp) l (Activity.Put Put.Version) _ tt tt refl refl w
+later_by z v g s choice l a l' d (is_stamped version y) c k w = stays g d (Activity.Put Put.Stamp) l (Activity.Put Put.Version) _ tt tt refl refl w
+later_by z v g s choice l a l' d stores_version c k w = stays g d (Activity.Put Put.Version) l (Activity.Insert Insert.Link) _ tt tt refl refl w
+later_by z v g s choice l a l' d (meets_cell x y) c k w = stays g d (Activity.Insert Insert.Link) l (Activity.Insert Insert.Key) _ tt tt refl refl w
+later_by z v g s choice l a l' d (meets_none y) c k w = stays g d (Activity.Insert Insert.Link) l (Activity.Insert Insert.Set) _ tt tt refl refl w
+later_by z v g s choice l a l' d (key_before y) c k w = stays g d (Activity.Insert Insert.Key) l (Activity.Insert Insert.Link) _ tt tt refl refl w
+later_by z v g s choice l a l' d (key_same y) c k w = stays g d (Activity.Insert Insert.Key) l (Activity.Insert Insert.Version) _ tt tt refl refl w
+later_by z v g s choice l a l' d (key_after y) c k w = stays g d (Activity.Insert Insert.Key) l (Activity.Insert Insert.Set) _ tt tt refl refl w
+later_by z v g s choice l a l' d (version_before y) c k w = stays g d (Activity.Insert Insert.Version) l (Activity.Insert Insert.Link) _ tt tt refl refl w
+later_by z v g s choice l a l' d (version_after y) c k w = stays g d (Activity.Insert Insert.Version) l (Activity.Insert Insert.Set) _ tt tt refl refl w
+later_by z v g s choice l a l' d stores_after c k w = stays g d (Activity.Insert Insert.Set) l (Activity.Insert Insert.Exchange) _ tt tt refl refl w
+later_by z v g s choice l a l' d (inserts y) c k w = stays g d (Activity.Insert Insert.Exchange) l (Activity.Put Put.Clear) _ tt tt refl refl w
+later_by z v g s choice l a l' d (loses y) c k w = stays g d (Activity.Insert Insert.Exchange) l (Activity.Insert Insert.Link) _ tt tt refl refl w
 later_by z v g s choice l a l' d _ c k w = record { row = λ x. absurd x; met = λ x. absurd x; next = λ x. absurd x }

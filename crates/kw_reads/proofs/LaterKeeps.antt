@@ -6,7 +6,7 @@
 -- then.
 use Rattle.std.proofs.Common.{ℕ, ◌≡◌, ◌≢◌, inl, inr, ◌<◌, Some, arith, sym, ◌∙◌, ap, subst, length, slice_get}
 use Rattle.kw_world.specs.declared.activity.Activity.{Activity}
-use Rattle.kw_world.specs.declared.activity.Activity.TheVariants.{Start, Head, GuessMin, Walk, WalkMin}
+use Rattle.kw_world.specs.declared.activity.walk.Walk.TheVariants as Walk
 use Rattle.kw_world.specs.declared.event.Choice.{Choice}
 use Rattle.kw_world.specs.declared.local.Local.{Local}
 use Rattle.kw_world.specs.Sizes.{Sizes}
@@ -33,8 +33,8 @@ later_if z r d a l f = record { row = λ x. (f x).row x; met = λ x. (f (candida
 
 -- a seat that has a row is on its way
 row_way : (a : Activity) → HasRow a → IsOnWay a
-row_way Start x = tt
-row_way Head x = tt
+row_way (Activity.Walk Walk.Start) x = tt
+row_way (Activity.Walk Walk.First) x = tt
 row_way _ x = x
 
 -- the rows that a walk names are linked, or were
@@ -48,13 +48,13 @@ pub named_linked : (v : Words) (g : Ledger) (t : ℕ) (a : Activity) (l : Local)
 named_linked v g t a l w = record { row = row a w; met = met a w; next = λ x n e. fresh_linked g t n ((w.at x).next n e).fresh }
   where
     row : (b : Activity) → Walks v g t b l → HasRow b → WasLinked g l.row
-    row GuessMin k x = fresh_linked g t l.row k.on
-    row Walk k x = fresh_linked g t l.row k.on.0
-    row WalkMin k x = fresh_linked g t l.row k.on.0
+    row (Activity.Walk Walk.GuessedLeast) k x = fresh_linked g t l.row k.on
+    row (Activity.Walk Walk.Next) k x = fresh_linked g t l.row k.on.0
+    row (Activity.Walk Walk.NextLeast) k x = fresh_linked g t l.row k.on.0
     row _ k x = fresh_linked g t l.row (k.at x).fresh
 
     met : (b : Activity) → Walks v g t b l → HasCandidate b → WasLinked g l.candidate
-    met WalkMin k x = fresh_linked g t l.candidate k.on.2
+    met (Activity.Walk Walk.NextLeast) k x = fresh_linked g t l.candidate k.on.2
     met _ k x = absurd x
 
 module _ {z : Sizes} {r r' : Run} {s : ℕ} {choice : Choice} {l l' : Local} where

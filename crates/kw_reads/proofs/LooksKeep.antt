@@ -8,7 +8,11 @@ use Rattle.std.proofs.lemmas.Bool.{and_parts, cases_eq}
 use Rattle.kw_words.specs.declared.layout.Name.TheVariants as name
 use Rattle.kw_words.specs.Count.{count_of}
 use Rattle.kw_world.specs.declared.activity.Activity.{Activity}
-use Rattle.kw_world.specs.declared.activity.Activity.TheVariants.{PutAdd, WriteVersion, Look, LookClock, LookHelp, ListFrom}
+use Rattle.kw_world.specs.declared.activity.look.Look.TheVariants as Look
+use Rattle.kw_world.specs.declared.activity.put.Put.TheVariants as Put
+use Rattle.kw_world.specs.declared.activity.read.Read.TheVariants as Read
+use Rattle.kw_world.specs.declared.activity.rebalance.Rebalance.TheVariants as Rebalance
+use Rattle.kw_world.specs.declared.activity.rebalance.write.Write.TheVariants as Write
 use Rattle.kw_world.specs.declared.event.Choice.{Choice}
 use Rattle.kw_world.specs.declared.local.Local.{Local}
 use Rattle.kw_world.specs.PutTransitions.{given_of, has_room}
@@ -63,12 +67,12 @@ set_within n o r c x w f q d p e = which ((q == r) && (d == c)) refl e
 
 module _ {z : Sizes} {r r' : Run} {s : ℕ} {choice : Choice} {l l' : Local} where
   pub within_keeps : (a : Activity) → Happens z r r' s choice l l' a → Inv z r → (q c p : ℕ) → r'.origin q c ≡ Some p → c < z.cells
-  within_keeps PutAdd h i q c p e = which (has_room z (count_of (word z r.world (name.Count l.row)))) refl (subst (λ (o : Origins). o q c ≡ Some p) h.origin e)
+  within_keeps (Activity.Put Put.Add) h i q c p e = which (has_room z (count_of (word z r.world (name.Count l.row)))) refl (subst (λ (o : Origins). o q c ≡ Some p) h.origin e)
     where
       which : (b : Bool) → has_room z (count_of (word z r.world (name.Count l.row))) ≡ b → (let o : Origins = if b then with_origin r.origin l.row (given_of (count_of (word z r.world (name.Count l.row)))) (length r.history.attempts) else r.origin in o) q c ≡ Some p → c < z.cells
       which true m x = set_within z.cells r.origin l.row (given_of (count_of (word z r.world (name.Count l.row)))) (Some (length r.history.attempts)) (room_below z (count_of (word z r.world (name.Count l.row))) m) i.readers.within q c p x
       which false m x = i.readers.within q c p x
-  within_keeps (WriteVersion j) h i q c p e =
+  within_keeps (Activity.Rebalance (Rebalance.Write (Write.Version j))) h i q c p e =
       set_within z.cells r.origin (infant l) j (copied r.origin l.row (slice_get (infant_cells l) j)) (subst (IsActivity z) h.activity (i.shape.sane.locals s l h.knows).ranges.activity) i.readers.within q c p (subst (λ (o : Origins). o q c ≡ Some p) h.origin e)
   within_keeps a h i q c p e = i.readers.within q c p (subst (λ (o : Origins). o q c ≡ Some p) h.origin e)
 
@@ -96,8 +100,8 @@ met_as f h l l' d c p g (inr n) = inr (record { stamped = n.stamped; noted = g c
 
 -- what the reader knows at the next look, or at the row's first link
 looks_next : (z : Sizes) (f : Listed) (h : History) (o : Origins) (j : ℕ) (next : Activity) (l : Local) (g : SeatLog) → NextLook z j next → ((c p : ℕ) → IsDue h o l.row l.call g.looked c p → (attempt h p).seat < j → IsReady f h l c p) → Looks z f h o next (record l { activity = next }) g
-looks_next z f h o j _ l g (looks w) y = record { past = λ c p d i. ready_at f h l (Look j) c p (y c p d i); here = λ m. absurd m }
-looks_next z f h o j _ l g (lists w) y = record { past = λ c p d i. ready_at f h l ListFrom c p (y c p d (omega (arith, i, w))); here = λ m. absurd m }
+looks_next z f h o j _ l g (looks w) y = record { past = λ c p d i. ready_at f h l (Activity.Look (Look.Entry j)) c p (y c p d i); here = λ m. absurd m }
+looks_next z f h o j _ l g (lists w) y = record { past = λ c p d i. ready_at f h l (Activity.Read Read.Link) c p (y c p d (omega (arith, i, w))); here = λ m. absurd m }
 
 -- a seat below the next one is below this one, or is this one
 pub below_next : (a i : ℕ) → a < i + 1 → (a < i) ⊎ (a ≡ i)
@@ -192,7 +196,7 @@ module _ {z : Sizes} {r r' : Run} {s : ℕ} {choice : Choice} {l l' : Local} {a 
   ranges = (i.shape.sane.locals s l h.knows).ranges
 
 -- a look at an entry
-module _ {z : Sizes} {r r' : Run} {s : ℕ} {choice : Choice} {l l' : Local} (j : ℕ) (h : Happens z r r' s choice l l' (Look j)) (i : Inv z r) where
+module _ {z : Sizes} {r r' : Run} {s : ℕ} {choice : Choice} {l l' : Local} (j : ℕ) (h : Happens z r r' s choice l l' (Activity.Look (Look.Entry j))) (i : Inv z r) where
   -- the word is as it was found
   look_found : word z r'.world (name.Pend l.row j) ≡ word z r.world (name.Pend l.row j)
   look_found = h.changed.loaded refl (name.Pend l.row j)
@@ -206,7 +210,7 @@ module _ {z : Sizes} {r r' : Run} {s : ℕ} {choice : Choice} {l l' : Local} (j 
   look_seat = subst (IsActivity z) h.activity (ranges h i).activity
 
 -- the key of the cell of a pending entry is loaded, or the clock, or the entry is stamped
-module _ {z : Sizes} {r r' : Run} {s : ℕ} {choice : Choice} {l l' : Local} (h : Happens z r r' s choice l l' LookHelp) (i : Inv z r) where
+module _ {z : Sizes} {r r' : Run} {s : ℕ} {choice : Choice} {l l' : Local} (h : Happens z r r' s choice l l' (Activity.Look Look.Help)) (i : Inv z r) where
   -- the cell is one that an entry may name
   help_cell : l.met < MOST_CELLS
   help_cell = omega (arith, (ranges h i).met, i.shape.sane.sized.few_cells)
@@ -224,7 +228,7 @@ module _ {z : Sizes} {r r' : Run} {s : ℕ} {choice : Choice} {l l' : Local} (h 
   help_found c version e = ap pend_of (help_kept (λ x. let y : Some (pend.Stamped c version) ≡ Some (pend.Pending l.met) = sym e ∙ x in cc)) ∙ e
 
   -- what the reader knew
-  help_after : Looks z r'.listed r'.history r'.origin LookHelp l (r'.seats s)
+  help_after : Looks z r'.listed r'.history r'.origin (Activity.Look Look.Help) l (r'.seats s)
   help_after = looks_after h i tt (ap (λ g. g.looked) h.log)
 
 -- the cells that the acting reader remembers
@@ -281,7 +285,7 @@ looks_by z r r' s choice l _ _ (meets_pending j d e) h i k p = record {
 }
 looks_by z r r' s choice l _ _ (meets_stamped j d version next e n) h i k p = looks_next z r'.listed r'.history r'.origin (j + 1) next (remembering d version l) (r'.seats s) n (each_below r'.listed r'.history r'.origin (remembering d version l) (r'.seats s).looked j (λ c p x w. ready_more r'.listed r'.history l d version c p (look_past j h i c p x w)) (λ c p x f. stamped_here k (within h i) l (row_linked_on h i tt) j (r'.seats s).looked c p x f d version (ap pend_of (look_found j h i) ∙ e)))
 looks_by z r r' s choice l _ _ (meets_neither j next e n) h i k p = looks_next z r'.listed r'.history r'.origin (j + 1) next l (r'.seats s) n (each_below r'.listed r'.history r'.origin l (r'.seats s).looked j (look_past j h i) (λ c p x f. neither_here k (within h i) l (row_linked_on h i tt) j (r'.seats s).looked c p x f (λ y. e.pending _ (sym (ap pend_of (look_found j h i)) ∙ y)) (λ d u y. e.stamped d u (sym (ap pend_of (look_found j h i)) ∙ y))))
-looks_by z r r' s choice l _ _ (is_wanted e) h i k p = let n = looks_after h i tt (ap (λ g. g.looked) h.log) in record { past = λ c p x w. ready_at r'.listed r'.history l LookClock c p (n.past c p x w); here = λ m c p x f. met_as r'.listed r'.history l _ l.met c p (λ u v. v) (n.here tt c p x f) }
+looks_by z r r' s choice l _ _ (is_wanted e) h i k p = let n = looks_after h i tt (ap (λ g. g.looked) h.log) in record { past = λ c p x w. ready_at r'.listed r'.history l (Activity.Look Look.Clock) c p (n.past c p x w); here = λ m c p x f. met_as r'.listed r'.history l _ l.met c p (λ u v. v) (n.here tt c p x f) }
 looks_by z r r' s choice l _ _ (is_passed next e n) h i k p = let m = looks_after h i tt (ap (λ g. g.looked) h.log) in
     looks_next z r'.listed r'.history r'.origin (l.looked + 1) next l (r'.seats s) n (each_below r'.listed r'.history r'.origin l (r'.seats s).looked l.looked m.past (λ c p x f. passed k (within h i) l (row_linked_on h i tt) (word z r.world (name.Key l.row l.met)) c p (r'.seats s).looked (h.changed.loaded refl (name.Key l.row l.met)) e x (m.here tt c p x f)))
 looks_by z r r' s choice l _ _ loads_to_help h i k p = let n = looks_after h i tt (ap (λ g. g.looked) h.log) in record { past = λ c p x w. let y = n.past c p x w in record { stamped = y.stamped; noted = y.noted }; here = λ m c p x f. met_as r'.listed r'.history l _ l.met c p (λ u v. v) (n.here tt c p x f) }

@@ -12,7 +12,12 @@ use Rattle.kw_words.specs.Scan.{scan_of, scan_word}
 use Rattle.kw_words.proofs.ScanWords.{scan_word_of}
 use Rattle.kw_rows.specs.Rows.{WasLinked}
 use Rattle.kw_world.specs.declared.activity.Activity.{Activity}
-use Rattle.kw_world.specs.declared.activity.Activity.TheVariants.{Again, BalClock, BalEpoch, BalState, BalNormal, Engage, MarkLink, Decide, FreezeCount, Normalise, Number, Retire, FreezeLook, Freeze, HelpDraw, HelpSettle, Leave, ScanLook, ScanWait, TakeFrom}
+use Rattle.kw_world.specs.declared.activity.draw.Draw.TheVariants as Draw
+use Rattle.kw_world.specs.declared.activity.rebalance.engage.Engage.TheVariants as Engage
+use Rattle.kw_world.specs.declared.activity.rebalance.freeze.Freeze.TheVariants as Freeze
+use Rattle.kw_world.specs.declared.activity.rebalance.gather.Gather.TheVariants as Gather
+use Rattle.kw_world.specs.declared.activity.rebalance.Rebalance.TheVariants as Rebalance
+use Rattle.kw_world.specs.declared.activity.rebalance.replace.Replace.TheVariants as Replace
 use Rattle.kw_world.specs.declared.event.Choice.{Choice}
 use Rattle.kw_world.specs.declared.local.Local.{Local}
 use Rattle.kw_world.specs.Sane.{IsActivity, IsKnownWord, frozen_by, needed_by}
@@ -57,29 +62,24 @@ record PassesRow (z : Sizes) (a : Activity) : Type 0 where
 
 -- a seat that has passed all entries has frozen the row
 passed_frozen : (a : Activity) → HasPassedRow a → HasFrozen a
-passed_frozen (FreezeLook i) x = absurd x
-passed_frozen (Freeze i) x = absurd x
+passed_frozen (Activity.Rebalance (Rebalance.Freeze (Freeze.Look i))) x = absurd x
+passed_frozen (Activity.Rebalance (Rebalance.Freeze (Freeze.Entry i))) x = absurd x
+passed_frozen (Activity.Rebalance (Rebalance.Replace Replace.First)) x = x
 passed_frozen _ x = x
 
 -- it has passed as many as there are seats
 passed_all : (z : Sizes) (a : Activity) → HasPassedRow a → frozen_by z a ≡ z.seats
-passed_all z (FreezeLook i) x = absurd x
-passed_all z (Freeze i) x = absurd x
+passed_all z (Activity.Rebalance (Rebalance.Freeze (Freeze.Look i))) x = absurd x
+passed_all z (Activity.Rebalance (Rebalance.Freeze (Freeze.Entry i))) x = absurd x
 passed_all z _ x = refl
 
 -- a seat that has frozen a row rebalances
 frozen_balances : (a : Activity) → HasFrozen a → IsBalancing a
-frozen_balances BalClock x = tt
-frozen_balances BalEpoch x = tt
-frozen_balances BalState x = tt
-frozen_balances (BalNormal seat) x = tt
-frozen_balances Engage x = tt
-frozen_balances (MarkLink count) x = tt
-frozen_balances (Decide count) x = tt
-frozen_balances FreezeCount x = tt
-frozen_balances Normalise x = tt
-frozen_balances Number x = tt
-frozen_balances Retire x = tt
+frozen_balances (Activity.Rebalance (Rebalance.Engage _)) x = tt
+frozen_balances (Activity.Rebalance (Rebalance.Freeze Freeze.Count)) x = tt
+frozen_balances (Activity.Rebalance (Rebalance.Replace Replace.Normalise)) x = tt
+frozen_balances (Activity.Rebalance (Rebalance.Replace Replace.Number)) x = tt
+frozen_balances (Activity.Rebalance (Rebalance.Replace Replace.Retire)) x = tt
 frozen_balances _ x = x
 
 -- all of it at once
@@ -152,8 +152,8 @@ module _ (z : Sizes) (r r' : Run) (s : ℕ) (choice : Choice) (l : Local) (a : A
       n = c.needs t k g x
 
       within : (j : ℕ) (b : Activity) → k.activity ≡ b → HelpsScan j b → j < z.seats
-      within j (HelpDraw m) e y = subst (λ q. q < z.seats) (sym y) (subst (IsActivity z) e (i.shape.sane.locals t k g).ranges.activity)
-      within j (HelpSettle m) e y = subst (λ q. q < z.seats) (sym y) (subst (IsActivity z) e (i.shape.sane.locals t k g).ranges.activity)
+      within j (Activity.Rebalance (Rebalance.Freeze (Freeze.Draw m))) e y = subst (λ q. q < z.seats) (sym y) (subst (IsActivity z) e (i.shape.sane.locals t k g).ranges.activity)
+      within j (Activity.Rebalance (Rebalance.Freeze (Freeze.Settle m))) e y = subst (λ q. q < z.seats) (sym y) (subst (IsActivity z) e (i.shape.sane.locals t k g).ranges.activity)
       within j _ e y = absurd y
 
       again : (j clock : ℕ) → HelpsScan j k.activity → word z r'.world (name.Scan j) ≡ scan_word (Waiting clock) → (clock ≡ k.rebalance.waiting) ⊎ (n.since < r'.ledger.waits j)
@@ -182,7 +182,7 @@ module _ (z : Sizes) (r r' : Run) (s : ℕ) (choice : Choice) (l : Local) (a : A
       (still_covered b m n)
 
 -- all scans are still to be looked at
-needs_start : (z : Sizes) (r r' : Run) (s : ℕ) (choice : Choice) (l : Local) (a : Activity) (l' : Local) → Happens z r r' s choice l l' a → Below z r → Step r.history r'.history (log_entry z r a s choice l) → Below z r' → Contents z r → a ≢ ScanWait → l'.activity ≡ ScanLook 0 → Needs z r' (ScanLook 0) l'
+needs_start : (z : Sizes) (r r' : Run) (s : ℕ) (choice : Choice) (l : Local) (a : Activity) (l' : Local) → Happens z r r' s choice l l' a → Below z r → Step r.history r'.history (log_entry z r a s choice l) → Below z r' → Contents z r → a ≢ Activity.Draw Draw.Wait → l'.activity ≡ Activity.Rebalance (Rebalance.Freeze (Freeze.Scan 0)) → Needs z r' (Activity.Rebalance (Rebalance.Freeze (Freeze.Scan 0))) l'
 needs_start z r r' s choice l a l' h i st after c d e = record {
   most = word z r'.world name.Clock;
   since = length r.history.log;
@@ -269,7 +269,7 @@ module _ (z : Sizes) (r r' : Run) (s : ℕ) (choice : Choice) (l : Local) (a : A
 own_seat : (z : Sizes) (r r' : Run) (s : ℕ) (choice : Choice) (l : Local) (a : Activity) (l' : Local) → Happens z r r' s choice l l' a → Below z r → IsActivity z a
 own_seat z r r' s choice l a l' h i = subst (IsActivity z) h.activity (i.shape.sane.locals s l h.knows).ranges.activity
 
-module _ (z : Sizes) (r r' : Run) (s : ℕ) (choice : Choice) (l l' : Local) (m : ℕ) (h : Happens z r r' s choice l l' (HelpSettle m)) (i : Below z r) (st : Step r.history r'.history (log_entry z r (HelpSettle m) s choice l)) (c : Contents z r) where
+module _ (z : Sizes) (r r' : Run) (s : ℕ) (choice : Choice) (l l' : Local) (m : ℕ) (h : Happens z r r' s choice l l' (Activity.Rebalance (Rebalance.Freeze (Freeze.Settle m)))) (i : Below z r) (st : Step r.history r'.history (log_entry z r (Activity.Rebalance (Rebalance.Freeze (Freeze.Settle m))) s choice l)) (c : Contents z r) where
   -- a word that does not wait as the seat found it is left alone
   left_alone : word z r.world (name.Scan m) ≢ scan_word (Waiting l.rebalance.waiting) → word z r'.world (name.Scan m) ≡ word z r.world (name.Scan m)
   left_alone d = not_exchanged _ _ _ _ h.changed.same d
@@ -280,41 +280,41 @@ module _ (z : Sizes) (r r' : Run) (s : ℕ) (choice : Choice) (l l' : Local) (m 
     where
       quiet : (scan_of (word z r.world (name.Scan m)) ≡ Some Quiet) ⊎ (scan_of (word z r.world (name.Scan m)) ≡ None) → Needs z r' b k
       quiet f =
-          let q = is_quiet z r m i (own_seat z r r' s choice l (HelpSettle m) l' h i) f in
-          passes_quiet z r r' s choice l (HelpSettle m) l' h i st c tt m b k e needed refl g (left_alone (λ y. let x : scan_word Quiet ≡ scan_word (Waiting l.rebalance.waiting) = sym q ∙ y in omega (arith, x)) ∙ q) n
+          let q = is_quiet z r m i (own_seat z r r' s choice l (Activity.Rebalance (Rebalance.Freeze (Freeze.Settle m))) l' h i) f in
+          passes_quiet z r r' s choice l (Activity.Rebalance (Rebalance.Freeze (Freeze.Settle m))) l' h i st c tt m b k e needed refl g (left_alone (λ y. let x : scan_word Quiet ≡ scan_word (Waiting l.rebalance.waiting) = sym q ∙ y in omega (arith, x)) ∙ q) n
 
-      waits : (clock : ℕ) → scan_of (word z r.world (name.Scan m)) ≡ Some (Waiting clock) → (clock ≡ l.rebalance.waiting) ⊎ ((own_needs z r r' s choice l (HelpSettle m) l' h i st c tt).since < r.ledger.waits m) → Needs z r' b k
+      waits : (clock : ℕ) → scan_of (word z r.world (name.Scan m)) ≡ Some (Waiting clock) → (clock ≡ l.rebalance.waiting) ⊎ ((own_needs z r r' s choice l (Activity.Rebalance (Rebalance.Freeze (Freeze.Settle m))) l' h i st c tt).since < r.ledger.waits m) → Needs z r' b k
       waits clock f (inl y) = absurd (w.waiting (f ∙ ap (λ v. Some (Waiting v)) y))
-      waits clock f (inr y) = passes_scan z r r' s choice l (HelpSettle m) l' h i st c tt m b k e refl g (λ u v. subst (λ xs. Contains xs u) (sym needed) v) (inr (omega (arith, y, waits_stay z r r' s choice l (HelpSettle m) l' h m (λ v t. cc)))) n
+      waits clock f (inr y) = passes_scan z r r' s choice l (Activity.Rebalance (Rebalance.Freeze (Freeze.Settle m))) l' h i st c tt m b k e refl g (λ u v. subst (λ xs. Contains xs u) (sym needed) v) (inr (omega (arith, y, waits_stay z r r' s choice l (Activity.Rebalance (Rebalance.Freeze (Freeze.Settle m))) l' h m (λ v t. cc)))) n
 
       which : (o : Option ScanWord) → scan_of (word z r.world (name.Scan m)) ≡ o → Needs z r' b k
       which None f = quiet (inr f)
       which (Some Quiet) f = quiet (inl f)
-      which (Some (Waiting clock)) f = waits clock f ((own_needs z r r' s choice l (HelpSettle m) l' h i st c tt).again m clock refl (sym (scan_word_of _ (Waiting clock) f)))
+      which (Some (Waiting clock)) f = waits clock f ((own_needs z r r' s choice l (Activity.Rebalance (Rebalance.Freeze (Freeze.Settle m))) l' h i st c tt).again m clock refl (sym (scan_word_of _ (Waiting clock) f)))
       which (Some (Drawn version)) f = absurd (w.drawn version f)
 
   -- one that waits as the seat found it has now what was drawn for it
   passes_helped : (b : Activity) (k : Local) → k.row ≡ l.row → k.rebalance.needed ≡ l.rebalance.needed ++ l.rebalance.drawn ∷ [] → needed_by z b ≤ m + 1 → scan_of (word z r.world (name.Scan m)) ≡ Some (Waiting l.rebalance.waiting) → ((j : ℕ) → HelpsScan j b → ⊥) → Needs z r' b k
-  passes_helped b k e needed g w n = passes_drawn z r r' s choice l (HelpSettle m) l' h i st c tt m l.rebalance.drawn b k e needed refl g (exchanged _ _ _ _ h.changed.same (sym (scan_word_of _ (Waiting l.rebalance.waiting) w))) n
+  passes_helped b k e needed g w n = passes_drawn z r r' s choice l (Activity.Rebalance (Rebalance.Freeze (Freeze.Settle m))) l' h i st c tt m l.rebalance.drawn b k e needed refl g (exchanged _ _ _ _ h.changed.same (sym (scan_word_of _ (Waiting l.rebalance.waiting) w))) n
 
   -- one that has drawn keeps it
   passes_found : (version : ℕ) (b : Activity) (k : Local) → k.row ≡ l.row → k.rebalance.needed ≡ l.rebalance.needed ++ version ∷ [] → needed_by z b ≤ m + 1 → scan_of (word z r.world (name.Scan m)) ≡ Some (Drawn version) → ((j : ℕ) → HelpsScan j b → ⊥) → Needs z r' b k
   passes_found version b k e needed g w n =
       let q = sym (scan_word_of _ (Drawn version) w) in
-      passes_drawn z r r' s choice l (HelpSettle m) l' h i st c tt m version b k e needed refl g (left_alone (λ y. let x : scan_word (Drawn version) ≡ scan_word (Waiting l.rebalance.waiting) = sym q ∙ y in omega (arith, x)) ∙ q) n
+      passes_drawn z r r' s choice l (Activity.Rebalance (Rebalance.Freeze (Freeze.Settle m))) l' h i st c tt m version b k e needed refl g (left_alone (λ y. let x : scan_word (Drawn version) ≡ scan_word (Waiting l.rebalance.waiting) = sym q ∙ y in omega (arith, x)) ∙ q) n
 
-module _ (z : Sizes) (r r' : Run) (s : ℕ) (choice : Choice) (l l' : Local) (m : ℕ) (h : Happens z r r' s choice l l' (ScanLook m)) (i : Below z r) (st : Step r.history r'.history (log_entry z r (ScanLook m) s choice l)) (c : Contents z r) where
+module _ (z : Sizes) (r r' : Run) (s : ℕ) (choice : Choice) (l l' : Local) (m : ℕ) (h : Happens z r r' s choice l l' (Activity.Rebalance (Rebalance.Freeze (Freeze.Scan m)))) (i : Below z r) (st : Step r.history r'.history (log_entry z r (Activity.Rebalance (Rebalance.Freeze (Freeze.Scan m))) s choice l)) (c : Contents z r) where
   -- a look leaves the word
   same_word : word z r'.world (name.Scan m) ≡ word z r.world (name.Scan m)
   same_word = h.changed.loaded refl (name.Scan m)
 
   -- a scan that is not at work needs nothing
   looks_quiet : (b : Activity) (k : Local) → k.row ≡ l.row → k.rebalance.needed ≡ l.rebalance.needed → needed_by z b ≤ m + 1 → (scan_of (word z r.world (name.Scan m)) ≡ Some Quiet) ⊎ (scan_of (word z r.world (name.Scan m)) ≡ None) → ((j : ℕ) → HelpsScan j b → ⊥) → Needs z r' b k
-  looks_quiet b k e needed g w n = passes_quiet z r r' s choice l (ScanLook m) l' h i st c tt m b k e needed refl g (same_word ∙ is_quiet z r m i (own_seat z r r' s choice l (ScanLook m) l' h i) w) n
+  looks_quiet b k e needed g w n = passes_quiet z r r' s choice l (Activity.Rebalance (Rebalance.Freeze (Freeze.Scan m))) l' h i st c tt m b k e needed refl g (same_word ∙ is_quiet z r m i (own_seat z r r' s choice l (Activity.Rebalance (Rebalance.Freeze (Freeze.Scan m))) l' h i) w) n
 
   -- one that has drawn needs that version
   looks_drawn : (version : ℕ) (b : Activity) (k : Local) → k.row ≡ l.row → k.rebalance.needed ≡ l.rebalance.needed ++ version ∷ [] → needed_by z b ≤ m + 1 → scan_of (word z r.world (name.Scan m)) ≡ Some (Drawn version) → ((j : ℕ) → HelpsScan j b → ⊥) → Needs z r' b k
-  looks_drawn version b k e needed g w n = passes_drawn z r r' s choice l (ScanLook m) l' h i st c tt m version b k e needed refl g (same_word ∙ sym (scan_word_of _ (Drawn version) w)) n
+  looks_drawn version b k e needed g w n = passes_drawn z r r' s choice l (Activity.Rebalance (Rebalance.Freeze (Freeze.Scan m))) l' h i st c tt m version b k e needed refl g (same_word ∙ sym (scan_word_of _ (Drawn version) w)) n
 
 -- a seat that builds after the event had passed its row, and needs as many scans
 built_passed : {z : Sizes} {v : Words} {choice : Choice} {l : Local} (a : Activity) (k : Local) → Building z v choice l a k → HasPassedRow k.activity → HasPassedRow a
@@ -327,22 +327,23 @@ built_passed a k b x = tt
 
 -- such a seat builds
 after_passed : (a : Activity) → IsAfterBuilding a → HasPassedRow a → IsBuilding a
-after_passed Again n x = absurd x
-after_passed BalClock n x = absurd x
-after_passed (Leave answer) n x = absurd x
+after_passed Activity.Retry n x = absurd x
+after_passed (Activity.Rebalance (Rebalance.Engage Engage.Clock)) n x = absurd x
+after_passed (Activity.Leave answer) n x = absurd x
+after_passed (Activity.Rebalance (Rebalance.Freeze Freeze.Count)) n x = n
 after_passed _ n x = n
 
 -- it has looked at all scans
 built_needed : (z : Sizes) (a : Activity) → IsBuilding a → needed_by z a ≡ z.seats
-built_needed z (ScanLook i) b = absurd b
-built_needed z (HelpDraw i) b = absurd b
-built_needed z (HelpSettle i) b = absurd b
+built_needed z (Activity.Rebalance (Rebalance.Freeze (Freeze.Scan i))) b = absurd b
+built_needed z (Activity.Rebalance (Rebalance.Freeze (Freeze.Draw i))) b = absurd b
+built_needed z (Activity.Rebalance (Rebalance.Freeze (Freeze.Settle i))) b = absurd b
 built_needed z _ b = refl
 
 -- and helps none
 built_helps : (j : ℕ) (a : Activity) → IsBuilding a → HelpsScan j a → ⊥
-built_helps j (HelpDraw i) b x = b
-built_helps j (HelpSettle i) b x = b
+built_helps j (Activity.Rebalance (Rebalance.Freeze (Freeze.Draw i))) b x = b
+built_helps j (Activity.Rebalance (Rebalance.Freeze (Freeze.Settle i))) b x = b
 built_helps j _ b x = x
 
 -- a word says of one clock that a scan waits since it
@@ -350,13 +351,13 @@ waits_since : (c n : ℕ) → scan_word (Waiting c) ≡ scan_word (Waiting n) �
 waits_since c n e = omega (arith, e)
 
 -- a draw for a scan leaves its word, and since when it waits
-still_again : (z : Sizes) (r r' : Run) (s : ℕ) (choice : Choice) (l l' : Local) (m : ℕ) (h : Happens z r r' s choice l l' (HelpDraw m)) (i : Below z r) (st : Step r.history r'.history (log_entry z r (HelpDraw m) s choice l)) (c : Contents z r) (clock : ℕ) → word z r'.world (name.Scan m) ≡ scan_word (Waiting clock) → (j : ℕ) → j ≡ m →
-    (clock ≡ l.rebalance.waiting) ⊎ ((own_needs z r r' s choice l (HelpDraw m) l' h i st c tt).since < r'.ledger.waits j)
-still_again z r r' s choice l l' m h i st c clock w j e = which ((own_needs z r r' s choice l (HelpDraw m) l' h i st c tt).again m clock refl (sym (unwritten (HelpDraw m) h (name.Scan m) (own_seat z r r' s choice l (HelpDraw m) l' h i) (λ y. cc)) ∙ w))
+still_again : (z : Sizes) (r r' : Run) (s : ℕ) (choice : Choice) (l l' : Local) (m : ℕ) (h : Happens z r r' s choice l l' (Activity.Rebalance (Rebalance.Freeze (Freeze.Draw m)))) (i : Below z r) (st : Step r.history r'.history (log_entry z r (Activity.Rebalance (Rebalance.Freeze (Freeze.Draw m))) s choice l)) (c : Contents z r) (clock : ℕ) → word z r'.world (name.Scan m) ≡ scan_word (Waiting clock) → (j : ℕ) → j ≡ m →
+    (clock ≡ l.rebalance.waiting) ⊎ ((own_needs z r r' s choice l (Activity.Rebalance (Rebalance.Freeze (Freeze.Draw m))) l' h i st c tt).since < r'.ledger.waits j)
+still_again z r r' s choice l l' m h i st c clock w j e = which ((own_needs z r r' s choice l (Activity.Rebalance (Rebalance.Freeze (Freeze.Draw m))) l' h i st c tt).again m clock refl (sym (unwritten (Activity.Rebalance (Rebalance.Freeze (Freeze.Draw m))) h (name.Scan m) (own_seat z r r' s choice l (Activity.Rebalance (Rebalance.Freeze (Freeze.Draw m))) l' h i) (λ y. cc)) ∙ w))
   where
-    which : (clock ≡ l.rebalance.waiting) ⊎ ((own_needs z r r' s choice l (HelpDraw m) l' h i st c tt).since < r.ledger.waits m) → (clock ≡ l.rebalance.waiting) ⊎ ((own_needs z r r' s choice l (HelpDraw m) l' h i st c tt).since < r'.ledger.waits j)
+    which : (clock ≡ l.rebalance.waiting) ⊎ ((own_needs z r r' s choice l (Activity.Rebalance (Rebalance.Freeze (Freeze.Draw m))) l' h i st c tt).since < r.ledger.waits m) → (clock ≡ l.rebalance.waiting) ⊎ ((own_needs z r r' s choice l (Activity.Rebalance (Rebalance.Freeze (Freeze.Draw m))) l' h i st c tt).since < r'.ledger.waits j)
     which (inl y) = inl y
-    which (inr y) = inr (omega (arith, y, ap r.ledger.waits e, waits_stay z r r' s choice l (HelpDraw m) l' h j (λ v t. cc)))
+    which (inr y) = inr (omega (arith, y, ap r.ledger.waits e, waits_stay z r r' s choice l (Activity.Rebalance (Rebalance.Freeze (Freeze.Draw m))) l' h j (λ v t. cc)))
 
 -- what the acting seat knows
 needs_by : (z : Sizes) (r r' : Run) (s : ℕ) (choice : Choice) (l : Local) (a : Activity) (l' : Local) → Arrow z (word z r.world) s choice l a l' → Happens z r r' s choice l l' a → Below z r → Step r.history r'.history (log_entry z r a s choice l) → Below z r' → Contents z r → HasPassedRow l'.activity → Needs z r' l'.activity l'
@@ -367,22 +368,22 @@ needs_by z r r' s choice l a l' (builds b next y t) h i st after c x =
 needs_by z r r' s choice l a l' (remembers_last m n version e u) h i st after c x = needs_start z r r' s choice l a l' h i st after c (λ y. cc) refl
 needs_by z r r' s choice l a l' (meets_frozen_last m e u) h i st after c x = needs_start z r r' s choice l a l' h i st after c (λ y. cc) refl
 needs_by z r r' s choice l a l' (freezes_last m e u) h i st after c x = needs_start z r r' s choice l a l' h i st after c (λ y. cc) refl
-needs_by z r r' s choice l a l' (meets_quiet m e u) h i st after c x = looks_quiet z r r' s choice l l' m h i st c (ScanLook (m + 1)) l' refl refl (omega arith) e (λ j y. y)
-needs_by z r r' s choice l a l' (meets_quiet_last m e u) h i st after c x = looks_quiet z r r' s choice l l' m h i st c TakeFrom l' refl refl u e (λ j y. y)
-needs_by z r r' s choice l a l' (helps_scan m clock e) h i st after c x = needs_on z r r' s choice l a l' h i st a (HelpDraw m) l l' (own_row z r r' s choice l a l' h i st c tt) refl (own_needs z r r' s choice l a l' h i st c tt)
+needs_by z r r' s choice l a l' (meets_quiet m e u) h i st after c x = looks_quiet z r r' s choice l l' m h i st c (Activity.Rebalance (Rebalance.Freeze (Freeze.Scan (m + 1)))) l' refl refl (omega arith) e (λ j y. y)
+needs_by z r r' s choice l a l' (meets_quiet_last m e u) h i st after c x = looks_quiet z r r' s choice l l' m h i st c (Activity.Rebalance (Rebalance.Gather Gather.Link)) l' refl refl u e (λ j y. y)
+needs_by z r r' s choice l a l' (helps_scan m clock e) h i st after c x = needs_on z r r' s choice l a l' h i st a (Activity.Rebalance (Rebalance.Freeze (Freeze.Draw m))) l l' (own_row z r r' s choice l a l' h i st c tt) refl (own_needs z r r' s choice l a l' h i st c tt)
     (still_covered z r r' s choice l a l' h i st a l (own_needs z r r' s choice l a l' h i st c tt))
     (λ j n y w. inl (waits_since clock n (scan_word_of _ (Waiting clock) e ∙ sym (h.changed.loaded refl (name.Scan m)) ∙ subst (λ q. word z r'.world (name.Scan q) ≡ scan_word (Waiting n)) y w)))
-needs_by z r r' s choice l a l' (meets_drawn m version e u) h i st after c x = looks_drawn z r r' s choice l l' m h i st c version (ScanLook (m + 1)) l' refl refl (omega arith) e (λ j y. y)
-needs_by z r r' s choice l a l' (meets_drawn_last m version e u) h i st after c x = looks_drawn z r r' s choice l l' m h i st c version TakeFrom l' refl refl u e (λ j y. y)
-needs_by z r r' s choice l a l' (draws_for m) h i st after c x = needs_on z r r' s choice l a l' h i st a (HelpSettle m) l l' (own_row z r r' s choice l a l' h i st c tt) refl (own_needs z r r' s choice l a l' h i st c tt)
+needs_by z r r' s choice l a l' (meets_drawn m version e u) h i st after c x = looks_drawn z r r' s choice l l' m h i st c version (Activity.Rebalance (Rebalance.Freeze (Freeze.Scan (m + 1)))) l' refl refl (omega arith) e (λ j y. y)
+needs_by z r r' s choice l a l' (meets_drawn_last m version e u) h i st after c x = looks_drawn z r r' s choice l l' m h i st c version (Activity.Rebalance (Rebalance.Gather Gather.Link)) l' refl refl u e (λ j y. y)
+needs_by z r r' s choice l a l' (draws_for m) h i st after c x = needs_on z r r' s choice l a l' h i st a (Activity.Rebalance (Rebalance.Freeze (Freeze.Settle m))) l l' (own_row z r r' s choice l a l' h i st c tt) refl (own_needs z r r' s choice l a l' h i st c tt)
     (still_covered z r r' s choice l a l' h i st a l (own_needs z r r' s choice l a l' h i st c tt))
     (λ j n y w. still_again z r r' s choice l l' m h i st c n (subst (λ q. word z r'.world (name.Scan q) ≡ scan_word (Waiting n)) y w) j y)
-needs_by z r r' s choice l a l' (settles_scan m e u) h i st after c x = passes_helped z r r' s choice l l' m h i st c (ScanLook (m + 1)) l' refl refl (omega arith) e (λ j y. y)
-needs_by z r r' s choice l a l' (settles_last m e u) h i st after c x = passes_helped z r r' s choice l l' m h i st c TakeFrom l' refl refl u e (λ j y. y)
-needs_by z r r' s choice l a l' (finds_drawn m version e u) h i st after c x = passes_found z r r' s choice l l' m h i st c version (ScanLook (m + 1)) l' refl refl (omega arith) e (λ j y. y)
-needs_by z r r' s choice l a l' (finds_drawn_last m version e u) h i st after c x = passes_found z r r' s choice l l' m h i st c version TakeFrom l' refl refl u e (λ j y. y)
-needs_by z r r' s choice l a l' (finds_no_scan m e u) h i st after c x = passes_none z r r' s choice l l' m h i st c (ScanLook (m + 1)) l' refl refl (omega arith) e (λ j y. y)
-needs_by z r r' s choice l a l' (finds_no_scan_last m e u) h i st after c x = passes_none z r r' s choice l l' m h i st c TakeFrom l' refl refl u e (λ j y. y)
+needs_by z r r' s choice l a l' (settles_scan m e u) h i st after c x = passes_helped z r r' s choice l l' m h i st c (Activity.Rebalance (Rebalance.Freeze (Freeze.Scan (m + 1)))) l' refl refl (omega arith) e (λ j y. y)
+needs_by z r r' s choice l a l' (settles_last m e u) h i st after c x = passes_helped z r r' s choice l l' m h i st c (Activity.Rebalance (Rebalance.Gather Gather.Link)) l' refl refl u e (λ j y. y)
+needs_by z r r' s choice l a l' (finds_drawn m version e u) h i st after c x = passes_found z r r' s choice l l' m h i st c version (Activity.Rebalance (Rebalance.Freeze (Freeze.Scan (m + 1)))) l' refl refl (omega arith) e (λ j y. y)
+needs_by z r r' s choice l a l' (finds_drawn_last m version e u) h i st after c x = passes_found z r r' s choice l l' m h i st c version (Activity.Rebalance (Rebalance.Gather Gather.Link)) l' refl refl u e (λ j y. y)
+needs_by z r r' s choice l a l' (finds_no_scan m e u) h i st after c x = passes_none z r r' s choice l l' m h i st c (Activity.Rebalance (Rebalance.Freeze (Freeze.Scan (m + 1)))) l' refl refl (omega arith) e (λ j y. y)
+needs_by z r r' s choice l a l' (finds_no_scan_last m e u) h i st after c x = passes_none z r r' s choice l l' m h i st c (Activity.Rebalance (Rebalance.Gather Gather.Link)) l' refl refl u e (λ j y. y)
 needs_by z r r' s choice l a l' (take_leads n e) h i st after c x = goes_on z r r' s choice l a l' h i st c tt _ l' refl refl refl (λ j y. y)
 needs_by z r r' s choice l a l' (takes_left m e u) h i st after c x = goes_on z r r' s choice l a l' h i st c tt _ l' refl refl refl (λ j y. y)
 needs_by z r r' s choice l a l' (takes_no_more e u) h i st after c x = goes_on z r r' s choice l a l' h i st c tt _ l' refl refl refl (λ j y. y)

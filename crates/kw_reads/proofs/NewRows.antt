@@ -14,7 +14,9 @@ use Rattle.kw_rows.specs.Events.{IsIn}
 use Rattle.kw_rows.specs.Ledger.{Fate}
 use Rattle.kw_rows.specs.Rows.{bound}
 use Rattle.kw_rows.proofs.Named.{held_by}
-use Rattle.kw_world.specs.declared.activity.Activity.TheVariants.{Replace}
+use Rattle.kw_world.specs.declared.activity.Activity.TheVariants as Activity
+use Rattle.kw_world.specs.declared.activity.rebalance.Rebalance.TheVariants as Rebalance
+use Rattle.kw_world.specs.declared.activity.rebalance.replace.Replace.TheVariants as Replace
 use Rattle.kw_world.specs.declared.event.Choice.{Choice}
 use Rattle.kw_world.specs.declared.local.Local.{Local}
 use Rattle.kw_world.specs.SeekTransitions.{at_infant}
@@ -125,7 +127,7 @@ row_of_place [] n q e = let x : None ≡ Some q = e in absurd (cc)
 row_of_place (x ∷ xs) zero q e = inl (sym (same_Some x q e))
 row_of_place (x ∷ xs) (suc n) q e = inr (row_of_place xs n q e)
 
-module _ {z : Sizes} {r r' : Run} {s : ℕ} {choice : Choice} {l l' : Local} (h : Happens z r r' s choice l l' Replace) (i : Shape z r) (n q : ℕ) (e : slice_get l.rebalance.taken n ≡ Some q) where
+module _ {z : Sizes} {r r' : Run} {s : ℕ} {choice : Choice} {l l' : Local} (h : Happens z r r' s choice l l' (Activity.Rebalance (Rebalance.Replace Replace.Exchange))) (i : Shape z r) (n q : ℕ) (e : slice_get l.rebalance.taken n ≡ Some q) where
   -- its link leads to the next of the new rows, or to the row after the full one
   next_is : next_in (word z r.world) q ≡ row_or (slice_get l.rebalance.taken (n + 1)) l.rebalance.after
   next_is = let m = may_replace h i in ap (λ w. row_linked (link_of w)) ((m.whole n q e).next tt) ∙ ap row_linked (link_of-link_word (infant_link (at_infant n l)) (m.links n))
@@ -133,7 +135,7 @@ module _ {z : Sizes} {r r' : Run} {s : ℕ} {choice : Choice} {l l' : Local} (h 
   module _ (k : ℕ) (fate : r'.ledger.rows.fates q ≡ fate_live (word z r.world) (length r.history.log) q (r.ledger.rows.fates q)) (x : HoldsKey (word z r'.world) r'.ledger.rows q k) where
     -- the key is from its least one on
     key_from : infant_least (at_infant n l) ≤ k
-    key_from = omega (arith, x.from, ap key_of_word (least_word Replace h i.sane q (λ c. c)), least_of_new h i n q e)
+    key_from = omega (arith, x.from, ap key_of_word (least_word (Activity.Rebalance (Rebalance.Replace Replace.Exchange)) h i.sane q (λ c. c)), least_of_new h i n q e)
 
     -- and below what its link leads to
     key_below : (b : Option ℕ) → row_or (slice_get l.rebalance.taken (n + 1)) l.rebalance.after ≡ b → (p : ℕ) → b ≡ Some p → k < least_in (word z r.world) p
@@ -161,5 +163,5 @@ module _ {z : Sizes} {r r' : Run} {s : ℕ} {choice : Choice} {l l' : Local} (h 
       where
         next : n + 1 < length l.rebalance.starts → c.key < infant_least (at_infant (n + 1) l)
         next o =
-            let g = slice_get-get_or l.rebalance.taken (n + 1) 0 (omega (arith, o, ((infants_at Replace h i).enough tt).1)) in
+            let g = slice_get-get_or l.rebalance.taken (n + 1) 0 (omega (arith, o, ((infants_at (Activity.Rebalance (Rebalance.Replace Replace.Exchange)) h i).enough tt).1)) in
             omega (arith, f, key_below (Some (get_or l.rebalance.taken (n + 1) 0)) (ap (λ a. row_or a l.rebalance.after) g) (get_or l.rebalance.taken (n + 1) 0) refl, least_of_new h i (n + 1) (get_or l.rebalance.taken (n + 1) 0) g)

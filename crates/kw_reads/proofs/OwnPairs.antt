@@ -9,7 +9,9 @@ use Rattle.kw_world.specs.declared.answer.Answer.TheVariants.{Done, Value, Absen
 use Rattle.kw_world.specs.declared.answer.Answer.{Answer}
 use Rattle.kw_world.specs.Answers.{answer_found}
 use Rattle.kw_world.specs.declared.activity.Activity.{Activity}
-use Rattle.kw_world.specs.declared.activity.Activity.TheVariants.{ScanSettle, Start, ListFrom, ListKey, RestKey, RestVal, ClearScan, Leave}
+use Rattle.kw_world.specs.declared.activity.draw.Draw.TheVariants as Draw
+use Rattle.kw_world.specs.declared.activity.read.Read.TheVariants as Read
+use Rattle.kw_world.specs.declared.activity.walk.Walk.TheVariants as Walk
 use Rattle.kw_world.specs.declared.local.Local.{Local}
 use Rattle.kw_world.specs.declared.limits.TheConstants.{NEWEST}
 use Rattle.kw_world.specs.declared.event.Choice.{Choice}
@@ -60,10 +62,10 @@ covers_last h h' from version drawn bound pairs g b c = record {
 
 -- the stages of a seat that may be at the end of a row
 ending_reads : (a : Activity) → IsEnding a → IsReading a × IsCovering a × IsAtRow a × IsPastStart a × IsUnderway a
-ending_reads ListFrom x = (tt, tt, tt, tt, tt)
-ending_reads ListKey x = (tt, tt, tt, tt, tt)
-ending_reads RestKey x = (tt, tt, tt, tt, tt)
-ending_reads RestVal x = (tt, tt, tt, tt, tt)
+ending_reads (Activity.Read Read.Link) x = (tt, tt, tt, tt, tt)
+ending_reads (Activity.Read Read.Key) x = (tt, tt, tt, tt, tt)
+ending_reads (Activity.Read Read.LeftOverKey) x = (tt, tt, tt, tt, tt)
+ending_reads (Activity.Read Read.LeftOverValue) x = (tt, tt, tt, tt, tt)
 ending_reads _ x = absurd x
 
 -- a seat that has read one more word of its row: what it knows of its call, its row and its pairs
@@ -97,10 +99,10 @@ same_at v g t l m q x = record {
 
 -- a reader at the end of its row is in its pass
 ending_passes : (a : Activity) → IsEnding a → IsPassing a × (WritesPass a → ⊥)
-ending_passes ListFrom x = (tt, λ y. y)
-ending_passes ListKey x = (tt, λ y. y)
-ending_passes RestKey x = (tt, λ y. y)
-ending_passes RestVal x = (tt, λ y. y)
+ending_passes (Activity.Read Read.Link) x = (tt, λ y. y)
+ending_passes (Activity.Read Read.Key) x = (tt, λ y. y)
+ending_passes (Activity.Read Read.LeftOverKey) x = (tt, λ y. y)
+ending_passes (Activity.Read Read.LeftOverValue) x = (tt, λ y. y)
 ending_passes _ x = absurd x
 
 module _ (z : Sizes) (r r' : Run) (s : ℕ) (choice : Choice) (l : Local) (a : Activity) (l' : Local) (b : Arrow z (word z r.world) s choice l a l') (h : Happens z r r' s choice l l' a) (i : Before z r r') where
@@ -177,12 +179,12 @@ module _ (z : Sizes) (r r' : Run) (s : ℕ) (choice : Choice) (l : Local) (a : A
 -- The arrows that change the pairs.
 
 -- the answer of a get has no pairs
-found_covered : (x : Option ℕ) (h : History) (l : Local) (g : SeatLog) → IsCovered (Leave (answer_found x)) h l g
+found_covered : (x : Option ℕ) (h : History) (l : Local) (g : SeatLog) → IsCovered (Activity.Leave (answer_found x)) h l g
 found_covered (Some v) h l g = tt
 found_covered None h l g = tt
 
 -- a scan that begins its walk has no pairs yet
-pub settled_pairs : (h : History) (l k : Local) (g : SeatLog) → k.activity ≡ Start → k.want ≡ first_key k.call → k.pairs ≡ [] → is_range_empty k.call ≡ false → HasPairs h k.activity k g
+pub settled_pairs : (h : History) (l k : Local) (g : SeatLog) → k.activity ≡ Activity.Walk Walk.Start → k.want ≡ first_key k.call → k.pairs ≡ [] → is_range_empty k.call ≡ false → HasPairs h k.activity k g
 settled_pairs h l k g a w p e = subst (λ q. HasPairs h q k g) (sym a) (record {
   early = λ x. absurd x;
   from = λ f x. omega (arith, w);
@@ -196,10 +198,10 @@ pub no_pairs : (h : History) (call : Option Call) (version drawn : ℕ) → is_r
 no_pairs h call version drawn e = record { rises = tt; keys = λ key o u. absurd (omega (arith, o, u, below (last_key call) (first_key call) e)) }
 
 -- a scan that is over leaves with what it has, unless it is stopped
-pub leave_covered : (h h' : History) (l : Local) (k : Local) (g : SeatLog) (answer : Answer) (choice : Choice) → Grows h h' (length h.log) → g.drawn ≤ length h.log → k.call ≡ l.call → k.version ≡ l.version → k.pairs ≡ l.pairs → IsCovered (ClearScan answer) h l g → IsCovered (Leave (answer_or_stopped answer choice)) h' k g
+pub leave_covered : (h h' : History) (l : Local) (k : Local) (g : SeatLog) (answer : Answer) (choice : Choice) → Grows h h' (length h.log) → g.drawn ≤ length h.log → k.call ≡ l.call → k.version ≡ l.version → k.pairs ≡ l.pairs → IsCovered (Activity.EndScan answer) h l g → IsCovered (Activity.Leave (answer_or_stopped answer choice)) h' k g
 leave_covered h h' l k g answer choice y w c v p x = chosen choice
   where
-    kept : (q : Answer) → IsCovered (ClearScan q) h l g → IsCovered (Leave q) h' k g
+    kept : (q : Answer) → IsCovered (Activity.EndScan q) h l g → IsCovered (Activity.Leave q) h' k g
     kept Pairs x = rw (c, v, p) (covers_last h h' _ _ _ _ _ y w x)
     kept Done x = tt
     kept (Value n) x = tt
@@ -208,7 +210,7 @@ leave_covered h h' l k g answer choice y w c v p x = chosen choice
     kept Spent x = tt
     kept Stopped x = tt
 
-    chosen : (q : Choice) → IsCovered (Leave (answer_or_stopped answer q)) h' k g
+    chosen : (q : Choice) → IsCovered (Activity.Leave (answer_or_stopped answer q)) h' k g
     chosen (Begin call) = kept answer x
     chosen Go = kept answer x
     chosen (Guess n) = kept answer x
@@ -216,7 +218,8 @@ leave_covered h h' l k g answer choice y w c v p x = chosen choice
 
 -- a seat at the end of a row does not settle
 ending_no_settling : (a : Activity) → IsEnding a → IsSettling a → ⊥
-ending_no_settling ScanSettle x y = x
+ending_no_settling (Activity.Draw Draw.Settle) x y = x
+ending_no_settling (Activity.Read Read.Link) x y = y
 ending_no_settling _ x y = y
 
 -- a scan reads at its version, and knows what was announced before it drew
@@ -283,7 +286,7 @@ cell_pairs z r r' s choice l a m l' b h i n v x q (scans_on k w e f o) = record 
 -- The answer of a get.
 
 -- a put has no answer of a get
-pub put_answered : (c : Option Call) (answer : Answer) (h : History) (l : Local) (g : SeatLog) → IsPutCall c → IsAnswered (Leave answer) c h l g
+pub put_answered : (c : Option Call) (answer : Answer) (h : History) (l : Local) (g : SeatLog) → IsPutCall c → IsAnswered (Activity.Leave answer) c h l g
 put_answered (Some (Put key value)) answer h l g x = tt
 put_answered (Some (Del key)) answer h l g x = tt
 put_answered (Some (Get key)) answer h l g x = absurd x
@@ -291,7 +294,7 @@ put_answered (Some (Scan from upto)) answer h l g x = tt
 put_answered None answer h l g x = tt
 
 -- nor has a scan
-pub scan_answered : (c : Option Call) (answer : Answer) (h : History) (l : Local) (g : SeatLog) → is_scan c ≡ true → IsAnswered (Leave answer) c h l g
+pub scan_answered : (c : Option Call) (answer : Answer) (h : History) (l : Local) (g : SeatLog) → is_scan c ≡ true → IsAnswered (Activity.Leave answer) c h l g
 scan_answered (Some (Put key value)) answer h l g x = tt
 scan_answered (Some (Del key)) answer h l g x = tt
 scan_answered (Some (Get key)) answer h l g x = true_false x refl
@@ -299,7 +302,7 @@ scan_answered (Some (Scan from upto)) answer h l g x = tt
 scan_answered None answer h l g x = tt
 
 -- nor has a call that is a scan
-pub scan_call_answered : (c : Option Call) (answer : Answer) (h : History) (l : Local) (g : SeatLog) → IsScanCall c → IsAnswered (Leave answer) c h l g
+pub scan_call_answered : (c : Option Call) (answer : Answer) (h : History) (l : Local) (g : SeatLog) → IsScanCall c → IsAnswered (Activity.Leave answer) c h l g
 scan_call_answered (Some (Put key value)) answer h l g x = tt
 scan_call_answered (Some (Del key)) answer h l g x = tt
 scan_call_answered (Some (Get key)) answer h l g x = absurd x
@@ -326,12 +329,12 @@ cell_answered z r r' s choice l a m l' b h i n v x q (answers w e) = which m.cal
     read : HasReadRow z r' s m (r'.seats s) NEWEST (called r'.history (r'.seats s).call).first
     read = get_row z r' s m e (read_row z r r' s choice l a l' b h i n x m q (record { call = refl; gathered = refl; keeping = tt; no_cell = refl }))
 
-    get : (key : ℕ) → m.call ≡ Some (Get key) → IsAnswered (Leave (answer_found (shown_at m.gathered NEWEST key))) (Some (Get key)) r'.history l' (r'.seats s)
+    get : (key : ℕ) → m.call ≡ Some (Get key) → IsAnswered (Activity.Leave (answer_found (shown_at m.gathered NEWEST key))) (Some (Get key)) r'.history l' (r'.seats s)
     get key c = subst (λ x. AnswersGet r'.history key (called r'.history (r'.seats s).call).first x (best_id m.gathered (r'.seats s).ids key NEWEST)) (sym (reply_of-found (shown_at m.gathered NEWEST key) m.pairs))
         (get_known z r' i.after v s m (r'.seats s) NEWEST (called r'.history (r'.seats s).call).first read (omega (arith, first_before_look z r r' s choice l a l' b h i t.0 t.4)) key refl (want ∙ ap first_key c)
         (in_range_of m.call key (omega (arith, ap first_key c)) (omega (arith, ap last_key c))))
 
-    which : (c : Option Call) → m.call ≡ c → IsAnswered (Leave (answer_found (shown_at m.gathered NEWEST (first_key c)))) c r'.history l' (r'.seats s)
+    which : (c : Option Call) → m.call ≡ c → IsAnswered (Activity.Leave (answer_found (shown_at m.gathered NEWEST (first_key c)))) c r'.history l' (r'.seats s)
     which (Some (Put key value)) c = tt
     which (Some (Del key)) c = tt
     which (Some (Get key)) c = get key c

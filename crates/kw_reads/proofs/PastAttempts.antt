@@ -7,7 +7,7 @@ use Rattle.std.proofs.lemmas.Bool.{cases_eq, cases_lt}
 use Rattle.std.proofs.lemmas.Option.{same_Some}
 use Rattle.kw_rows.specs.Ledger.{Dead, Live}
 use Rattle.kw_world.specs.declared.activity.Activity.{Activity}
-use Rattle.kw_world.specs.declared.activity.Activity.TheVariants.{Again, Enter, Leave}
+use Rattle.kw_world.specs.declared.activity.enter.Enter.TheVariants as Enter
 use Rattle.kw_world.specs.declared.event.Choice.{Choice}
 use Rattle.kw_world.specs.declared.local.Local.{Local}
 use Rattle.kw_world.specs.Sizes.{Sizes}
@@ -34,21 +34,21 @@ use Rattle.kw_reads.proofs.Stamping.{StampsNow, StampStep, stamps_none, stamps_o
 
 -- a pass that is on after an event was so before it, or begins now
 pass_was : {z : Sizes} {r r' : Run} {s : ℕ} {choice : Choice} {l l' : Local} (a : Activity) → Happens z r r' s choice l l' a → (t since : ℕ) → r'.ledger.rows.passes t ≡ Some since → (r.ledger.rows.passes t ≡ Some since) ⊎ (since ≡ length r.history.log)
-pass_was {z} {r} {r'} {s} {choice} {l} {l'} Enter h t since e = which (cases_eq t s)
+pass_was {z} {r} {r'} {s} {choice} {l} {l'} (Activity.Enter Enter.Announce) h t since e = which (cases_eq t s)
   where
     which : (t ≡ s) ⊎ (t ≡ s → ⊥) → (r.ledger.rows.passes t ≡ Some since) ⊎ (since ≡ length r.history.log)
     which (inl f) = inr (same_Some since (length r.history.log) (sym e ∙ ap r'.ledger.rows.passes f ∙ pass_begins h))
-    which (inr d) = inl (sym (others_kept Enter h t d) ∙ e)
-pass_was {z} {r} {r'} {s} {choice} {l} {l'} (Leave answer) h t since e = which (cases_eq t s)
+    which (inr d) = inl (sym (others_kept (Activity.Enter Enter.Announce) h t d) ∙ e)
+pass_was {z} {r} {r'} {s} {choice} {l} {l'} (Activity.Leave answer) h t since e = which (cases_eq t s)
   where
     which : (t ≡ s) ⊎ (t ≡ s → ⊥) → (r.ledger.rows.passes t ≡ Some since) ⊎ (since ≡ length r.history.log)
     which (inl f) = let x : None ≡ Some since = sym (pass_ends answer h) ∙ sym (ap r'.ledger.rows.passes f) ∙ e in absurd (cc)
-    which (inr d) = inl (sym (others_kept (Leave answer) h t d) ∙ e)
-pass_was {z} {r} {r'} {s} {choice} {l} {l'} Again h t since e = which (cases_eq t s)
+    which (inr d) = inl (sym (others_kept (Activity.Leave answer) h t d) ∙ e)
+pass_was {z} {r} {r'} {s} {choice} {l} {l'} Activity.Retry h t since e = which (cases_eq t s)
   where
     which : (t ≡ s) ⊎ (t ≡ s → ⊥) → (r.ledger.rows.passes t ≡ Some since) ⊎ (since ≡ length r.history.log)
     which (inl f) = let x : None ≡ Some since = sym (pass_taken_back h) ∙ sym (ap r'.ledger.rows.passes f) ∙ e in absurd (cc)
-    which (inr d) = inl (sym (others_kept Again h t d) ∙ e)
+    which (inr d) = inl (sym (others_kept Activity.Retry h t d) ∙ e)
 pass_was a h t since e = inl (sym (others_stay a h t (λ x f. x)) ∙ e)
 
 module _ (z : Sizes) (r r' : Run) (s : ℕ) (choice : Choice) (l : Local) (a : Activity) (l' : Local) (h : Happens z r r' s choice l l' a) (i : Below z r) (st : Step r.history r'.history (log_entry z r a s choice l)) (after : Below z r') (c : Contents z r) where

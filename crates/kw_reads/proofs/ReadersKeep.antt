@@ -5,7 +5,8 @@
 use Rattle.std.proofs.Common.{ℕ, ◌≡◌, ◌≢◌, ◌⊎◌, inl, Some, sym, ◌∙◌, ap, slice_get}
 use Rattle.kw_lists.specs.Rows.{Row}
 use Rattle.kw_world.specs.declared.activity.Activity.{Activity}
-use Rattle.kw_world.specs.declared.activity.Activity.TheVariants.{Look, LookKey, LookClock, LookHelp, ListFrom, ListKey, ListVer, ListVal}
+use Rattle.kw_world.specs.declared.activity.read.Read.TheVariants as Read
+use Rattle.kw_world.specs.declared.activity.walk.Walk.TheVariants as Walk
 use Rattle.kw_world.specs.declared.local.Local.{Local}
 use Rattle.kw_world.specs.declared.event.Choice.{Choice}
 use Rattle.kw_world.specs.Sizes.{Sizes}
@@ -59,14 +60,12 @@ seen_own z r r' s choice l a l' b h i = seen_by z r r' s choice l a l' b h i.inv
 
 -- where another seat is in the list of its row: at its row, or nothing is said
 walks_if : (n : ℕ) (row : Row) (a : Activity) (k : Local) → (IsAtRead a → ReadsList n row a k) → ReadsList n row a k
-walks_if n row (Look i) k f = f tt
-walks_if n row LookKey k f = f tt
-walks_if n row LookClock k f = f tt
-walks_if n row LookHelp k f = f tt
-walks_if n row ListFrom k f = f tt
-walks_if n row ListKey k f = f tt
-walks_if n row ListVer k f = f tt
-walks_if n row ListVal k f = f tt
+walks_if n row (Activity.Look _) k f = f tt
+walks_if n row (Activity.Read Read.Link) k f = f tt
+walks_if n row (Activity.Read Read.Key) k f = f tt
+walks_if n row (Activity.Read Read.Version) k f = f tt
+walks_if n row (Activity.Read Read.Value) k f = f tt
+walks_if n row (Activity.Walk Walk.First) k f = tt
 walks_if n row _ k f = tt
 
 module _ (z : Sizes) (r r' : Run) (s : ℕ) (choice : Choice) (l : Local) (a : Activity) (l' : Local) (h : Happens z r r' s choice l l' a) (i : Inv z r) (t : ℕ) (k : Local) (d : t ≢ s) (g : slice_get r.world.locals t ≡ Some k) where

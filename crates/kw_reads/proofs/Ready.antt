@@ -14,7 +14,8 @@ use Rattle.kw_lists.proofs.Leaving.{on_left}
 use Rattle.kw_lists.proofs.Same.{stands_same, behind_same}
 use Rattle.kw_lists.proofs.Walking.{walk_stays, passed_stays}
 use Rattle.kw_world.specs.declared.activity.Activity.{Activity}
-use Rattle.kw_world.specs.declared.activity.Activity.TheVariants.{ListFrom, ListKey, ListVer, ListVal, RestKey, RestVal, Look, LookKey, LookClock, LookHelp}
+use Rattle.kw_world.specs.declared.activity.read.Read.TheVariants as Read
+use Rattle.kw_world.specs.declared.activity.walk.Walk.TheVariants as Walk
 use Rattle.kw_world.specs.declared.local.Local.{Local}
 use Rattle.kw_world.specs.declared.marks.Mark.{Mark}
 use Rattle.kw_world.specs.Calls.{is_in_range}
@@ -77,14 +78,11 @@ module _ (n : ℕ) (row row' : Row) (w : Leaves n row row') where
 
   -- where the reader is
   pub walks_last : (a : Activity) (l : Local) → ReadsList n row a l → ReadsList n row' a l
-  walks_last (Look i) l k = k
-  walks_last LookKey l k = k
-  walks_last LookClock l k = k
-  walks_last LookHelp l k = k
-  walks_last ListFrom l k = walk_stays n row row' l.link l.walked w k
-  walks_last ListKey l k = met_lasts l k
-  walks_last ListVer l k = met_lasts l k
-  walks_last ListVal l k = met_lasts l k
+  walks_last (Activity.Look _) l k = k
+  walks_last (Activity.Read Read.Link) l k = walk_stays n row row' l.link l.walked w k
+  walks_last (Activity.Read Read.Key) l k = met_lasts l k
+  walks_last (Activity.Read Read.Version) l k = met_lasts l k
+  walks_last (Activity.Read Read.Value) l k = met_lasts l k
   walks_last _ l k = tt
 
   -- a cell from the one in hand on
@@ -94,20 +92,19 @@ module _ (n : ℕ) (row row' : Row) (w : Leaves n row row') where
 
   -- a cell that is to come
   pub to_come_lasts : (a : Activity) (l : Local) (c : ℕ) → ReadsList n row a l → IsToCome row a l c → IsToCome row' a l c
-  to_come_lasts ListFrom l c k x = (w.listed c x.0, behind_same row row' w.cell l.link c k.on (w.cell c x.0) x.1)
-  to_come_lasts ListKey l c k x = from_hand_lasts l c k x
-  to_come_lasts ListVer l c k x = from_hand_lasts l c k x
-  to_come_lasts ListVal l c k x = from_hand_lasts l c k x
-  to_come_lasts RestKey l c k x = x
-  to_come_lasts RestVal l c k x = x
+  to_come_lasts (Activity.Read Read.Link) l c k x = (w.listed c x.0, behind_same row row' w.cell l.link c k.on (w.cell c x.0) x.1)
+  to_come_lasts (Activity.Read Read.LeftOverKey) l c k x = x
+  to_come_lasts (Activity.Read Read.LeftOverValue) l c k x = x
+  to_come_lasts (Activity.Read _) l c k x = from_hand_lasts l c k x
+  to_come_lasts (Activity.Walk Walk.First) l c k x = absurd x
   to_come_lasts _ l c k x = absurd x
 
   -- the link at which the reader is
   link_on : (a : Activity) (l : Local) → IsListing a → ReadsList n row a l → IsOn row l.link
-  link_on ListFrom l x k = k.on
-  link_on ListKey l x k = k.on
-  link_on ListVer l x k = k.on
-  link_on ListVal l x k = k.on
+  link_on (Activity.Read Read.Link) l x k = k.on
+  link_on (Activity.Read Read.Key) l x k = k.on
+  link_on (Activity.Read Read.Version) l x k = k.on
+  link_on (Activity.Read Read.Value) l x k = k.on
   link_on _ l x k = absurd x
 
 -- no cell is gathered twice

@@ -13,7 +13,9 @@ use Rattle.kw_cells.specs.Kept.{IsKeptList, kept_of}
 use Rattle.kw_cells.proofs.KeptOf.{kept_of-all, kept_of-given, kept_of-list}
 use Rattle.kw_cells.proofs.Shown.{shows_the_same}
 use Rattle.kw_rows.specs.Rows.{WasLinked}
-use Rattle.kw_world.specs.declared.activity.Activity.TheVariants.{Before, Replace}
+use Rattle.kw_world.specs.declared.activity.Activity.TheVariants as Activity
+use Rattle.kw_world.specs.declared.activity.rebalance.Rebalance.TheVariants as Rebalance
+use Rattle.kw_world.specs.declared.activity.rebalance.replace.Replace.TheVariants as Replace
 use Rattle.kw_world.specs.declared.event.Choice.{Choice}
 use Rattle.kw_world.specs.declared.local.Local.{Local}
 use Rattle.kw_world.specs.SeekTransitions.{at_infant}
@@ -127,7 +129,7 @@ adds_apart {z} {r} i p q o w e = which (cases_order p q)
 pub row_greatest : (z : Sizes) (r : Run) → Below z r → (q k u : ℕ) → HasGreatest (puts_of r.history) (InRow z r q) k u
 row_greatest z r i q k u = greatest_found (puts_of r.history) (InRow z r q) k u (in_row_or_not z r q) (λ p e x w. adds_apart i p e (in_range r.history p x.is_put) (in_range r.history e w.is_put)) (length r.history.attempts) (λ p x. in_range r.history p x.is_put)
 
-module _ {z : Sizes} {r r' : Run} {s : ℕ} {choice : Choice} {l l' : Local} (h : Happens z r r' s choice l l' Replace) (i : Below z r) (st : Step r.history r'.history (log_entry z r Replace s choice l)) (q : ℕ) (y : ComesNow (word z r.world) r.ledger.rows r'.ledger.rows s (length r.history.log) l Replace q) where
+module _ {z : Sizes} {r r' : Run} {s : ℕ} {choice : Choice} {l l' : Local} (h : Happens z r r' s choice l l' (Activity.Rebalance (Rebalance.Replace Replace.Exchange))) (i : Below z r) (st : Step r.history r'.history (log_entry z r (Activity.Rebalance (Rebalance.Replace Replace.Exchange)) s choice l)) (q : ℕ) (y : ComesNow (word z r.world) r.ledger.rows r'.ledger.rows s (length r.history.log) l (Activity.Rebalance (Rebalance.Replace Replace.Exchange)) q) where
   -- its place among the new rows
   place : (n : ℕ) × (slice_get l.rebalance.taken n ≡ Some q)
   place = place_of_row l.rebalance.taken q y.taken
@@ -198,12 +200,12 @@ module _ {z : Sizes} {r r' : Run} {s : ℕ} {choice : Choice} {l l' : Local} (h 
   -- The new row.
 
   -- its cells stand for what the kept ones do
-  copied : Copied z r.history r.origin r.listed Before (at_infant place.0 l) q
+  copied : Copied z r.history r.origin r.listed (Activity.Rebalance (Rebalance.Replace Replace.Start)) (at_infant place.0 l) q
   copied = (i.puts.builds s l h.knows).whole place.0 q whole place.1
 
   -- and still do after the event
   stays : (c : ℕ) → r'.origin q c ≡ r.origin q c
-  stays c = origin_stays Replace h q c (λ x. x)
+  stays c = origin_stays (Activity.Rebalance (Rebalance.Replace Replace.Exchange)) h q c (λ x. x)
 
   -- each put of which it has a cell has a kept one
   new_is : (p : ℕ) → InRow z r' q p → IsPutIn r.origin l.row l.rebalance.kept p
@@ -223,7 +225,7 @@ module _ {z : Sizes} {r r' : Run} {s : ℕ} {choice : Choice} {l l' : Local} (h 
     cell = j.0;
     within = few;
     origin = stays j.0 ∙ copied.gathered j.0 m.cell few tt at ∙ m.origin;
-    is_put = is_put_stays z r r' s choice l Replace l' h i st p is.stamped;
+    is_put = is_put_stays z r r' s choice l (Activity.Rebalance (Rebalance.Replace Replace.Exchange)) l' h i st p is.stamped;
   }
     where
       is : IsCellOf r.history m.cell p
@@ -248,7 +250,7 @@ module _ {z : Sizes} {r r' : Run} {s : ℕ} {choice : Choice} {l l' : Local} (h 
         (greatest_of_same (puts_of r.history) (InRow z r l.row) (IsPutIn r.origin l.row l.rebalance.gathered) k u u t (λ p e m o. (full_is p m, o)) (λ p e m o. (full_has p m, o)) w)
 
     -- so it was built of it
-    pub is_rebuilt : (n : Needs z r Replace l) → Rebuilds (puts_of r.history) (InRow z r l.row) (InRow z r' q) (Contains l.rebalance.needed) k n.most n.most
+    pub is_rebuilt : (n : Needs z r (Activity.Rebalance (Rebalance.Replace Replace.Exchange)) l) → Rebuilds (puts_of r.history) (InRow z r l.row) (InRow z r' q) (Contains l.rebalance.needed) k n.most n.most
     is_rebuilt n = record {
       of_old = λ p m e. let w = new_is p m in full_has p (record { cell = w.cell; among = kept_given w.cell w.among; origin = w.origin });
       bound = λ p m e. n.bound p m;

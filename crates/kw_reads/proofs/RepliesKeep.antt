@@ -4,7 +4,9 @@ use Rattle.kw_world.specs.declared.answer.Answer.{Answer}
 use Rattle.kw_world.specs.Calls.{first_key, last_key}
 use Rattle.kw_world.specs.Answers.{reply_of}
 use Rattle.kw_world.specs.declared.activity.Activity.{Activity}
-use Rattle.kw_world.specs.declared.activity.Activity.TheVariants.{Idle, Enter, ScanClock, ScanWait, ScanDraw, ScanSettle, Look, LookKey, LookClock, LookHelp, ListFrom, ListKey, ListVer, ListVal, RestKey, RestVal, ClearScan, Leave, Again, AgainEpoch}
+use Rattle.kw_world.specs.declared.activity.look.Look.TheVariants as Look
+use Rattle.kw_world.specs.declared.activity.read.Read.TheVariants as Read
+use Rattle.kw_world.specs.declared.activity.walk.Walk.TheVariants as Walk
 use Rattle.kw_world.specs.declared.local.Local.{Local}
 use Rattle.kw_world.specs.declared.event.Choice.{Choice}
 use Rattle.kw_world.specs.Sizes.{Sizes}
@@ -42,7 +44,7 @@ use Rattle.kw_shape.specs.Shape.{IsKind, IsPutCall, IsReadCall, Kinds}
 use Rattle.kw_shape.proofs.NextCalls.{cell_call}
 use Rattle.kw_puts.proofs.Owners.{true_false}
 use Rattle.kw_reads.proofs.Relying.{goes_on_by}
-use Rattle.kw_core.proofs.Arrows.{NextLook, looks, lists, begins, enters, is_spent, settles_empty, settles, stops, meets_stamped, meets_neither, is_passed, helps, finds_stamped, finds_other, list_ends, key_above, rest_passed, gathers_rest, clears_scan, clears, leaves, NextRest, retries, clock_is_spent, epoch_is_spent, ends_at_clock, ends_at_epoch, tidies}
+use Rattle.kw_core.proofs.Arrows.{NextLook, looks, lists, begins, enters, is_spent, settles_empty, settles, stops, meets_stamped, meets_neither, is_passed, helps, finds_stamped, finds_other, list_ends, key_above, rest_passed, gathers_rest, clears_scan, clears, leaves, NextRest, retries, clock_is_spent, epoch_is_spent, ends_at_clock, ends_at_epoch}
 use Rattle.kw_puts.proofs.OwnScans.{IsAfterRead, after_read}
 use Rattle.kw_reads.proofs.OwnPairs.{covers_last, stays, settled_pairs, no_pairs, leave_covered, cell_pairs, put_answered, scan_answered, scan_call_answered, cell_answered}
 
@@ -58,7 +60,7 @@ pairs_stable z r r' t k y d n = subst (λ g. HasPairs r'.history k.activity k g)
   covered = covered k.activity n.covered;
 })
   where
-    ended : (answer : Answer) → IsCovered (Leave answer) r.history k (r.seats t) → IsCovered (Leave answer) r'.history k (r.seats t)
+    ended : (answer : Answer) → IsCovered (Activity.Leave answer) r.history k (r.seats t) → IsCovered (Activity.Leave answer) r'.history k (r.seats t)
     ended Pairs x = covers_last r.history r'.history _ _ _ _ _ y.goes_on.grows d x
     ended Done x = tt
     ended (Value v) x = tt
@@ -67,7 +69,7 @@ pairs_stable z r r' t k y d n = subst (λ g. HasPairs r'.history k.activity k g)
     ended Spent x = tt
     ended Stopped x = tt
 
-    cleared : (answer : Answer) → IsCovered (ClearScan answer) r.history k (r.seats t) → IsCovered (ClearScan answer) r'.history k (r.seats t)
+    cleared : (answer : Answer) → IsCovered (Activity.EndScan answer) r.history k (r.seats t) → IsCovered (Activity.EndScan answer) r'.history k (r.seats t)
     cleared Pairs x = covers_last r.history r'.history _ _ _ _ _ y.goes_on.grows d x
     cleared Done x = tt
     cleared (Value v) x = tt
@@ -77,8 +79,8 @@ pairs_stable z r r' t k y d n = subst (λ g. HasPairs r'.history k.activity k g)
     cleared Stopped x = tt
 
     covered : (a : Activity) → IsCovered a r.history k (r.seats t) → IsCovered a r'.history k (r.seats t)
-    covered (Leave answer) x = ended answer x
-    covered (ClearScan answer) x = cleared answer x
+    covered (Activity.Leave answer) x = ended answer x
+    covered (Activity.EndScan answer) x = cleared answer x
     covered _ x = tt
 
 -- the answer of a get
@@ -86,7 +88,7 @@ pub answers_stable : (z : Sizes) (r r' : Run) (t : ℕ) (k : Local) → Rely z r
 answers_stable z r r' t k y i c n = subst (λ g. IsAnswered k.activity k.call r'.history k g) (sym y.log) (which k.activity k.call c n)
   where
     which : (a : Activity) (q : Option Call) → (IsBusy a → Calling r.history t k.activity k (r.seats t)) → IsAnswered a q r.history k (r.seats t) → IsAnswered a q r'.history k (r.seats t)
-    which (Leave answer) (Some (Get key)) f x =
+    which (Activity.Leave answer) (Some (Get key)) f x =
         let w = (f tt).within in
         let same = (y.goes_on.calls (r.seats t).call w).first in
         rw same (record {
@@ -119,43 +121,36 @@ kind_of z r r' s choice l l' h i = subst (λ q. IsKind q l) h.activity (i.shape.
 
 -- a call that has read no row has not just read a word of one
 early_not_read : (c : Activity) → IsEarly c → IsAfterRead c → ⊥
-early_not_read Idle x y = y
-early_not_read Enter x y = y
-early_not_read AgainEpoch x y = y
-early_not_read ScanClock x y = y
-early_not_read ScanWait x y = y
-early_not_read ScanDraw x y = y
-early_not_read ScanSettle x y = y
+early_not_read Activity.Idle x y = y
+early_not_read (Activity.Enter _) x y = y
+early_not_read (Activity.Draw _) x y = y
+early_not_read (Activity.Walk Walk.First) x y = x
 early_not_read _ x y = x
 
 -- the seat ends its pass: it leaves, or tries again
 abbrev EndsPass : Activity → Type 0
-EndsPass (Leave answer) = Unit {0}
-EndsPass Again = Unit {0}
+EndsPass (Activity.Leave answer) = Unit {0}
+EndsPass Activity.Retry = Unit {0}
 EndsPass _ = ⊥
 
 -- a call that has read no row had read none
 arrow_early : (z : Sizes) (v : Words) (s : ℕ) (choice : Choice) (l : Local) (a : Activity) (k : Local) → Arrow z v s choice l a k → (EndsPass a → ⊥) → IsEarly k.activity → IsEarly a
 arrow_early z v s choice l a k (builds b next y t) n x = after_enters k.activity (built_next z v choice l b k t) x
 arrow_early z v s choice l a k (begins call e m) n x = tt
-arrow_early z v s choice l Enter k b n x = tt
-arrow_early z v s choice l ScanClock k b n x = tt
-arrow_early z v s choice l ScanWait k b n x = tt
-arrow_early z v s choice l ScanDraw k b n x = tt
-arrow_early z v s choice l ScanSettle k b n x = tt
-arrow_early z v s choice l (Look j) k b n x = absurd (early_not_read k.activity x (after_read z v s choice l (Look j) k b tt))
-arrow_early z v s choice l LookKey k b n x = absurd (early_not_read k.activity x (after_read z v s choice l LookKey k b tt))
-arrow_early z v s choice l LookClock k b n x = absurd (early_not_read k.activity x (after_read z v s choice l LookClock k b tt))
-arrow_early z v s choice l LookHelp k b n x = absurd (early_not_read k.activity x (after_read z v s choice l LookHelp k b tt))
-arrow_early z v s choice l ListFrom k b n x = absurd (early_not_read k.activity x (after_read z v s choice l ListFrom k b tt))
-arrow_early z v s choice l ListKey k b n x = absurd (early_not_read k.activity x (after_read z v s choice l ListKey k b tt))
-arrow_early z v s choice l ListVer k b n x = absurd (early_not_read k.activity x (after_read z v s choice l ListVer k b tt))
-arrow_early z v s choice l ListVal k b n x = absurd (early_not_read k.activity x (after_read z v s choice l ListVal k b tt))
-arrow_early z v s choice l RestKey k b n x = absurd (early_not_read k.activity x (after_read z v s choice l RestKey k b tt))
-arrow_early z v s choice l RestVal k b n x = absurd (early_not_read k.activity x (after_read z v s choice l RestVal k b tt))
-arrow_early z v s choice l (Leave answer) k b n x = absurd (n tt)
-arrow_early z v s choice l Again k b n x = absurd (n tt)
-arrow_early z v s choice l AgainEpoch k b n x = tt
+arrow_early z v s choice l (Activity.Enter _) k b n x = tt
+arrow_early z v s choice l (Activity.Draw _) k b n x = tt
+arrow_early z v s choice l (Activity.Look (Look.Entry j)) k b n x = absurd (early_not_read k.activity x (after_read z v s choice l (Activity.Look (Look.Entry j)) k b tt))
+arrow_early z v s choice l (Activity.Look Look.Key) k b n x = absurd (early_not_read k.activity x (after_read z v s choice l (Activity.Look Look.Key) k b tt))
+arrow_early z v s choice l (Activity.Look Look.Clock) k b n x = absurd (early_not_read k.activity x (after_read z v s choice l (Activity.Look Look.Clock) k b tt))
+arrow_early z v s choice l (Activity.Look Look.Help) k b n x = absurd (early_not_read k.activity x (after_read z v s choice l (Activity.Look Look.Help) k b tt))
+arrow_early z v s choice l (Activity.Read Read.Link) k b n x = absurd (early_not_read k.activity x (after_read z v s choice l (Activity.Read Read.Link) k b tt))
+arrow_early z v s choice l (Activity.Read Read.Key) k b n x = absurd (early_not_read k.activity x (after_read z v s choice l (Activity.Read Read.Key) k b tt))
+arrow_early z v s choice l (Activity.Read Read.Version) k b n x = absurd (early_not_read k.activity x (after_read z v s choice l (Activity.Read Read.Version) k b tt))
+arrow_early z v s choice l (Activity.Read Read.Value) k b n x = absurd (early_not_read k.activity x (after_read z v s choice l (Activity.Read Read.Value) k b tt))
+arrow_early z v s choice l (Activity.Read Read.LeftOverKey) k b n x = absurd (early_not_read k.activity x (after_read z v s choice l (Activity.Read Read.LeftOverKey) k b tt))
+arrow_early z v s choice l (Activity.Read Read.LeftOverValue) k b n x = absurd (early_not_read k.activity x (after_read z v s choice l (Activity.Read Read.LeftOverValue) k b tt))
+arrow_early z v s choice l (Activity.Leave answer) k b n x = absurd (n tt)
+arrow_early z v s choice l Activity.Retry k b n x = absurd (n tt)
 arrow_early z v s choice l a k b n x = absurd x
 
 -- the pairs of the acting scan
@@ -168,7 +163,7 @@ pairs_own z r r' s choice l a l' (clears_scan answer) h i n w = record {
   from = λ f x. absurd x;
   upto = λ f x. absurd x;
   covers = λ f x. absurd x;
-  covered = subst (λ g. IsCovered (Leave (answer_or_stopped answer choice)) r'.history (leave (answer_or_stopped answer choice) l).local g) (sym h.log)
+  covered = subst (λ g. IsCovered (Activity.Leave (answer_or_stopped answer choice)) r'.history (leave (answer_or_stopped answer choice) l).local g) (sym h.log)
       (leave_covered r.history r'.history l _ (r.seats s) answer choice (goes_on_by z r r' s choice l _ _ h i.inv).grows (i.inv.positions.drew s) refl refl refl (subst (λ q. IsCovered q r.history l (r.seats s)) h.activity (i.inv.replies.pairs s l h.knows).covered));
 }
 pairs_own z r r' s choice l a l' (leaves answer) h i n w = record { early = λ x. refl; from = λ f x. absurd x; upto = λ f x. absurd x; covers = λ f x. absurd x; covered = tt }
@@ -211,7 +206,7 @@ unpaired_own z r r' s choice l a l' b h i p = i.replies.unpaired s l h.knows p
 
 -- what follows the building of rows is no answer of a get
 after_answered : (a : Activity) (call : Option Call) (h : History) (l : Local) (g : SeatLog) → IsAfterBuilding a → IsPutCall call → IsAnswered a call h l g
-after_answered (Leave answer) call h l g b p = put_answered call answer h l g p
+after_answered (Activity.Leave answer) call h l g b p = put_answered call answer h l g p
 after_answered _ call h l g b p = tt
 
 -- the answer of the acting get

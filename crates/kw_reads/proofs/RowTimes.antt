@@ -9,7 +9,7 @@ use Rattle.kw_rows.specs.Ledger.{Fate, IsDead}
 use Rattle.kw_rows.specs.Rows.{WasLinked}
 use Rattle.kw_rows.proofs.Named.{one_row}
 use Rattle.kw_world.specs.declared.activity.Activity.{Activity}
-use Rattle.kw_world.specs.declared.activity.Activity.TheVariants.{ScanWait}
+use Rattle.kw_world.specs.declared.activity.draw.Draw.TheVariants as Draw
 use Rattle.kw_world.specs.declared.event.Choice.{Choice}
 use Rattle.kw_world.specs.declared.local.Local.{Local}
 use Rattle.kw_world.specs.Sizes.{Sizes}
@@ -37,11 +37,11 @@ use Rattle.kw_reads.proofs.Stamping.{StampsNow, StampStep, stamps_none, stamps_o
 
 -- the position from which a scan waits is that of this event, or as it was
 wait_now : (z : Sizes) (r r' : Run) (s : ℕ) (choice : Choice) (l : Local) (a : Activity) (l' : Local) → Happens z r r' s choice l l' a → (q : ℕ) → (r'.ledger.waits q ≡ length r.history.log) ⊎ (r'.ledger.waits q ≡ r.ledger.waits q)
-wait_now z r r' s choice l ScanWait l' h q = which (cases_eq q s)
+wait_now z r r' s choice l (Activity.Draw Draw.Wait) l' h q = which (cases_eq q s)
   where
     which : (q ≡ s) ⊎ (q ≡ s → ⊥) → (r'.ledger.waits q ≡ length r.history.log) ⊎ (r'.ledger.waits q ≡ r.ledger.waits q)
     which (inl e) = inl (ap (λ (g : Ledger). g.waits q) h.ledger ∙ rw (eq-eqb q s e) refl)
-    which (inr d) = inr (waits_stay z r r' s choice l ScanWait l' h q (λ e. absurd (d e)))
+    which (inr d) = inr (waits_stay z r r' s choice l (Activity.Draw Draw.Wait) l' h q (λ e. absurd (d e)))
 wait_now z r r' s choice l a l' h q = inr (waits_stay z r r' s choice l a l' h q (λ e x. cc))
 
 -- a row that stands for a put was linked

@@ -7,7 +7,20 @@ use Rattle.kw_words.specs.declared.layout.Name.TheVariants as name
 use Rattle.kw_words.specs.declared.scan.ScanWord.TheVariants.{Quiet, Waiting, Drawn}
 use Rattle.kw_words.specs.Scan.{scan_word}
 use Rattle.kw_world.specs.declared.activity.Activity.{Activity}
-use Rattle.kw_world.specs.declared.activity.Activity.TheVariants.{ScanWait, ScanDraw, ScanSettle, Walk, ClearScan, Insert, Replace, HelpSettle}
+use Rattle.kw_world.specs.declared.activity.draw.Draw.TheVariants as Draw
+use Rattle.kw_world.specs.declared.activity.rebalance.freeze.Freeze.TheVariants as Freeze
+use Rattle.kw_world.specs.declared.activity.insert.Insert.TheVariants as Insert
+use Rattle.kw_world.specs.declared.activity.rebalance.Rebalance.TheVariants as Rebalance
+use Rattle.kw_world.specs.declared.activity.rebalance.replace.Replace.TheVariants as Replace
+use Rattle.kw_world.specs.declared.activity.walk.Walk.TheVariants as Walk
+use Rattle.kw_world.specs.declared.activity.enter.Enter.TheVariants as Enter
+use Rattle.kw_world.specs.declared.activity.rebalance.engage.Engage.TheVariants as Engage
+use Rattle.kw_world.specs.declared.activity.rebalance.gather.Gather.TheVariants as Gather
+use Rattle.kw_world.specs.declared.activity.look.Look.TheVariants as Look
+use Rattle.kw_world.specs.declared.activity.put.Put.TheVariants as Put
+use Rattle.kw_world.specs.declared.activity.read.Read.TheVariants as Read
+use Rattle.kw_world.specs.declared.activity.rebalance.seek.Seek.TheVariants as Seek
+use Rattle.kw_world.specs.declared.activity.rebalance.write.Write.TheVariants as Write
 use Rattle.kw_world.specs.declared.event.Choice.{Choice}
 use Rattle.kw_world.specs.declared.local.Local.{Local}
 use Rattle.kw_world.specs.Sizes.{Sizes}
@@ -34,13 +47,13 @@ use Rattle.kw_puts.proofs.RelyProof.{waits_stay}
 
 -- such a version is held: by the scan that settles, or by a seat that helps scan i
 abbrev IsHolder : Activity → Type 0
-IsHolder ScanSettle = Unit {0}
-IsHolder (HelpSettle i) = Unit {0}
+IsHolder (Activity.Draw Draw.Settle) = Unit {0}
+IsHolder (Activity.Rebalance (Rebalance.Freeze (Freeze.Settle i))) = Unit {0}
 IsHolder _ = ⊥
 
 -- the version that it holds
 abbrev held_by : Activity → Local → ℕ
-held_by ScanSettle l = l.drawn
+held_by (Activity.Draw Draw.Settle) l = l.drawn
 held_by _ l = l.rebalance.drawn
 
 -- a seat does not hold one after it read, or built
@@ -57,8 +70,8 @@ cell_holds l k (scans_on r w e f o) x = absurd x
 
 -- nor after it built new rows
 built_holds : {A : Type 0} (a : Activity) → IsAfterBuilding a → IsHolder a → A
-built_holds ScanSettle n x = absurd n
-built_holds (HelpSettle i) n x = absurd n
+built_holds (Activity.Draw Draw.Settle) n x = absurd n
+built_holds (Activity.Rebalance (Rebalance.Freeze (Freeze.Settle i))) n x = absurd n
 built_holds _ n x = absurd x
 
 -- a seat that holds one has just drawn it
@@ -96,12 +109,12 @@ drawn_apart u c e = absurd (omega (arith, e))
 module _ {z : Sizes} {r r' : Run} {s : ℕ} {choice : Choice} {l l' : Local} where
   -- what a scan has drawn was needed through its seat
   drawn_was : (a : Activity) → Happens z r r' s choice l l' a → (i u : ℕ) → i < z.seats → word z r'.world (name.Scan i) ≡ scan_word (Drawn u) → Through z r i u
-  drawn_was ScanWait h i u o w = which (cases_eq s i)
+  drawn_was (Activity.Draw Draw.Wait) h i u o w = which (cases_eq s i)
     where
       which : (s ≡ i) ⊎ (s ≡ i → ⊥) → Through z r i u
       which (inl e) = drawn_apart u l.waiting (sym w ∙ subst (λ t. word z r'.world (name.Scan t) ≡ scan_word (Waiting l.waiting)) e h.changed.same)
-      which (inr d) = has_drawn o (sym (unwritten ScanWait h (name.Scan i) o (λ e. d (same_scan s i e))) ∙ w)
-  drawn_was ScanSettle h i u o w = which (cases_eq s i)
+      which (inr d) = has_drawn o (sym (unwritten (Activity.Draw Draw.Wait) h (name.Scan i) o (λ e. d (same_scan s i e))) ∙ w)
+  drawn_was (Activity.Draw Draw.Settle) h i u o w = which (cases_eq s i)
     where
       own : (word z r.world (name.Scan s) ≡ scan_word (Waiting l.waiting)) ⊎ (word z r.world (name.Scan s) ≡ scan_word (Waiting l.waiting) → ⊥) → s < z.seats → word z r'.world (name.Scan s) ≡ scan_word (Drawn u) → Through z r s u
       own (inl e) q v = is_held l q h.knows h.activity (drawn_same l.drawn u (sym (exchanged _ _ _ _ h.changed.same e) ∙ v)) e
@@ -109,8 +122,8 @@ module _ {z : Sizes} {r r' : Run} {s : ℕ} {choice : Choice} {l l' : Local} whe
 
       which : (s ≡ i) ⊎ (s ≡ i → ⊥) → Through z r i u
       which (inl e) = subst (λ t. Through z r t u) e (own (cases_eq _ _) h.seat (subst (λ t. word z r'.world (name.Scan t) ≡ scan_word (Drawn u)) (sym e) w))
-      which (inr d) = has_drawn o (sym (unwritten ScanSettle h (name.Scan i) o (λ e. d (same_scan s i e))) ∙ w)
-  drawn_was (HelpSettle j) h i u o w = which (cases_eq j i)
+      which (inr d) = has_drawn o (sym (unwritten (Activity.Draw Draw.Settle) h (name.Scan i) o (λ e. d (same_scan s i e))) ∙ w)
+  drawn_was (Activity.Rebalance (Rebalance.Freeze (Freeze.Settle j))) h i u o w = which (cases_eq j i)
     where
       at : (word z r.world (name.Scan j) ≡ scan_word (Waiting l.rebalance.waiting)) ⊎ (word z r.world (name.Scan j) ≡ scan_word (Waiting l.rebalance.waiting) → ⊥) → j < z.seats → word z r'.world (name.Scan j) ≡ scan_word (Drawn u) → Through z r j u
       at (inl e) q v = is_helped s l q h.knows h.activity (drawn_same l.rebalance.drawn u (sym (exchanged _ _ _ _ h.changed.same e) ∙ v)) e
@@ -118,31 +131,39 @@ module _ {z : Sizes} {r r' : Run} {s : ℕ} {choice : Choice} {l l' : Local} whe
 
       which : (j ≡ i) ⊎ (j ≡ i → ⊥) → Through z r i u
       which (inl e) = subst (λ t. Through z r t u) e (at (cases_eq _ _) (subst (λ t. t < z.seats) (sym e) o) (subst (λ t. word z r'.world (name.Scan t) ≡ scan_word (Drawn u)) (sym e) w))
-      which (inr d) = has_drawn o (sym (unwritten (HelpSettle j) h (name.Scan i) o (λ e. d (same_scan j i e))) ∙ w)
-  drawn_was (ClearScan answer) h i u o w = which (cases_eq s i)
+      which (inr d) = has_drawn o (sym (unwritten (Activity.Rebalance (Rebalance.Freeze (Freeze.Settle j))) h (name.Scan i) o (λ e. d (same_scan j i e))) ∙ w)
+  drawn_was (Activity.EndScan answer) h i u o w = which (cases_eq s i)
     where
       which : (s ≡ i) ⊎ (s ≡ i → ⊥) → Through z r i u
       which (inl e) = let x : scan_word (Drawn u) ≡ scan_word Quiet = sym w ∙ subst (λ t. word z r'.world (name.Scan t) ≡ scan_word Quiet) e h.changed.same in absurd (omega (arith, x))
-      which (inr d) = has_drawn o (sym (unwritten (ClearScan answer) h (name.Scan i) o (λ e. d (same_scan s i e))) ∙ w)
-  drawn_was Walk h i u o w = met (is_stopped choice l) refl (cases_eq s i)
+      which (inr d) = has_drawn o (sym (unwritten (Activity.EndScan answer) h (name.Scan i) o (λ e. d (same_scan s i e))) ∙ w)
+  drawn_was (Activity.Walk Walk.Next) h i u o w = met (is_stopped choice l) refl (cases_eq s i)
     where
       met : (b : Bool) → is_stopped choice l ≡ b → (s ≡ i) ⊎ (s ≡ i → ⊥) → Through z r i u
       met true f (inl e) = let x : scan_word (Drawn u) ≡ scan_word Quiet = sym w ∙ subst (λ t. word z r'.world (name.Scan t) ≡ scan_word Quiet) e (stopped_clears h f) in absurd (omega (arith, x))
       met false f (inl e) = has_drawn o (sym (subst (λ t. word z r'.world (name.Scan t) ≡ word z r.world (name.Scan t)) e (goes_on_walk h f)) ∙ w)
-      met b f (inr d) = has_drawn o (sym (unwritten Walk h (name.Scan i) o (rw f (not_own b d))) ∙ w)
+      met b f (inr d) = has_drawn o (sym (unwritten (Activity.Walk Walk.Next) h (name.Scan i) o (rw f (not_own b d))) ∙ w)
         where
-          not_own : (b : Bool) → (s ≡ i → ⊥) → writes Walk s b l ≢ Some (name.Scan i)
+          not_own : (b : Bool) → (s ≡ i → ⊥) → writes (Activity.Walk Walk.Next) s b l ≢ Some (name.Scan i)
           not_own true d e = d (same_scan s i e)
           not_own false d e = let x : None ≡ Some (name.Scan i) = e in cc
-  drawn_was Insert h i u o w = has_drawn o (sym (unwritten Insert h (name.Scan i) o (λ e. no_link l.row l.link (name.Scan i) refl e)) ∙ w)
-  drawn_was Replace h i u o w = has_drawn o (sym (unwritten Replace h (name.Scan i) o (no_scan_link l.rebalance.before i)) ∙ w)
+  drawn_was (Activity.Insert Insert.Exchange) h i u o w = has_drawn o (sym (unwritten (Activity.Insert Insert.Exchange) h (name.Scan i) o (λ e. no_link l.row l.link (name.Scan i) refl e)) ∙ w)
+  drawn_was (Activity.Rebalance (Rebalance.Replace Replace.Exchange)) h i u o w = has_drawn o (sym (unwritten (Activity.Rebalance (Rebalance.Replace Replace.Exchange)) h (name.Scan i) o (no_scan_link l.rebalance.before i)) ∙ w)
+  drawn_was (Activity.Enter Enter.Announce) h i u o w = has_drawn o (sym (unwritten (Activity.Enter Enter.Announce) h (name.Scan i) o (λ e. cc)) ∙ w)
+  drawn_was (Activity.Look Look.Key) h i u o w = has_drawn o (sym (unwritten (Activity.Look Look.Key) h (name.Scan i) o (λ e. cc)) ∙ w)
+  drawn_was (Activity.Read Read.Link) h i u o w = has_drawn o (sym (unwritten (Activity.Read Read.Link) h (name.Scan i) o (λ e. cc)) ∙ w)
+  drawn_was (Activity.Put Put.Count) h i u o w = has_drawn o (sym (unwritten (Activity.Put Put.Count) h (name.Scan i) o (λ e. cc)) ∙ w)
+  drawn_was (Activity.Rebalance (Rebalance.Engage Engage.Clock)) h i u o w = has_drawn o (sym (unwritten (Activity.Rebalance (Rebalance.Engage Engage.Clock)) h (name.Scan i) o (λ e. cc)) ∙ w)
+  drawn_was (Activity.Rebalance (Rebalance.Gather Gather.Link)) h i u o w = has_drawn o (sym (unwritten (Activity.Rebalance (Rebalance.Gather Gather.Link)) h (name.Scan i) o (λ e. cc)) ∙ w)
+  drawn_was (Activity.Rebalance (Rebalance.Seek Seek.Next)) h i u o w = has_drawn o (sym (unwritten (Activity.Rebalance (Rebalance.Seek Seek.Next)) h (name.Scan i) o (λ e. cc)) ∙ w)
+  drawn_was (Activity.Rebalance (Rebalance.Write Write.Count)) h i u o w = has_drawn o (sym (unwritten (Activity.Rebalance (Rebalance.Write Write.Count)) h (name.Scan i) o (λ e. cc)) ∙ w)
   drawn_was a h i u o w = has_drawn o (sym (unwritten a h (name.Scan i) o (λ e. cc)) ∙ w)
 
 -- Over an event.
 
 module _ (z : Sizes) (r r' : Run) (s : ℕ) (choice : Choice) (l : Local) (a : Activity) (l' : Local) (h : Happens z r r' s choice l l' a) (i : Below z r) where
   -- a scan that begins to wait is not helped yet
-  not_helped : {A : Type 0} (q t : ℕ) (k : Local) → q < z.seats → q ≡ s → a ≡ ScanWait → slice_get r.world.locals t ≡ Some k → k.activity ≡ HelpSettle q → word z r'.world (name.Scan q) ≡ scan_word (Waiting l.waiting) → word z r'.world (name.Scan q) ≡ scan_word (Waiting k.rebalance.waiting) → A
+  not_helped : {A : Type 0} (q t : ℕ) (k : Local) → q < z.seats → q ≡ s → a ≡ Activity.Draw Draw.Wait → slice_get r.world.locals t ≡ Some k → k.activity ≡ Activity.Rebalance (Rebalance.Freeze (Freeze.Settle q)) → word z r'.world (name.Scan q) ≡ scan_word (Waiting l.waiting) → word z r'.world (name.Scan q) ≡ scan_word (Waiting k.rebalance.waiting) → A
   not_helped q t k o e is g f v w =
       let x : scan_word (Waiting l.waiting) ≡ scan_word (Waiting k.rebalance.waiting) = sym v ∙ w in
       let late = (i.positions.helping t k g q o).loads (subst (HelpsScan q) (sym f) refl) l (subst (λ y. slice_get r.world.locals y ≡ Some l) (sym e) h.knows) (subst IsToWait (sym (h.activity ∙ is)) tt) in
@@ -165,7 +186,7 @@ module _ (z : Sizes) (r r' : Run) (s : ℕ) (choice : Choice) (l : Local) (a : A
       step d (waits_no_more n y) = absurd (n k.waiting w)
 
       which : (q ≡ s) ⊎ (q ≡ s → ⊥) → Through z r q u ⊎ (word z r.world name.Clock ≤ u)
-      which (inl x) = let y = own_draw k (subst (λ t. slice_get r'.world.locals t ≡ Some k) x g) ScanSettle e tt in inr (omega (arith, y, f))
+      which (inl x) = let y = own_draw k (subst (λ t. slice_get r'.world.locals t ≡ Some k) x g) (Activity.Draw Draw.Settle) e tt in inr (omega (arith, y, f))
       which (inr d) = inl (step d (scan_step z r r' s choice l l' i a h q o))
   through_was q u (is_helped t k o g e f w) = which (cases_eq t s)
     where
@@ -175,30 +196,30 @@ module _ (z : Sizes) (r r' : Run) (s : ℕ) (choice : Choice) (l : Local) (a : A
       step y (waits_no_more n x) = absurd (n k.rebalance.waiting w)
 
       which : (t ≡ s) ⊎ (t ≡ s → ⊥) → Through z r q u ⊎ (word z r.world name.Clock ≤ u)
-      which (inl x) = let y = own_draw k (subst (λ t. slice_get r'.world.locals t ≡ Some k) x g) (HelpSettle q) e tt in inr (omega (arith, y, f))
+      which (inl x) = let y = own_draw k (subst (λ t. slice_get r'.world.locals t ≡ Some k) x g) (Activity.Rebalance (Rebalance.Freeze (Freeze.Settle q))) e tt in inr (omega (arith, y, f))
       which (inr d) = inl (step (sym (knows_other h t d) ∙ g) (scan_step z r r' s choice l l' i a h q o))
 
 -- nothing is needed through a scan that begins to wait
-none_through : (z : Sizes) (r r' : Run) (s : ℕ) (choice : Choice) (l l' : Local) → Happens z r r' s choice l l' ScanWait → Below z r → (u : ℕ) → Through z r' s u → ⊥
+none_through : (z : Sizes) (r r' : Run) (s : ℕ) (choice : Choice) (l l' : Local) → Happens z r r' s choice l l' (Activity.Draw Draw.Wait) → Below z r → (u : ℕ) → Through z r' s u → ⊥
 none_through z r r' s choice l l' h i u (has_drawn o w) = drawn_apart u l.waiting (sym w ∙ h.changed.same)
 none_through z r r' s choice l l' h i u (is_held k o g e f w) =
-    let x : ScanDraw ≡ ScanSettle = sym (ap (λ (m : Local). m.activity) h.next) ∙ ap (λ (m : Local). m.activity) (same_Some l' k (sym (knows_next h) ∙ g)) ∙ e in
+    let x : (Activity.Draw Draw.Version) ≡ (Activity.Draw Draw.Settle) = sym (ap (λ (m : Local). m.activity) h.next) ∙ ap (λ (m : Local). m.activity) (same_Some l' k (sym (knows_next h) ∙ g)) ∙ e in
     absurd (cc)
 none_through z r r' s choice l l' h i u (is_helped t k o g e f w) = which (cases_eq t s)
   where
     which : (t ≡ s) ⊎ (t ≡ s → ⊥) → ⊥
     which (inl y) =
-        let x : ScanDraw ≡ HelpSettle s = sym (ap (λ (m : Local). m.activity) h.next) ∙ ap (λ (m : Local). m.activity) (same_Some l' k (sym (knows_next h) ∙ subst (λ q. slice_get r'.world.locals q ≡ Some k) y g)) ∙ e in
+        let x : (Activity.Draw Draw.Version) ≡ (Activity.Rebalance (Rebalance.Freeze (Freeze.Settle s))) = sym (ap (λ (m : Local). m.activity) h.next) ∙ ap (λ (m : Local). m.activity) (same_Some l' k (sym (knows_next h) ∙ subst (λ q. slice_get r'.world.locals q ≡ Some k) y g)) ∙ e in
         cc
-    which (inr d) = not_helped z r r' s choice l ScanWait l' h i s t k o refl refl (sym (knows_other h t d) ∙ g) e h.changed.same w
+    which (inr d) = not_helped z r r' s choice l (Activity.Draw Draw.Wait) l' h i s t k o refl refl (sym (knows_other h t d) ∙ g) e h.changed.same w
 
 -- since when a scan waits stays, or nothing is needed through it
 wait_renews : (z : Sizes) (r r' : Run) (s : ℕ) (choice : Choice) (l : Local) (a : Activity) (l' : Local) → Happens z r r' s choice l l' a → Below z r → (q : ℕ) → (r'.ledger.waits q ≡ r.ledger.waits q) ⊎ ((u : ℕ) → Through z r' q u → word z r.world name.Clock ≤ u)
-wait_renews z r r' s choice l ScanWait l' h i q = which (cases_eq q s)
+wait_renews z r r' s choice l (Activity.Draw Draw.Wait) l' h i q = which (cases_eq q s)
   where
     which : (q ≡ s) ⊎ (q ≡ s → ⊥) → (r'.ledger.waits q ≡ r.ledger.waits q) ⊎ ((u : ℕ) → Through z r' q u → word z r.world name.Clock ≤ u)
     which (inl e) = inr (λ u t. absurd (none_through z r r' s choice l l' h i u (subst (λ y. Through z r' y u) e t)))
-    which (inr d) = inl (waits_stay z r r' s choice l ScanWait l' h q (λ e. absurd (d e)))
+    which (inr d) = inl (waits_stay z r r' s choice l (Activity.Draw Draw.Wait) l' h q (λ e. absurd (d e)))
 wait_renews z r r' s choice l a l' h i q = inl (waits_stay z r r' s choice l a l' h q (λ e x. cc))
 
 -- so what is needed only shrinks

@@ -7,7 +7,20 @@ use Rattle.std.proofs.lemmas.Option.{same_Some}
 use Rattle.kw_words.specs.declared.layout.Name.TheVariants as name
 use Rattle.kw_words.specs.Plain.{value_of_word}
 use Rattle.kw_world.specs.declared.activity.Activity.{Activity}
-use Rattle.kw_world.specs.declared.activity.Activity.TheVariants.{Idle, Enter, ScanSettle, Look, LookKey, LookClock, LookHelp, ListFrom, ListKey, ListVer, ListVal, RestKey, RestVal, PutAdd, PutKey, Leave}
+use Rattle.kw_world.specs.declared.activity.draw.Draw.TheVariants as Draw
+use Rattle.kw_world.specs.declared.activity.enter.Enter.TheVariants as Enter
+use Rattle.kw_world.specs.declared.activity.look.Look.TheVariants as Look
+use Rattle.kw_world.specs.declared.activity.put.Put.TheVariants as Put
+use Rattle.kw_world.specs.declared.activity.read.Read.TheVariants as Read
+use Rattle.kw_world.specs.declared.activity.rebalance.Rebalance.TheVariants as Rebalance
+use Rattle.kw_world.specs.declared.activity.rebalance.seek.Seek.TheVariants as Seek
+use Rattle.kw_world.specs.declared.activity.rebalance.engage.Engage.TheVariants as Engage
+use Rattle.kw_world.specs.declared.activity.rebalance.freeze.Freeze.TheVariants as Freeze
+use Rattle.kw_world.specs.declared.activity.rebalance.gather.Gather.TheVariants as Gather
+use Rattle.kw_world.specs.declared.activity.insert.Insert.TheVariants as Insert
+use Rattle.kw_world.specs.declared.activity.rebalance.replace.Replace.TheVariants as Replace
+use Rattle.kw_world.specs.declared.activity.walk.Walk.TheVariants as Walk
+use Rattle.kw_world.specs.declared.activity.rebalance.write.Write.TheVariants as Write
 use Rattle.kw_world.specs.declared.local.Local.{Local}
 use Rattle.kw_world.specs.declared.event.Choice.{Choice}
 use Rattle.kw_world.specs.declared.event.Choice.TheVariants.{Begin, Go, Guess, Stop}
@@ -128,7 +141,7 @@ seen_by z r r' s choice l a l' (builds b next y t) h i k =
     let g = building_log b y h in
     let n = built_goes z (word z r.world) choice l b l' t in
     seen_kept h i l'.activity (building_keeping b y) n.call (ap (λ g. g.looked) g) (ap (λ g. g.ids) g) (ap (λ g. g.read) g) (λ x. after_reading l'.activity n.next x)
-seen_by z r r' s choice l _ _ (begins call e b) h i k = seen_unread r'.history r'.origin Enter _ (r'.seats s) (ap (λ g. g.read) h.log ∙ ap (λ c. (log_begun c (length r.history.calls) (r.seats s)).read) e)
+seen_by z r r' s choice l _ _ (begins call e b) h i k = seen_unread r'.history r'.origin (Activity.Enter Enter.Announce) _ (r'.seats s) (ap (λ g. g.read) h.log ∙ ap (λ c. (log_begun c (length r.history.calls) (r.seats s)).read) e)
 seen_by z r r' s choice l _ _ (reads_last f n) h i k = record { unread = λ x. absurd (omega (arith, x)); stamped = λ x. absurd x; taken = λ x. absurd x }
 seen_by z r r' s choice l _ _ (reads_before f w) h i k = record { unread = λ x. absurd (omega (arith, x)); stamped = λ x. absurd x; taken = λ x. absurd x }
 seen_by z r r' s choice l _ _ (meets_pending j c e) h i k = seen_unread r'.history r'.origin _ _ (r'.seats s) (ap (λ g. g.read) h.log ∙ look_unread j (length r.history.log) (r.seats s) (unread_before h i))
@@ -150,7 +163,7 @@ seen_by z r r' s choice l _ _ gathers_listed h i k = seen_unread r'.history r'.o
 seen_by z r r' s choice l _ _ (rest_wanted e) h i k = seen_unread r'.history r'.origin _ _ (r'.seats s) (ap (λ g. g.read) h.log ∙ unread_before h i tt)
 seen_by z r r' s choice l _ _ (rest_passed next e n) h i k = subst (HasSeen r'.history r'.origin next.activity next) (sym h.log) (seen_next r'.history r'.origin l next _ n (left_passed h i k e) (unread_before h i tt))
 seen_by z r r' s choice l _ _ (gathers_rest next n) h i k = subst (HasSeen r'.history r'.origin next.activity next) (sym h.log) (seen_next r'.history r'.origin _ next _ n (left_gathered h i k _ _) (unread_before h i tt))
-seen_by z r r' s choice l _ _ (takes_cell e) h i k = seen_kept h i PutKey tt refl (ap (λ g. g.looked) h.log ∙ added_same (λ g. g.looked) _ (r.seats s) _ refl) (ap (λ g. g.ids) h.log ∙ added_same (λ g. g.ids) _ (r.seats s) _ refl) (ap (λ g. g.read) h.log ∙ added_same (λ g. g.read) _ (r.seats s) _ refl) (λ x. x)
+seen_by z r r' s choice l _ _ (takes_cell e) h i k = seen_kept h i (Activity.Put Put.Key) tt refl (ap (λ g. g.looked) h.log ∙ added_same (λ g. g.looked) _ (r.seats s) _ refl) (ap (λ g. g.ids) h.log ∙ added_same (λ g. g.ids) _ (r.seats s) _ refl) (ap (λ g. g.read) h.log ∙ added_same (λ g. g.read) _ (r.seats s) _ refl) (λ x. x)
 seen_by z r r' s choice l _ _ (takes_full e) h i k = seen_kept h i _ tt refl (ap (λ g. g.looked) h.log ∙ added_same (λ g. g.looked) _ (r.seats s) _ refl) (ap (λ g. g.ids) h.log ∙ added_same (λ g. g.ids) _ (r.seats s) _ refl) (ap (λ g. g.read) h.log ∙ added_same (λ g. g.read) _ (r.seats s) _ refl) (λ x. x)
 seen_by z r r' s choice l _ _ (leaves answer) h i k = record { unread = λ x. absurd x; stamped = λ x. absurd x; taken = λ x. absurd x }
 seen_by z r r' s choice l _ _ (settles_empty e) h i k = seen_kept h i _ tt refl (ap (λ g. g.looked) h.log ∙ settled_same (λ g. g.looked) l.waiting _ (r.settled s) (r.seats s) refl) (ap (λ g. g.ids) h.log ∙ settled_same (λ g. g.ids) l.waiting _ (r.settled s) (r.seats s) refl) (ap (λ g. g.read) h.log ∙ settled_same (λ g. g.read) l.waiting _ (r.settled s) (r.seats s) refl) (λ x. x)
@@ -161,10 +174,9 @@ seen_by z r r' s choice l a l' b h i k = seen_kept h i l'.activity tt refl (ap (
 
 -- a reader that has looked at the first entry reads
 looked_reading : (a : Activity) → HasLooked a → IsReading a
-looked_reading (Look i) x = x
-looked_reading LookKey x = tt
-looked_reading LookClock x = tt
-looked_reading LookHelp x = tt
+looked_reading (Activity.Look (Look.Entry i)) x = x
+looked_reading (Activity.Look _) x = tt
+looked_reading (Activity.Rebalance (Rebalance.Seek Seek.Next)) x = absurd x
 looked_reading _ x = absurd x
 
 -- a reader that looks on has gathered nothing
@@ -226,26 +238,26 @@ gathers_by z r r' s choice l a l' (builds b next y t) h i k =
 gathers_by z r r' s choice l _ _ (begins call e b) h i k = record { empty = λ x. absurd x; no_ids = λ x. absurd x; taking = λ x. absurd x; kept = λ x q f. let y : None ≡ Some q = sym (ap (λ g. g.read) h.log ∙ ap (λ c. (log_begun c (length r.history.calls) (r.seats s)).read) e) ∙ f in absurd (cc) }
 gathers_by z r r' s choice l _ _ (reads_last f n) h i k = record { empty = λ x. refl; no_ids = λ x. absurd (omega (arith, x)); taking = λ x. absurd x; kept = λ x. absurd x }
 gathers_by z r r' s choice l _ _ (reads_before f w) h i k = record { empty = λ x. refl; no_ids = λ x. absurd (omega (arith, x)); taking = λ x. absurd x; kept = λ x. absurd x }
-gathers_by z r r' s choice l _ _ (meets_pending j c e) h i k = gathers_met r'.history r'.origin LookKey _ (r'.seats s) ((gathered_before h i).empty tt) (ap (λ g. g.ids) h.log ∙ look_empty j (length r.history.log) (r.seats s) (gathered_before h i).no_ids) (λ x. x) (λ x. x)
+gathers_by z r r' s choice l _ _ (meets_pending j c e) h i k = gathers_met r'.history r'.origin (Activity.Look Look.Key) _ (r'.seats s) ((gathered_before h i).empty tt) (ap (λ g. g.ids) h.log ∙ look_empty j (length r.history.log) (r.seats s) (gathered_before h i).no_ids) (λ x. x) (λ x. x)
 gathers_by z r r' s choice l _ _ (meets_stamped j c version next e n) h i k = gathers_none z r'.history r'.origin (j + 1) next _ (r'.seats s) n ((gathered_before h i).empty tt) (ap (λ g. g.ids) h.log ∙ look_empty j (length r.history.log) (r.seats s) (gathered_before h i).no_ids)
 gathers_by z r r' s choice l _ _ (meets_neither j next e n) h i k = gathers_none z r'.history r'.origin (j + 1) next _ (r'.seats s) n ((gathered_before h i).empty tt) (ap (λ g. g.ids) h.log ∙ look_empty j (length r.history.log) (r.seats s) (gathered_before h i).no_ids)
-gathers_by z r r' s choice l _ _ (is_wanted e) h i k = gathers_met r'.history r'.origin LookClock _ (r'.seats s) ((gathered_before h i).empty tt) (ap (λ g. g.ids) h.log ∙ (gathered_before h i).no_ids tt) (λ x. x) (λ x. x)
+gathers_by z r r' s choice l _ _ (is_wanted e) h i k = gathers_met r'.history r'.origin (Activity.Look Look.Clock) _ (r'.seats s) ((gathered_before h i).empty tt) (ap (λ g. g.ids) h.log ∙ (gathered_before h i).no_ids tt) (λ x. x) (λ x. x)
 gathers_by z r r' s choice l _ _ (is_passed next e n) h i k = gathers_none z r'.history r'.origin (l.looked + 1) next _ (r'.seats s) n ((gathered_before h i).empty tt) (ap (λ g. g.ids) h.log ∙ (gathered_before h i).no_ids tt)
-gathers_by z r r' s choice l _ _ loads_to_help h i k = gathers_met r'.history r'.origin LookHelp _ (r'.seats s) ((gathered_before h i).empty tt) (ap (λ g. g.ids) h.log ∙ (gathered_before h i).no_ids tt) (λ x. x) (λ x. x)
+gathers_by z r r' s choice l _ _ loads_to_help h i k = gathers_met r'.history r'.origin (Activity.Look Look.Help) _ (r'.seats s) ((gathered_before h i).empty tt) (ap (λ g. g.ids) h.log ∙ (gathered_before h i).no_ids tt) (λ x. x) (λ x. x)
 gathers_by z r r' s choice l _ _ (helps next e n) h i k = gathers_none z r'.history r'.origin (l.looked + 1) next _ (r'.seats s) n ((gathered_before h i).empty tt) (ap (λ g. g.ids) h.log ∙ (gathered_before h i).no_ids tt)
 gathers_by z r r' s choice l _ _ (finds_stamped c version next e n) h i k = gathers_none z r'.history r'.origin (l.looked + 1) next _ (r'.seats s) n ((gathered_before h i).empty tt) (ap (λ g. g.ids) h.log ∙ (gathered_before h i).no_ids tt)
 gathers_by z r r' s choice l _ _ (finds_other next e n) h i k = gathers_none z r'.history r'.origin (l.looked + 1) next _ (r'.seats s) n ((gathered_before h i).empty tt) (ap (λ g. g.ids) h.log ∙ (gathered_before h i).no_ids tt)
-gathers_by z r r' s choice l _ _ (list_leads c e) h i k = gathers_hand r'.history r'.origin ListKey _ (r'.seats s) (subst (λ x. AreCopies r'.history r'.origin l.row l.call l.gathered x) (sym (ap (λ g. g.ids) h.log)) (copies_kept h i tt)) (ap (λ g. g.read) h.log ∙ unread_before h i tt) (λ x. x) (λ x. x)
+gathers_by z r r' s choice l _ _ (list_leads c e) h i k = gathers_hand r'.history r'.origin (Activity.Read Read.Key) _ (r'.seats s) (subst (λ x. AreCopies r'.history r'.origin l.row l.call l.gathered x) (sym (ap (λ g. g.ids) h.log)) (copies_kept h i tt)) (ap (λ g. g.read) h.log ∙ unread_before h i tt) (λ x. x) (λ x. x)
 gathers_by z r r' s choice l _ _ (list_ends next e n) h i k = subst (Gathers r'.history r'.origin next.activity next) (sym h.log) (copies_next r'.history r'.origin l next (r.seats s) n (copies_kept h i tt) (unread_before h i tt))
-gathers_by z r r' s choice l _ _ (key_below e) h i k = gathers_hand r'.history r'.origin ListFrom _ (r'.seats s) (subst (λ x. AreCopies r'.history r'.origin l.row l.call l.gathered x) (sym (ap (λ g. g.ids) h.log)) (copies_kept h i tt)) (ap (λ g. g.read) h.log ∙ unread_before h i tt) (λ x. x) (λ x. x)
-gathers_by z r r' s choice l _ _ (key_within e w) h i k = gathers_hand r'.history r'.origin ListVer _ (r'.seats s) (subst (λ x. AreCopies r'.history r'.origin l.row l.call l.gathered x) (sym (ap (λ g. g.ids) h.log)) (copies_kept h i tt)) (ap (λ g. g.read) h.log ∙ unread_before h i tt) (λ x. x) (λ x. x)
+gathers_by z r r' s choice l _ _ (key_below e) h i k = gathers_hand r'.history r'.origin (Activity.Read Read.Link) _ (r'.seats s) (subst (λ x. AreCopies r'.history r'.origin l.row l.call l.gathered x) (sym (ap (λ g. g.ids) h.log)) (copies_kept h i tt)) (ap (λ g. g.read) h.log ∙ unread_before h i tt) (λ x. x) (λ x. x)
+gathers_by z r r' s choice l _ _ (key_within e w) h i k = gathers_hand r'.history r'.origin (Activity.Read Read.Version) _ (r'.seats s) (subst (λ x. AreCopies r'.history r'.origin l.row l.call l.gathered x) (sym (ap (λ g. g.ids) h.log)) (copies_kept h i tt)) (ap (λ g. g.read) h.log ∙ unread_before h i tt) (λ x. x) (λ x. x)
 gathers_by z r r' s choice l _ _ (key_above next e n) h i k = subst (Gathers r'.history r'.origin next.activity next) (sym h.log) (copies_next r'.history r'.origin l next (r.seats s) n (copies_kept h i tt) (unread_before h i tt))
-gathers_by z r r' s choice l _ _ loads_version h i k = gathers_hand r'.history r'.origin ListVal _ (r'.seats s) (subst (λ x. AreCopies r'.history r'.origin l.row l.call l.gathered x) (sym (ap (λ g. g.ids) h.log)) (copies_kept h i tt)) (ap (λ g. g.read) h.log ∙ unread_before h i tt) (λ x. x) (λ x. x)
-gathers_by z r r' s choice l _ _ gathers_listed h i k = gathers_hand r'.history r'.origin ListFrom _ (r'.seats s) (subst (λ x. AreCopies r'.history r'.origin l.row l.call (gathering z (value_of_word (word z r.world (name.Value l.row l.place))) l).gathered x) (sym (ap (λ g. g.ids) h.log)) (let x = apart_before h i tt in copies_more h i k tt tt tt tt (h.changed.loaded refl (name.Value l.row l.place)) x (hand_fresh z _ l (walks_before h i) x) (x.hand tt))) (ap (λ g. g.read) h.log ∙ unread_before h i tt) (λ x. x) (λ x. x)
-gathers_by z r r' s choice l _ _ (rest_wanted e) h i k = gathers_hand r'.history r'.origin RestVal _ (r'.seats s) (subst (λ x. AreCopies r'.history r'.origin l.row l.call l.gathered x) (sym (ap (λ g. g.ids) h.log)) (copies_kept h i tt)) (ap (λ g. g.read) h.log ∙ unread_before h i tt) (λ x. x) (λ x. x)
+gathers_by z r r' s choice l _ _ loads_version h i k = gathers_hand r'.history r'.origin (Activity.Read Read.Value) _ (r'.seats s) (subst (λ x. AreCopies r'.history r'.origin l.row l.call l.gathered x) (sym (ap (λ g. g.ids) h.log)) (copies_kept h i tt)) (ap (λ g. g.read) h.log ∙ unread_before h i tt) (λ x. x) (λ x. x)
+gathers_by z r r' s choice l _ _ gathers_listed h i k = gathers_hand r'.history r'.origin (Activity.Read Read.Link) _ (r'.seats s) (subst (λ x. AreCopies r'.history r'.origin l.row l.call (gathering z (value_of_word (word z r.world (name.Value l.row l.place))) l).gathered x) (sym (ap (λ g. g.ids) h.log)) (let x = apart_before h i tt in copies_more h i k tt tt tt tt (h.changed.loaded refl (name.Value l.row l.place)) x (hand_fresh z _ l (walks_before h i) x) (x.hand tt))) (ap (λ g. g.read) h.log ∙ unread_before h i tt) (λ x. x) (λ x. x)
+gathers_by z r r' s choice l _ _ (rest_wanted e) h i k = gathers_hand r'.history r'.origin (Activity.Read Read.LeftOverValue) _ (r'.seats s) (subst (λ x. AreCopies r'.history r'.origin l.row l.call l.gathered x) (sym (ap (λ g. g.ids) h.log)) (copies_kept h i tt)) (ap (λ g. g.read) h.log ∙ unread_before h i tt) (λ x. x) (λ x. x)
 gathers_by z r r' s choice l _ _ (rest_passed next e n) h i k = subst (Gathers r'.history r'.origin next.activity next) (sym h.log) (copies_next r'.history r'.origin l next (r.seats s) n (copies_kept h i tt) (unread_before h i tt))
 gathers_by z r r' s choice l _ _ (gathers_rest next n) h i k = subst (Gathers r'.history r'.origin next.activity next) (sym h.log) (copies_next r'.history r'.origin _ next _ n (let x = apart_before h i tt in copies_more h i k tt tt tt tt (h.changed.loaded refl (name.Value l.row l.place)) x (x.fresh tt) (x.hand tt)) (unread_before h i tt))
-gathers_by z r r' s choice l _ _ (takes_cell e) h i k = gathers_kept h i PutKey tt refl refl (ap (λ g. g.ids) h.log ∙ added_same (λ g. g.ids) _ (r.seats s) _ refl) (ap (λ g. g.read) h.log ∙ added_same (λ g. g.read) _ (r.seats s) _ refl) (λ x. x) (λ x. x) (λ x. x)
+gathers_by z r r' s choice l _ _ (takes_cell e) h i k = gathers_kept h i (Activity.Put Put.Key) tt refl refl (ap (λ g. g.ids) h.log ∙ added_same (λ g. g.ids) _ (r.seats s) _ refl) (ap (λ g. g.read) h.log ∙ added_same (λ g. g.read) _ (r.seats s) _ refl) (λ x. x) (λ x. x) (λ x. x)
 gathers_by z r r' s choice l _ _ (takes_full e) h i k = gathers_kept h i _ tt refl refl (ap (λ g. g.ids) h.log ∙ added_same (λ g. g.ids) _ (r.seats s) _ refl) (ap (λ g. g.read) h.log ∙ added_same (λ g. g.read) _ (r.seats s) _ refl) (λ x. x) (λ x. x) (λ x. x)
 gathers_by z r r' s choice l _ _ (leaves answer) h i k = record { empty = λ x. absurd x; no_ids = λ x. absurd x; taking = λ x. absurd x; kept = λ x. absurd x }
 gathers_by z r r' s choice l _ _ (settles_empty e) h i k = gathers_kept h i _ tt refl refl (ap (λ g. g.ids) h.log ∙ settled_same (λ g. g.ids) l.waiting _ (r.settled s) (r.seats s) refl) (ap (λ g. g.read) h.log ∙ settled_same (λ g. g.read) l.waiting _ (r.settled s) (r.seats s) refl) (λ x. x) (λ x. x) (λ x. x)
@@ -264,16 +276,8 @@ read_is next row q g e = which (is_at_cell next) e
 
 -- a reader at its row is in its pass, and its call is a get or a scan
 reader_is : (a : Activity) (l : Local) → IsAtRead a → IsKind a l → IsPassing a × IsReadCall l.call
-reader_is (Look i) l x k = (tt, k)
-reader_is LookKey l x k = (tt, k)
-reader_is LookClock l x k = (tt, k)
-reader_is LookHelp l x k = (tt, k)
-reader_is ListFrom l x k = (tt, k)
-reader_is ListKey l x k = (tt, k)
-reader_is ListVer l x k = (tt, k)
-reader_is ListVal l x k = (tt, k)
-reader_is RestKey l x k = (tt, k)
-reader_is RestVal l x k = (tt, k)
+reader_is (Activity.Look _) l x k = (tt, k)
+reader_is (Activity.Read _) l x k = (tt, k)
 reader_is _ l x k = absurd x
 
 -- no call that reads is a put or a delete
@@ -284,8 +288,8 @@ reads_or_puts _ x y = x
 
 -- a seat in its pass whose event does not end it is in its call
 passing_underway : (a : Activity) → IsPassing a → (WritesPass a → ⊥) → IsUnderway a
-passing_underway Idle p n = absurd p
-passing_underway (Leave answer) p n = n tt
+passing_underway Activity.Idle p n = absurd p
+passing_underway (Activity.Leave answer) p n = n tt
 passing_underway _ p n = tt
 
 -- a call that reads ends its pass only where it ends: a put alone tries again
@@ -298,7 +302,7 @@ read_goes_on z v s choice l a k retries c u p n w = reads_or_puts l.call c u
 read_goes_on z v s choice l a k b c u p n w = w
 
 -- a call that begins has read no row
-begun_unread : {A : Type 0} (choice : Choice) (call q : ℕ) (g : SeatLog) → is_skipped Idle choice ≡ false → (log_begun choice call g).read ≡ Some q → A
+begun_unread : {A : Type 0} (choice : Choice) (call q : ℕ) (g : SeatLog) → is_skipped Activity.Idle choice ≡ false → (log_begun choice call g).read ≡ Some q → A
 begun_unread (Begin c) call q g b e = let y : None ≡ Some q = e in absurd (cc)
 begun_unread Go call q g b e = let y : true ≡ false = b in absurd (cc)
 begun_unread (Guess n) call q g b e = let y : true ≡ false = b in absurd (cc)
@@ -307,33 +311,40 @@ begun_unread Stop call q g b e = let y : true ≡ false = b in absurd (cc)
 module _ {z : Sizes} {r r' : Run} {s : ℕ} {choice : Choice} {l l' : Local} where
   -- the row that the seat has read was read before, or is the one that it has just read
   read_was : (a : Activity) → Happens z r r' s choice l l' a → Inv z r → (q : ℕ) → (r'.seats s).read ≡ Some q → IsKeeping a × ((r.seats s).read ≡ Some q) ⊎ IsAtRead a × (l.row ≡ q)
-  read_was Idle h i q e = begun_unread choice (length r.history.calls) q (r.seats s) h.moves (sym (ap (λ g. g.read) h.log) ∙ e)
-  read_was (Look j) h i q e = let y : None ≡ Some q = sym (ap (λ g. g.read) h.log ∙ look_unread j (length r.history.log) (r.seats s) (unread_before h i)) ∙ e in absurd (cc)
-  read_was LookKey h i q e = let y : None ≡ Some q = sym (ap (λ g. g.read) h.log ∙ unread_before h i tt) ∙ e in absurd (cc)
-  read_was LookClock h i q e = let y : None ≡ Some q = sym (ap (λ g. g.read) h.log ∙ unread_before h i tt) ∙ e in absurd (cc)
-  read_was LookHelp h i q e = let y : None ≡ Some q = sym (ap (λ g. g.read) h.log ∙ unread_before h i tt) ∙ e in absurd (cc)
-  read_was ListFrom h i q e = at_end (read_is l'.activity l.row q (r.seats s) (sym (ap (λ g. g.read) h.log) ∙ e))
+  read_was Activity.Idle h i q e = begun_unread choice (length r.history.calls) q (r.seats s) h.moves (sym (ap (λ g. g.read) h.log) ∙ e)
+  read_was (Activity.Look (Look.Entry j)) h i q e = let y : None ≡ Some q = sym (ap (λ g. g.read) h.log ∙ look_unread j (length r.history.log) (r.seats s) (unread_before h i)) ∙ e in absurd (cc)
+  read_was (Activity.Look _) h i q e = let y : None ≡ Some q = sym (ap (λ g. g.read) h.log ∙ unread_before h i tt) ∙ e in absurd (cc)
+  read_was (Activity.Read Read.Link) h i q e = at_end (read_is l'.activity l.row q (r.seats s) (sym (ap (λ g. g.read) h.log) ∙ e))
     where
-      at_end : ((r.seats s).read ≡ Some q) ⊎ (l.row ≡ q) → IsKeeping ListFrom × ((r.seats s).read ≡ Some q) ⊎ IsAtRead ListFrom × (l.row ≡ q)
+      at_end : ((r.seats s).read ≡ Some q) ⊎ (l.row ≡ q) → IsKeeping (Activity.Read Read.Link) × ((r.seats s).read ≡ Some q) ⊎ IsAtRead (Activity.Read Read.Link) × (l.row ≡ q)
       at_end (inl x) = inl (tt, x)
       at_end (inr x) = inr (tt, x)
-  read_was ListKey h i q e = at_end (read_is l'.activity l.row q (r.seats s) (sym (ap (λ g. g.read) h.log) ∙ e))
+  read_was (Activity.Read Read.Key) h i q e = at_end (read_is l'.activity l.row q (r.seats s) (sym (ap (λ g. g.read) h.log) ∙ e))
     where
-      at_end : ((r.seats s).read ≡ Some q) ⊎ (l.row ≡ q) → IsKeeping ListKey × ((r.seats s).read ≡ Some q) ⊎ IsAtRead ListKey × (l.row ≡ q)
+      at_end : ((r.seats s).read ≡ Some q) ⊎ (l.row ≡ q) → IsKeeping (Activity.Read Read.Key) × ((r.seats s).read ≡ Some q) ⊎ IsAtRead (Activity.Read Read.Key) × (l.row ≡ q)
       at_end (inl x) = inl (tt, x)
       at_end (inr x) = inr (tt, x)
-  read_was RestKey h i q e = at_end (read_is l'.activity l.row q (r.seats s) (sym (ap (λ g. g.read) h.log) ∙ e))
+  read_was (Activity.Read Read.LeftOverKey) h i q e = at_end (read_is l'.activity l.row q (r.seats s) (sym (ap (λ g. g.read) h.log) ∙ e))
     where
-      at_end : ((r.seats s).read ≡ Some q) ⊎ (l.row ≡ q) → IsKeeping RestKey × ((r.seats s).read ≡ Some q) ⊎ IsAtRead RestKey × (l.row ≡ q)
+      at_end : ((r.seats s).read ≡ Some q) ⊎ (l.row ≡ q) → IsKeeping (Activity.Read Read.LeftOverKey) × ((r.seats s).read ≡ Some q) ⊎ IsAtRead (Activity.Read Read.LeftOverKey) × (l.row ≡ q)
       at_end (inl x) = inl (tt, x)
       at_end (inr x) = inr (tt, x)
-  read_was RestVal h i q e = at_end (read_is l'.activity l.row q (log_gathered (r.origin l.row l.place) (place_gathered l (word z r.world (name.Value l.row l.place))) (r.seats s)) (sym (ap (λ g. g.read) h.log) ∙ e))
+  read_was (Activity.Read Read.LeftOverValue) h i q e = at_end (read_is l'.activity l.row q (log_gathered (r.origin l.row l.place) (place_gathered l (word z r.world (name.Value l.row l.place))) (r.seats s)) (sym (ap (λ g. g.read) h.log) ∙ e))
     where
-      at_end : ((r.seats s).read ≡ Some q) ⊎ (l.row ≡ q) → IsKeeping RestVal × ((r.seats s).read ≡ Some q) ⊎ IsAtRead RestVal × (l.row ≡ q)
+      at_end : ((r.seats s).read ≡ Some q) ⊎ (l.row ≡ q) → IsKeeping (Activity.Read Read.LeftOverValue) × ((r.seats s).read ≡ Some q) ⊎ IsAtRead (Activity.Read Read.LeftOverValue) × (l.row ≡ q)
       at_end (inl x) = inl (tt, x)
       at_end (inr x) = inr (tt, x)
-  read_was ScanSettle h i q e = inl (tt, sym (ap (λ g. g.read) h.log ∙ settled_same (λ g. g.read) l.waiting _ (r.settled s) (r.seats s) refl) ∙ e)
-  read_was PutAdd h i q e = inl (tt, sym (ap (λ g. g.read) h.log ∙ added_same (λ g. g.read) _ (r.seats s) _ refl) ∙ e)
+  read_was (Activity.Draw Draw.Settle) h i q e = inl (tt, sym (ap (λ g. g.read) h.log ∙ settled_same (λ g. g.read) l.waiting _ (r.settled s) (r.seats s) refl) ∙ e)
+  read_was (Activity.Put Put.Add) h i q e = inl (tt, sym (ap (λ g. g.read) h.log ∙ added_same (λ g. g.read) _ (r.seats s) _ refl) ∙ e)
+  read_was (Activity.Enter Enter.Announce) h i q e = inl (tt, sym (ap (λ g. g.read) h.log) ∙ e)
+  read_was (Activity.Walk Walk.First) h i q e = inl (tt, sym (ap (λ g. g.read) h.log) ∙ e)
+  read_was (Activity.Insert Insert.Link) h i q e = inl (tt, sym (ap (λ g. g.read) h.log) ∙ e)
+  read_was (Activity.Rebalance (Rebalance.Engage Engage.Clock)) h i q e = inl (tt, sym (ap (λ g. g.read) h.log) ∙ e)
+  read_was (Activity.Rebalance (Rebalance.Freeze Freeze.Count)) h i q e = inl (tt, sym (ap (λ g. g.read) h.log) ∙ e)
+  read_was (Activity.Rebalance (Rebalance.Gather Gather.Link)) h i q e = inl (tt, sym (ap (λ g. g.read) h.log) ∙ e)
+  read_was (Activity.Rebalance (Rebalance.Seek Seek.Next)) h i q e = inl (tt, sym (ap (λ g. g.read) h.log) ∙ e)
+  read_was (Activity.Rebalance (Rebalance.Write Write.Count)) h i q e = inl (tt, sym (ap (λ g. g.read) h.log) ∙ e)
+  read_was (Activity.Rebalance (Rebalance.Replace Replace.First)) h i q e = inl (tt, sym (ap (λ g. g.read) h.log) ∙ e)
   read_was a h i q e = inl (tt, sym (ap (λ g. g.read) h.log) ∙ e)
 
   -- before the event it was one that the seat might name, in its pass and for a call that reads

@@ -8,7 +8,8 @@ use Rattle.kw_words.specs.declared.pend.Pend.TheVariants as pend
 use Rattle.kw_words.specs.Pend.{pend_word}
 use Rattle.kw_rows.specs.Ledger.{Ledger}
 use Rattle.kw_world.specs.declared.activity.Activity.{Activity}
-use Rattle.kw_world.specs.declared.activity.Activity.TheVariants.{Replace}
+use Rattle.kw_world.specs.declared.activity.rebalance.Rebalance.TheVariants as Rebalance
+use Rattle.kw_world.specs.declared.activity.rebalance.replace.Replace.TheVariants as Replace
 use Rattle.kw_world.specs.declared.event.Choice.{Choice}
 use Rattle.kw_world.specs.declared.local.Local.{Local}
 use Rattle.kw_world.specs.Sane.{IsActivity}
@@ -53,7 +54,7 @@ pub record StampsNow (z : Sizes) (r r' : Run) (a : Activity) (o : ℕ) : Type 0 
   pub cell : ℕ
   pub entry : word z r.world (name.Pend (attempt r.history o).row (attempt r.history o).seat) ≡ pend_word (pend.Pending cell)
   pub was : (p : ℕ) → IsPut r'.history p → (p ≡ o) ⊎ IsPut r.history p
-  pub other : a ≢ Replace
+  pub other : a ≢ Activity.Rebalance (Rebalance.Replace Replace.Exchange)
   pub origin : (q c : ℕ) → r'.origin q c ≡ r.origin q c
 
 -- one attempt is stamped, or none

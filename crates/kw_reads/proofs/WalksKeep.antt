@@ -11,7 +11,7 @@ use Rattle.kw_lists.specs.Walks.{IsWalking}
 use Rattle.kw_lists.proofs.Inserting.{at_next}
 use Rattle.kw_lists.proofs.Walking.{walk_begins, walk_goes_on, walked_most}
 use Rattle.kw_world.specs.declared.activity.Activity.{Activity}
-use Rattle.kw_world.specs.declared.activity.Activity.TheVariants.{Look, LookKey, LookClock, LookHelp, ListFrom, ListKey, ListVer, ListVal, RestKey, RestVal}
+use Rattle.kw_world.specs.declared.activity.read.Read.TheVariants as Read
 use Rattle.kw_world.specs.declared.local.Local.{Local}
 use Rattle.kw_world.specs.declared.event.Choice.{Choice}
 use Rattle.kw_world.specs.ListTransitions.{link_name, one_more}
@@ -37,16 +37,8 @@ use Rattle.kw_reads.proofs.Ready.{walks_last}
 
 -- a reader at its row is at a row
 pub read_at_row : (a : Activity) → IsAtRead a → IsAtRow a
-read_at_row (Look i) x = tt
-read_at_row LookKey x = tt
-read_at_row LookClock x = tt
-read_at_row LookHelp x = tt
-read_at_row ListFrom x = tt
-read_at_row ListKey x = tt
-read_at_row ListVer x = tt
-read_at_row ListVal x = tt
-read_at_row RestKey x = tt
-read_at_row RestVal x = tt
+read_at_row (Activity.Look _) x = tt
+read_at_row (Activity.Read _) x = tt
 read_at_row _ x = absurd x
 
 -- a cell that was met, for another local that is at the same link with the same cell
@@ -55,9 +47,9 @@ same_met n row l l' e f g k = record { on = rw e k.on; behind = rw (e, f) k.behi
 
 -- the link at which a reader with a cell of the list in hand is
 pub has_met : (n : ℕ) (row : Row) (a : Activity) (l : Local) → IsAtListed a → ReadsList n row a l → HasMetCell n row l
-has_met n row ListKey l x k = k
-has_met n row ListVer l x k = k
-has_met n row ListVal l x k = k
+has_met n row (Activity.Read Read.Key) l x k = k
+has_met n row (Activity.Read Read.Version) l x k = k
+has_met n row (Activity.Read Read.Value) l x k = k
 has_met n row _ l x k = absurd x
 
 -- a reader that begins with the list is at its first link
@@ -107,7 +99,7 @@ module _ {z : Sizes} {r r' : Run} {s : ℕ} {choice : Choice} {l l' : Local} {a 
   walks_after x = walks_last z.cells _ _ (row_left x) a l walks_before
 
 -- the reader loads its link
-module _ {z : Sizes} {r r' : Run} {s : ℕ} {choice : Choice} {l l' : Local} (h : Happens z r r' s choice l l' ListFrom) (i : Inv z r) where
+module _ {z : Sizes} {r r' : Run} {s : ℕ} {choice : Choice} {l l' : Local} (h : Happens z r r' s choice l l' (Activity.Read Read.Link)) (i : Inv z r) where
   -- what it holds
   pub link_loaded : (x : Option ℕ) → cell_of_link_word (word z r.world (link_name l.row l.link)) ≡ x → (list_in (word z r'.world) r'.listed l.row).link l.link ≡ x
   link_loaded x e = link_is (word z r'.world) l.row l.link ∙ ap cell_of_link_word (h.changed.loaded refl (link_name l.row l.link)) ∙ e

@@ -4,7 +4,10 @@ use Rattle.kw_words.specs.declared.layout.Name.TheVariants as name
 use Rattle.kw_words.specs.declared.scan.ScanWord.TheVariants.{Waiting, Drawn}
 use Rattle.kw_words.specs.Scan.{scan_word}
 use Rattle.kw_world.specs.declared.activity.Activity.{Activity}
-use Rattle.kw_world.specs.declared.activity.Activity.TheVariants.{ScanSettle, HelpSettle, FreezeLook, Freeze, GuessMin, Walk, WalkMin}
+use Rattle.kw_world.specs.declared.activity.draw.Draw.TheVariants as Draw
+use Rattle.kw_world.specs.declared.activity.rebalance.freeze.Freeze.TheVariants as Freeze
+use Rattle.kw_world.specs.declared.activity.rebalance.Rebalance.TheVariants as Rebalance
+use Rattle.kw_world.specs.declared.activity.walk.Walk.TheVariants as Walk
 use Rattle.kw_world.specs.declared.limits.TheConstants.{NEWEST}
 use Rattle.kw_world.specs.declared.local.Local.{Local}
 use Rattle.kw_world.specs.Calls.{is_scan}
@@ -50,8 +53,8 @@ rows_of z r = record { in_row = InRow z r; stamped = IsPut r.history; holds = Is
 -- that stands there
 pub data Through (z : Sizes) (r : Run) (i u : ℕ) : Type 0 where
   has_drawn : i < z.seats → word z r.world (name.Scan i) ≡ scan_word (Drawn u) → Through z r i u
-  is_held : (k : Local) → i < z.seats → slice_get r.world.locals i ≡ Some k → k.activity ≡ ScanSettle → k.drawn ≡ u → word z r.world (name.Scan i) ≡ scan_word (Waiting k.waiting) → Through z r i u
-  is_helped : (s : ℕ) (k : Local) → i < z.seats → slice_get r.world.locals s ≡ Some k → k.activity ≡ HelpSettle i → k.rebalance.drawn ≡ u → word z r.world (name.Scan i) ≡ scan_word (Waiting k.rebalance.waiting) → Through z r i u
+  is_held : (k : Local) → i < z.seats → slice_get r.world.locals i ≡ Some k → k.activity ≡ Activity.Draw Draw.Settle → k.drawn ≡ u → word z r.world (name.Scan i) ≡ scan_word (Waiting k.waiting) → Through z r i u
+  is_helped : (s : ℕ) (k : Local) → i < z.seats → slice_get r.world.locals s ≡ Some k → k.activity ≡ Activity.Rebalance (Rebalance.Freeze (Freeze.Settle i)) → k.rebalance.drawn ≡ u → word z r.world (name.Scan i) ≡ scan_word (Waiting k.rebalance.waiting) → Through z r i u
 
 abbrev pub Needed : Sizes → Run → ℕ → Type 0
 Needed z r = IsNeeded (word z r.world name.Clock) (Through z r)
@@ -105,13 +108,13 @@ pub record IsFronted (z : Sizes) (r : Run) (row version floor looked : ℕ) : Ty
 
 -- the seat walks, and names its row
 abbrev pub HasRow : Activity → Type 0
-HasRow GuessMin = Unit {0}
-HasRow Walk = Unit {0}
-HasRow WalkMin = Unit {0}
+HasRow (Activity.Walk Walk.GuessedLeast) = Unit {0}
+HasRow (Activity.Walk Walk.Next) = Unit {0}
+HasRow (Activity.Walk Walk.NextLeast) = Unit {0}
 HasRow a = IsAtRow a
 
 abbrev pub HasCandidate : Activity → Type 0
-HasCandidate WalkMin = Unit {0}
+HasCandidate (Activity.Walk Walk.NextLeast) = Unit {0}
 HasCandidate _ = ⊥
 
 -- the rows that a walk names were not gone when its call drew, or began
@@ -122,8 +125,8 @@ pub record IsLater (g : Ledger) (d : ℕ) (a : Activity) (l : Local) : Type 0 wh
 
 -- all entries of the row are frozen, and the row is not replaced by this seat
 abbrev pub HasPassedRow : Activity → Type 0
-HasPassedRow (FreezeLook i) = ⊥
-HasPassedRow (Freeze i) = ⊥
+HasPassedRow (Activity.Rebalance (Rebalance.Freeze (Freeze.Look i))) = ⊥
+HasPassedRow (Activity.Rebalance (Rebalance.Freeze (Freeze.Entry i))) = ⊥
 HasPassedRow a = HasFrozen a
 
 -- it looks at the scans, or has looked at all

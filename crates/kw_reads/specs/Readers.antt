@@ -17,7 +17,8 @@ use Rattle.kw_lists.specs.Rows.{Row, Stands, IsBehind, IsOn}
 use Rattle.kw_lists.specs.Walks.{IsPassed, IsWalking}
 use Rattle.kw_model.specs.declared.call.Call.{Call}
 use Rattle.kw_world.specs.declared.activity.Activity.{Activity}
-use Rattle.kw_world.specs.declared.activity.Activity.TheVariants.{Look, LookKey, LookClock, LookHelp, ListFrom, ListKey, ListVer, ListVal, RestKey, RestVal}
+use Rattle.kw_world.specs.declared.activity.look.Look.TheVariants as Look
+use Rattle.kw_world.specs.declared.activity.read.Read.TheVariants as Read
 use Rattle.kw_world.specs.declared.local.Local.{Local}
 use Rattle.kw_world.specs.declared.marks.Mark.{Mark}
 use Rattle.kw_world.specs.Sizes.{Sizes}
@@ -67,10 +68,8 @@ pub record IsMarkOf (h : History) (o : Origins) (row : ℕ) (m : Mark) : Type 0 
 
 -- how many entries the reader is done with: those of the seats below this one
 abbrev pub looked_by : Sizes → Activity → Local → ℕ
-looked_by z (Look i) l = i
-looked_by z LookKey l = l.looked
-looked_by z LookClock l = l.looked
-looked_by z LookHelp l = l.looked
+looked_by z (Activity.Look (Look.Entry i)) l = i
+looked_by z (Activity.Look _) l = l.looked
 looked_by z _ l = z.seats
 
 -- each attempt that is due and whose seat's entry the reader is done with is ready; and where it
@@ -92,14 +91,11 @@ pub record HasMetCell (n : ℕ) (r : Row) (l : Local) : Type 0 where
 -- its link, or at the cell that it has met. It has counted no more cells than there are listed ones
 -- up to there, for it meets none twice
 abbrev pub ReadsList : ℕ → Row → Activity → Local → Type 0
-ReadsList n r (Look i) l = (l.link ≡ None) × (l.walked ≡ 0)
-ReadsList n r LookKey l = (l.link ≡ None) × (l.walked ≡ 0)
-ReadsList n r LookClock l = (l.link ≡ None) × (l.walked ≡ 0)
-ReadsList n r LookHelp l = (l.link ≡ None) × (l.walked ≡ 0)
-ReadsList n r ListFrom l = IsWalking n r l.link l.walked
-ReadsList n r ListKey l = HasMetCell n r l
-ReadsList n r ListVer l = HasMetCell n r l
-ReadsList n r ListVal l = HasMetCell n r l
+ReadsList n r (Activity.Look _) l = (l.link ≡ None) × (l.walked ≡ 0)
+ReadsList n r (Activity.Read Read.Link) l = IsWalking n r l.link l.walked
+ReadsList n r (Activity.Read Read.Key) l = HasMetCell n r l
+ReadsList n r (Activity.Read Read.Version) l = HasMetCell n r l
+ReadsList n r (Activity.Read Read.Value) l = HasMetCell n r l
 ReadsList n r _ l = Unit {0}
 
 -- the cell is the one in hand, or stands behind it in the list
@@ -109,12 +105,10 @@ IsFromHand r l c = (r.listed c ≡ true) × ((c ≡ l.place) ⊎ Stands r l.plac
 -- the walk will meet the cell, or it is in hand: it is listed behind the reader's link, or from the
 -- cell in hand on; of the cells that were not met it is the one in hand
 abbrev pub IsToCome : Row → Activity → Local → ℕ → Type 0
-IsToCome r ListFrom l c = (r.listed c ≡ true) × IsBehind r l.link c
-IsToCome r ListKey l c = IsFromHand r l c
-IsToCome r ListVer l c = IsFromHand r l c
-IsToCome r ListVal l c = IsFromHand r l c
-IsToCome r RestKey l c = c ≡ l.place
-IsToCome r RestVal l c = c ≡ l.place
+IsToCome r (Activity.Read Read.Link) l c = (r.listed c ≡ true) × IsBehind r l.link c
+IsToCome r (Activity.Read Read.LeftOverKey) l c = c ≡ l.place
+IsToCome r (Activity.Read Read.LeftOverValue) l c = c ≡ l.place
+IsToCome r (Activity.Read _) l c = IsFromHand r l c
 IsToCome r _ l c = ⊥
 
 -- the cell in hand is that of an attempt that is stamped, with the version in hand and with the key

@@ -7,7 +7,6 @@ use Rattle.kw_model.specs.declared.call.Reply.TheVariants.{Value}
 use Rattle.kw_world.specs.declared.answer.Answer.TheVariants.{Pairs}
 use Rattle.kw_world.specs.Answers.{reply_of}
 use Rattle.kw_world.specs.declared.activity.Activity.{Activity}
-use Rattle.kw_world.specs.declared.activity.Activity.TheVariants.{ClearScan, Leave}
 use Rattle.kw_world.specs.declared.local.Local.{Local}
 use Rattle.kw_world.specs.declared.limits.TheConstants.{NEWEST}
 use Rattle.kw_world.specs.Calls.{first_key, last_key, is_scan}
@@ -30,8 +29,8 @@ pub record Covers (h : History) (from version drawn bound : ℕ) (pairs : List (
 
 -- a scan that has all its pairs has them for its whole range
 abbrev pub IsCovered : Activity → History → Local → SeatLog → Type 0
-IsCovered (ClearScan Pairs) h l g = Covers h (first_key l.call) l.version g.drawn (last_key l.call + 1) l.pairs
-IsCovered (Leave Pairs) h l g = Covers h (first_key l.call) l.version g.drawn (last_key l.call + 1) l.pairs
+IsCovered (Activity.EndScan Pairs) h l g = Covers h (first_key l.call) l.version g.drawn (last_key l.call + 1) l.pairs
+IsCovered (Activity.Leave Pairs) h l g = Covers h (first_key l.call) l.version g.drawn (last_key l.call + 1) l.pairs
 IsCovered _ h l g = Unit {0}
 
 -- a call that has read no row has no pairs. A scan on its way or at a row has the pairs of the keys
@@ -52,7 +51,7 @@ pub record AnswersGet (h : History) (key first : ℕ) (reply : Reply) (best : Op
 
 -- such a get has looked at the attempt beside its best gathered cell
 abbrev pub IsAnswered : Activity → Option Call → History → Local → SeatLog → Type 0
-IsAnswered (Leave answer) (Some (Get key)) h l g = AnswersGet h key (called h g.call).first (reply_of answer l.pairs) (best_id l.gathered g.ids key NEWEST)
+IsAnswered (Activity.Leave answer) (Some (Get key)) h l g = AnswersGet h key (called h g.call).first (reply_of answer l.pairs) (best_id l.gathered g.ids key NEWEST)
 IsAnswered _ call h l g = Unit {0}
 
 -- The group.

@@ -7,7 +7,12 @@ use Rattle.kw_rows.specs.RowState as row
 use Rattle.kw_rows.proofs.Named.{held_by}
 use Rattle.kw_rows.proofs.Views.{alone, leads, opens}
 use Rattle.kw_world.specs.declared.activity.Activity.{Activity}
-use Rattle.kw_world.specs.declared.activity.Activity.TheVariants.{Leave, Again, BalClock, BalEpoch, BalState, BalNormal, Engage, MarkLink, Decide, FreezeCount, FreezeLook, Freeze, ScanLook, HelpDraw, HelpSettle, TakeFrom, TakeKey, TakeVersion, TakeValue, TakeRestKey, TakeRestValue, SeekFirst, Seek, SeekPass, Reclaim, TakeRow, GiveBack, WriteCount, WriteMin, WriteNext, WriteFirst, WritePend, WriteKey, WriteValue, WriteVersion, WriteAfter, Before, BeforeGuess, BeforeHead, BeforeLink, BeforeMin, Replace, Normalise, Number, Retire}
+use Rattle.kw_world.specs.declared.activity.rebalance.engage.Engage.TheVariants as Engage
+use Rattle.kw_world.specs.declared.activity.rebalance.freeze.Freeze.TheVariants as Freeze
+use Rattle.kw_world.specs.declared.activity.rebalance.gather.Gather.TheVariants as Gather
+use Rattle.kw_world.specs.declared.activity.rebalance.Rebalance.TheVariants as Rebalance
+use Rattle.kw_world.specs.declared.activity.rebalance.replace.Replace.TheVariants as Replace
+use Rattle.kw_world.specs.declared.activity.rebalance.seek.Seek.TheVariants as Seek
 use Rattle.kw_world.specs.declared.answer.Answer.TheVariants.{Done, NoRows}
 use Rattle.kw_world.specs.declared.event.Choice.{Choice}
 use Rattle.kw_world.specs.declared.local.Local.{Local}
@@ -36,41 +41,18 @@ use Rattle.kw_shape.specs.Shape.{Shape, Walks}
 
 -- a seat that rebalances may name the rows of its view
 pub named : (v : Words) (g : kw_rows.Ledger) (t : ℕ) (a : Activity) (l : Local) → Balances v g t a l → Named g t (view_of a l)
-named v g t (MarkLink count) l b = b.fresh tt
-named v g t (Decide count) l b = b.fresh tt
-named v g t FreezeCount l b = b.fresh tt
-named v g t (FreezeLook i) l b = b.fresh tt
-named v g t (Freeze i) l b = b.fresh tt
-named v g t (ScanLook i) l b = b.fresh tt
-named v g t (HelpDraw i) l b = b.fresh tt
-named v g t (HelpSettle i) l b = b.fresh tt
-named v g t TakeFrom l b = b.fresh tt
-named v g t TakeKey l b = b.fresh tt
-named v g t TakeVersion l b = b.fresh tt
-named v g t TakeValue l b = b.fresh tt
-named v g t TakeRestKey l b = b.fresh tt
-named v g t TakeRestValue l b = b.fresh tt
-named v g t SeekFirst l b = b.fresh tt
-named v g t Seek l b = b.fresh tt
-named v g t (SeekPass i) l b = b.fresh tt
-named v g t Reclaim l b = b.fresh tt
-named v g t TakeRow l b = b.fresh tt
-named v g t GiveBack l b = b.fresh tt
-named v g t WriteCount l b = b.fresh tt
-named v g t WriteMin l b = b.fresh tt
-named v g t WriteNext l b = b.fresh tt
-named v g t WriteFirst l b = b.fresh tt
-named v g t (WritePend i) l b = b.fresh tt
-named v g t (WriteKey j) l b = b.fresh tt
-named v g t (WriteValue j) l b = b.fresh tt
-named v g t (WriteVersion j) l b = b.fresh tt
-named v g t (WriteAfter j) l b = b.fresh tt
-named v g t Before l b = b.fresh tt
-named v g t BeforeGuess l b = b.fresh tt
-named v g t BeforeHead l b = b.fresh tt
-named v g t BeforeLink l b = b.fresh tt
-named v g t BeforeMin l b = b.fresh tt
-named v g t Replace l b = b.fresh tt
+named v g t (Activity.Rebalance (Rebalance.Engage (Engage.MarkLink count))) l b = b.fresh tt
+named v g t (Activity.Rebalance (Rebalance.Engage (Engage.Decide count))) l b = b.fresh tt
+named v g t (Activity.Rebalance (Rebalance.Freeze _)) l b = b.fresh tt
+named v g t (Activity.Rebalance (Rebalance.Gather _)) l b = b.fresh tt
+named v g t (Activity.Rebalance (Rebalance.Seek _)) l b = b.fresh tt
+named v g t (Activity.Rebalance (Rebalance.Write _)) l b = b.fresh tt
+named v g t (Activity.Rebalance (Rebalance.Replace Replace.Start)) l b = b.fresh tt
+named v g t (Activity.Rebalance (Rebalance.Replace Replace.GuessedLeast)) l b = b.fresh tt
+named v g t (Activity.Rebalance (Rebalance.Replace Replace.First)) l b = b.fresh tt
+named v g t (Activity.Rebalance (Rebalance.Replace Replace.Next)) l b = b.fresh tt
+named v g t (Activity.Rebalance (Rebalance.Replace Replace.NextLeast)) l b = b.fresh tt
+named v g t (Activity.Rebalance (Rebalance.Replace Replace.Exchange)) l b = b.fresh tt
 named v g t _ l b = tt
 
 -- a seat that rebalances is in its pass
@@ -83,95 +65,41 @@ in_pass a b n = n (passes_then (stage_of a) b)
 
 -- one that has frozen the count of its row rebalances it
 frozen_balances : (a : Activity) → HasFrozen a → IsBalancing a
-frozen_balances (FreezeLook i) x = tt
-frozen_balances (Freeze i) x = tt
-frozen_balances (ScanLook i) x = tt
-frozen_balances (HelpDraw i) x = tt
-frozen_balances (HelpSettle i) x = tt
-frozen_balances TakeFrom x = tt
-frozen_balances TakeKey x = tt
-frozen_balances TakeVersion x = tt
-frozen_balances TakeValue x = tt
-frozen_balances TakeRestKey x = tt
-frozen_balances TakeRestValue x = tt
-frozen_balances SeekFirst x = tt
-frozen_balances Seek x = tt
-frozen_balances (SeekPass i) x = tt
-frozen_balances Reclaim x = tt
-frozen_balances TakeRow x = tt
-frozen_balances GiveBack x = tt
-frozen_balances WriteCount x = tt
-frozen_balances WriteMin x = tt
-frozen_balances WriteNext x = tt
-frozen_balances WriteFirst x = tt
-frozen_balances (WritePend i) x = tt
-frozen_balances (WriteKey j) x = tt
-frozen_balances (WriteValue j) x = tt
-frozen_balances (WriteVersion j) x = tt
-frozen_balances (WriteAfter j) x = tt
-frozen_balances Before x = tt
-frozen_balances BeforeGuess x = tt
-frozen_balances BeforeHead x = tt
-frozen_balances BeforeLink x = tt
-frozen_balances BeforeMin x = tt
-frozen_balances Replace x = tt
+frozen_balances (Activity.Rebalance (Rebalance.Freeze (Freeze.Look i))) x = tt
+frozen_balances (Activity.Rebalance (Rebalance.Freeze (Freeze.Entry i))) x = tt
+frozen_balances (Activity.Rebalance (Rebalance.Freeze (Freeze.Scan i))) x = tt
+frozen_balances (Activity.Rebalance (Rebalance.Freeze (Freeze.Draw i))) x = tt
+frozen_balances (Activity.Rebalance (Rebalance.Freeze (Freeze.Settle i))) x = tt
+frozen_balances (Activity.Rebalance (Rebalance.Gather _)) x = tt
+frozen_balances (Activity.Rebalance (Rebalance.Seek _)) x = tt
+frozen_balances (Activity.Rebalance (Rebalance.Write _)) x = tt
+frozen_balances (Activity.Rebalance (Rebalance.Replace Replace.Start)) x = tt
+frozen_balances (Activity.Rebalance (Rebalance.Replace Replace.GuessedLeast)) x = tt
+frozen_balances (Activity.Rebalance (Rebalance.Replace Replace.First)) x = tt
+frozen_balances (Activity.Rebalance (Rebalance.Replace Replace.Next)) x = tt
+frozen_balances (Activity.Rebalance (Rebalance.Replace Replace.NextLeast)) x = tt
+frozen_balances (Activity.Rebalance (Rebalance.Replace Replace.Exchange)) x = tt
 frozen_balances _ x = absurd x
 
 -- as long as it builds new rows it goes on with its row alone, and once it has linked them it knows
 -- nothing more of the group
 built_group : (v : Words) (g : kw_rows.Ledger) (c : Activity) (k : Local) → IsBuilding c → (HasFrozen c → Group (rows_in v) g (Alone k.row k.rebalance.after)) → Group (rows_in v) g (view_of c k)
-built_group v g SeekFirst k x f = f tt
-built_group v g Seek k x f = f tt
-built_group v g (SeekPass i) k x f = f tt
-built_group v g Reclaim k x f = f tt
-built_group v g TakeRow k x f = f tt
-built_group v g GiveBack k x f = f tt
-built_group v g WriteCount k x f = f tt
-built_group v g WriteMin k x f = f tt
-built_group v g WriteNext k x f = f tt
-built_group v g WriteFirst k x f = f tt
-built_group v g (WritePend i) k x f = f tt
-built_group v g (WriteKey j) k x f = f tt
-built_group v g (WriteValue j) k x f = f tt
-built_group v g (WriteVersion j) k x f = f tt
-built_group v g (WriteAfter j) k x f = f tt
-built_group v g Before k x f = f tt
-built_group v g BeforeGuess k x f = f tt
-built_group v g BeforeHead k x f = f tt
-built_group v g BeforeLink k x f = f tt
-built_group v g BeforeMin k x f = f tt
-built_group v g Replace k x f = f tt
-built_group v g Normalise k x f = tt
-built_group v g Number k x f = tt
-built_group v g Retire k x f = tt
+built_group v g (Activity.Rebalance (Rebalance.Seek _)) k x f = f tt
+built_group v g (Activity.Rebalance (Rebalance.Write _)) k x f = f tt
+built_group v g (Activity.Rebalance (Rebalance.Replace Replace.Normalise)) k x f = tt
+built_group v g (Activity.Rebalance (Rebalance.Replace Replace.Number)) k x f = tt
+built_group v g (Activity.Rebalance (Rebalance.Replace Replace.Retire)) k x f = tt
+built_group v g (Activity.Rebalance (Rebalance.Replace _)) k x f = f tt
 built_group v g _ k x f = absurd x
 
 -- it builds new rows with the count frozen up to their linking
 built_alone : (a : Activity) (l : Local) → IsBuilding a → HasFrozen a → view_of a l ≡ Alone l.row l.rebalance.after
-built_alone SeekFirst l x f = refl
-built_alone Seek l x f = refl
-built_alone (SeekPass i) l x f = refl
-built_alone Reclaim l x f = refl
-built_alone TakeRow l x f = refl
-built_alone GiveBack l x f = refl
-built_alone WriteCount l x f = refl
-built_alone WriteMin l x f = refl
-built_alone WriteNext l x f = refl
-built_alone WriteFirst l x f = refl
-built_alone (WritePend i) l x f = refl
-built_alone (WriteKey j) l x f = refl
-built_alone (WriteValue j) l x f = refl
-built_alone (WriteVersion j) l x f = refl
-built_alone (WriteAfter j) l x f = refl
-built_alone Before l x f = refl
-built_alone BeforeGuess l x f = refl
-built_alone BeforeHead l x f = refl
-built_alone BeforeLink l x f = refl
-built_alone BeforeMin l x f = refl
-built_alone Replace l x f = refl
-built_alone Normalise l x f = absurd f
-built_alone Number l x f = absurd f
-built_alone Retire l x f = absurd f
+built_alone (Activity.Rebalance (Rebalance.Seek _)) l x f = refl
+built_alone (Activity.Rebalance (Rebalance.Write _)) l x f = refl
+built_alone (Activity.Rebalance (Rebalance.Replace Replace.Normalise)) l x f = absurd f
+built_alone (Activity.Rebalance (Rebalance.Replace Replace.Number)) l x f = absurd f
+built_alone (Activity.Rebalance (Rebalance.Replace Replace.Retire)) l x f = absurd f
+built_alone (Activity.Rebalance (Rebalance.Replace _)) l x f = refl
 built_alone _ l x f = absurd x
 
 built_frozen : (z : Sizes) (v : Words) (choice : Choice) (l : Local) (a : Activity) (k : Local) → Building z v choice l a k → HasFrozen k.activity → HasFrozen a
@@ -213,23 +141,23 @@ module _ (z : Sizes) (r r' : Run) (s : ℕ) (choice : Choice) (l : Local) (a : A
   goes_on b k x p n row low g f = let y = balance_at a h i in stays b k p n (y.fresh x) (y.lower x) row low g f
 
   -- a put at its row rebalances it
-  meets_full : IsAtRow a → IsPassing a → (WritesPass a → ⊥) → Balances (word z r'.world) r'.ledger.rows s BalClock (to_rebalance l).local
+  meets_full : IsAtRow a → IsPassing a → (WritesPass a → ⊥) → Balances (word z r'.world) r'.ledger.rows s (Activity.Rebalance (Rebalance.Engage Engage.Clock)) (to_rebalance l).local
   meets_full x p n =
       let w = subst (λ b. Walks (word z r.world) r.ledger.rows s b l) h.activity (i.walks s l h.knows) in
-      stays BalClock _ p n (w.at x).fresh (w.lower (past a x)) refl refl tt (λ x. absurd x)
+      stays (Activity.Rebalance (Rebalance.Engage Engage.Clock)) _ p n (w.at x).fresh (w.lower (past a x)) refl refl tt (λ x. absurd x)
 
   -- so does one that tidies, which has put its cell there
-  tidies_row : IsAtRow a → IsPassing a → (WritesPass a → ⊥) → Balances (word z r'.world) r'.ledger.rows s BalClock (to_rebalance (record l { tidies = true })).local
+  tidies_row : IsAtRow a → IsPassing a → (WritesPass a → ⊥) → Balances (word z r'.world) r'.ledger.rows s (Activity.Rebalance (Rebalance.Engage Engage.Clock)) (to_rebalance (record l { tidies = true })).local
   tidies_row x p n =
       let w = subst (λ b. Walks (word z r.world) r.ledger.rows s b l) h.activity (i.walks s l h.knows) in
-      stays BalClock _ p n (w.at x).fresh (w.lower (past a x)) refl refl tt (λ x. absurd x)
+      stays (Activity.Rebalance (Rebalance.Engage Engage.Clock)) _ p n (w.at x).fresh (w.lower (past a x)) refl refl tt (λ x. absurd x)
 
   -- the row leads from now on, as the seat finds or makes it
-  found_leader : (n : ℕ) (k : Local) → IsBalancing a → IsPassing a → (WritesPass a → ⊥) → k.row ≡ l.row → k.lower ≡ l.lower → (rows_in (word z r'.world)).state l.row ≡ row.Leader n → Balances (word z r'.world) r'.ledger.rows s (MarkLink n) k
+  found_leader : (n : ℕ) (k : Local) → IsBalancing a → IsPassing a → (WritesPass a → ⊥) → k.row ≡ l.row → k.lower ≡ l.lower → (rows_in (word z r'.world)).state l.row ≡ row.Leader n → Balances (word z r'.world) r'.ledger.rows s (Activity.Rebalance (Rebalance.Engage (Engage.MarkLink n))) k
   found_leader n k x p w row low e =
       let b = balance_at a h i in
       let f = (own_rely z r r' s choice l a l' h i p w).fresh l.row (b.fresh x) in
-      goes_on (MarkLink n) k x p w row low
+      goes_on (Activity.Rebalance (Rebalance.Engage (Engage.MarkLink n))) k x p w row low
       (subst (λ q. Group (rows_in (word z r'.world)) r'.ledger.rows (Marking q n)) (sym row) (leads (rows_in (word z r'.world)) r'.ledger.rows _ (structure_keeps a h i) l.row n (held_by r'.ledger.rows s l.row f) e)) (λ u. absurd u)
 
   -- a count that the seat has frozen stays so
@@ -262,10 +190,10 @@ module _ (z : Sizes) (r r' : Run) (s : ℕ) (choice : Choice) (l : Local) (a : A
 
   -- or its put tries again, is refused, or rebalances the row before that one
   builds_next : IsBuilding a → Building z (word z r.world) choice l a l' → (c : Activity) → l'.activity ≡ c → IsAfterBuilding c → Balances (word z r'.world) r'.ledger.rows s c l'
-  builds_next x t Again e o = outside _ _ s Again l' (λ u. u) tt
-  builds_next x t (Leave NoRows) e o = outside _ _ s (Leave NoRows) l' (λ u. u) tt
-  builds_next x t (Leave Done) e o = outside _ _ s (Leave Done) l' (λ u. u) tt
-  builds_next x t BalClock e o =
+  builds_next x t Activity.Retry e o = outside _ _ s Activity.Retry l' (λ u. u) tt
+  builds_next x t (Activity.Leave NoRows) e o = outside _ _ s (Activity.Leave NoRows) l' (λ u. u) tt
+  builds_next x t (Activity.Leave Done) e o = outside _ _ s (Activity.Leave Done) l' (λ u. u) tt
+  builds_next x t (Activity.Rebalance (Rebalance.Engage Engage.Clock)) e o =
       let m = moves_by (word z r.world) r.ledger.rows s l z choice a l' t (head_open z r i l.row) (search_at a h i) e in
       let rely = own_rely z r r' s choice l a l' h i (built_passes a x).0 (built_pass a x) in
       record { fresh = λ u. rely.fresh l'.row m.fresh; lower = λ u. m.lower ∙ sym (rely.least l'.row m.fresh); group = tt; frozen = λ u. absurd u }
@@ -279,39 +207,39 @@ balances_own z r r' s choice l a l' (takes_full e) h i = meets_full z r r' s cho
 balances_own z r r' s choice l a l' (announces_full e) h i = meets_full z r r' s choice l _ l' h i tt tt (λ x. x)
 balances_own z r r' s choice l a l' (stamps_full e) h i = meets_full z r r' s choice l _ l' h i tt tt (λ x. x)
 balances_own z r r' s choice l a l' (tidies rows e) h i = tidies_row z r r' s choice l _ l' h i tt tt (λ x. x)
-balances_own z r r' s choice l a l' (clock_serves e) h i = goes_on z r r' s choice l _ l' h i BalEpoch _ tt tt (λ x. x) refl refl tt (λ u. absurd u)
-balances_own z r r' s choice l a l' (epoch_serves e) h i = goes_on z r r' s choice l _ l' h i BalState _ tt tt (λ x. x) refl refl tt (λ u. absurd u)
-balances_own z r r' s choice l a l' (finds_infant seat e) h i = goes_on z r r' s choice l _ l' h i (BalNormal seat) _ tt tt (λ x. x) refl refl tt (λ u. absurd u)
-balances_own z r r' s choice l a l' (finds_normal e) h i = goes_on z r r' s choice l _ l' h i Engage _ tt tt (λ x. x) refl refl tt (λ u. absurd u)
-balances_own z r r' s choice l a l' (finds_leader count e o) h i = found_leader z r r' s choice l _ l' h i count _ tt tt (λ x. x) refl refl (read_state BalState h i _ e (λ x. x))
-balances_own z r r' s choice l a l' (normalises seat) h i = goes_on z r r' s choice l _ l' h i BalState _ tt tt (λ x. x) refl refl tt (λ u. absurd u)
+balances_own z r r' s choice l a l' (clock_serves e) h i = goes_on z r r' s choice l _ l' h i (Activity.Rebalance (Rebalance.Engage Engage.Epoch)) _ tt tt (λ x. x) refl refl tt (λ u. absurd u)
+balances_own z r r' s choice l a l' (epoch_serves e) h i = goes_on z r r' s choice l _ l' h i (Activity.Rebalance (Rebalance.Engage Engage.State)) _ tt tt (λ x. x) refl refl tt (λ u. absurd u)
+balances_own z r r' s choice l a l' (finds_infant seat e) h i = goes_on z r r' s choice l _ l' h i (Activity.Rebalance (Rebalance.Engage (Engage.Normal seat))) _ tt tt (λ x. x) refl refl tt (λ u. absurd u)
+balances_own z r r' s choice l a l' (finds_normal e) h i = goes_on z r r' s choice l _ l' h i (Activity.Rebalance (Rebalance.Engage Engage.Lead)) _ tt tt (λ x. x) refl refl tt (λ u. absurd u)
+balances_own z r r' s choice l a l' (finds_leader count e o) h i = found_leader z r r' s choice l _ l' h i count _ tt tt (λ x. x) refl refl (read_state (Activity.Rebalance (Rebalance.Engage Engage.State)) h i _ e (λ x. x))
+balances_own z r r' s choice l a l' (normalises seat) h i = goes_on z r r' s choice l _ l' h i (Activity.Rebalance (Rebalance.Engage Engage.State)) _ tt tt (λ x. x) refl refl tt (λ u. absurd u)
 balances_own z r r' s choice l a l' (engages e) h i = found_leader z r r' s choice l _ l' h i 0 _ tt tt (λ x. x) refl refl (engaged_state h e)
-balances_own z r r' s choice l a l' (is_engaged e) h i = goes_on z r r' s choice l _ l' h i BalState _ tt tt (λ x. x) refl refl tt (λ u. absurd u)
-balances_own z r r' s choice l a l' (marks_link count e) h i = goes_on z r r' s choice l _ l' h i (Decide 1) _ tt tt (λ x. x) refl refl (subst (λ q. Group (rows_in (word z r'.world)) r'.ledger.rows (Opened l.row q)) (row_next count h i) opened) (λ u. absurd u)
+balances_own z r r' s choice l a l' (is_engaged e) h i = goes_on z r r' s choice l _ l' h i (Activity.Rebalance (Rebalance.Engage Engage.State)) _ tt tt (λ x. x) refl refl tt (λ u. absurd u)
+balances_own z r r' s choice l a l' (marks_link count e) h i = goes_on z r r' s choice l _ l' h i (Activity.Rebalance (Rebalance.Engage (Engage.Decide 1))) _ tt tt (λ x. x) refl refl (subst (λ q. Group (rows_in (word z r'.world)) r'.ledger.rows (Opened l.row q)) (row_next count h i) opened) (λ u. absurd u)
   where
     known : Group (rows_in (word z r'.world)) r'.ledger.rows (Marking l.row 0)
     known =
-        let b = balance_at (MarkLink count) h i in
-        subst (λ n. Group (rows_in (word z r'.world)) r'.ledger.rows (Marking l.row n)) e (group_keeps (MarkLink count) h i s (Marking l.row count) (b.fresh tt) b.group)
+        let b = balance_at (Activity.Rebalance (Rebalance.Engage (Engage.MarkLink count))) h i in
+        subst (λ n. Group (rows_in (word z r'.world)) r'.ledger.rows (Marking l.row n)) e (group_keeps (Activity.Rebalance (Rebalance.Engage (Engage.MarkLink count))) h i s (Marking l.row count) (b.fresh tt) b.group)
 
     opened : Group (rows_in (word z r'.world)) r'.ledger.rows (Opened l.row ((rows_in (word z r'.world)).next l.row))
     opened = opens (rows_in (word z r'.world)) r'.ledger.rows l.row known (row_marked count h i)
-balances_own z r r' s choice l a l' (marks_led count e) h i = goes_on z r r' s choice l _ l' h i FreezeCount _ tt tt (λ x. x) refl refl (subst (λ q. Group (rows_in (word z r'.world)) r'.ledger.rows (Alone l.row q)) (row_next count h i) led) (λ u. absurd u)
+balances_own z r r' s choice l a l' (marks_led count e) h i = goes_on z r r' s choice l _ l' h i (Activity.Rebalance (Rebalance.Freeze Freeze.Count)) _ tt tt (λ x. x) refl refl (subst (λ q. Group (rows_in (word z r'.world)) r'.ledger.rows (Alone l.row q)) (row_next count h i) led) (λ u. absurd u)
   where
     one : count ≡ 1
-    one = omega (arith, (kinds_at (MarkLink count) h i).kind.1, e)
+    one = omega (arith, (kinds_at (Activity.Rebalance (Rebalance.Engage (Engage.MarkLink count))) h i).kind.1, e)
 
     known : Group (rows_in (word z r'.world)) r'.ledger.rows (Marking l.row 1)
     known =
-        let b = balance_at (MarkLink count) h i in
-        subst (λ n. Group (rows_in (word z r'.world)) r'.ledger.rows (Marking l.row n)) one (group_keeps (MarkLink count) h i s (Marking l.row count) (b.fresh tt) b.group)
+        let b = balance_at (Activity.Rebalance (Rebalance.Engage (Engage.MarkLink count))) h i in
+        subst (λ n. Group (rows_in (word z r'.world)) r'.ledger.rows (Marking l.row n)) one (group_keeps (Activity.Rebalance (Rebalance.Engage (Engage.MarkLink count))) h i s (Marking l.row count) (b.fresh tt) b.group)
 
     led : Group (rows_in (word z r'.world)) r'.ledger.rows (Alone l.row ((rows_in (word z r'.world)).next l.row))
-    led = alone (rows_in (word z r'.world)) r'.ledger.rows _ (structure_keeps (MarkLink count) h i) l.row known (row_marked count h i)
-balances_own z r r' s choice l a l' (decides count n e o) h i = goes_on z r r' s choice l _ l' h i FreezeCount _ tt tt (λ x. x) refl refl (opened.0, λ x. record { either = inl (decided_state count h i n e o) }) (λ u. absurd u)
+    led = alone (rows_in (word z r'.world)) r'.ledger.rows _ (structure_keeps (Activity.Rebalance (Rebalance.Engage (Engage.MarkLink count))) h i) l.row known (row_marked count h i)
+balances_own z r r' s choice l a l' (decides count n e o) h i = goes_on z r r' s choice l _ l' h i (Activity.Rebalance (Rebalance.Freeze Freeze.Count)) _ tt tt (λ x. x) refl refl (opened.0, λ x. record { either = inl (decided_state count h i n e o) }) (λ u. absurd u)
   where
     opened : Group (rows_in (word z r'.world)) r'.ledger.rows (Opened l.row l.rebalance.after)
-    opened = let b = balance_at (Decide count) h i in group_keeps (Decide count) h i s (Opened l.row l.rebalance.after) (b.fresh tt) b.group
+    opened = let b = balance_at (Activity.Rebalance (Rebalance.Engage (Engage.Decide count))) h i in group_keeps (Activity.Rebalance (Rebalance.Engage (Engage.Decide count))) h i s (Opened l.row l.rebalance.after) (b.fresh tt) b.group
 balances_own z r r' s choice l a l' (meets_stamped j c version next y n) h i = look_outside _ _ s z _ next _ n
 balances_own z r r' s choice l a l' (meets_neither j next y n) h i = look_outside _ _ s z _ next _ n
 balances_own z r r' s choice l a l' (is_passed next y n) h i = look_outside _ _ s z _ next _ n
@@ -322,37 +250,37 @@ balances_own z r r' s choice l a l' (list_ends next e n) h i = rest_outside _ _ 
 balances_own z r r' s choice l a l' (key_above next y n) h i = rest_outside _ _ s _ next n
 balances_own z r r' s choice l a l' (rest_passed next y n) h i = rest_outside _ _ s _ next n
 balances_own z r r' s choice l a l' (gathers_rest next n) h i = rest_outside _ _ s _ next n
-balances_own z r r' s choice l a l' freezes_count h i = alone_on z r r' s choice l _ l' h i (FreezeLook 0) _ tt tt (λ x. x) refl refl refl refl (freezing h i).frozen
-balances_own z r r' s choice l a l' (meets_idle j e) h i = keeps_alone z r r' s choice l _ l' h i (Freeze j) _ tt tt (λ x. x) refl refl refl refl tt
-balances_own z r r' s choice l a l' (meets_unstamped j c e) h i = keeps_alone z r r' s choice l _ l' h i (Freeze j) _ tt tt (λ x. x) refl refl refl refl tt
-balances_own z r r' s choice l a l' (remembers j c version e o) h i = keeps_alone z r r' s choice l _ l' h i (FreezeLook (j + 1)) _ tt tt (λ x. x) refl refl refl refl tt
-balances_own z r r' s choice l a l' (remembers_last j c version e o) h i = keeps_alone z r r' s choice l _ l' h i (ScanLook 0) _ tt tt (λ x. x) refl refl refl refl tt
-balances_own z r r' s choice l a l' (meets_frozen j e o) h i = keeps_alone z r r' s choice l _ l' h i (FreezeLook (j + 1)) _ tt tt (λ x. x) refl refl refl refl tt
-balances_own z r r' s choice l a l' (meets_frozen_last j e o) h i = keeps_alone z r r' s choice l _ l' h i (ScanLook 0) _ tt tt (λ x. x) refl refl refl refl tt
-balances_own z r r' s choice l a l' (freezes_entry j e o) h i = keeps_alone z r r' s choice l _ l' h i (FreezeLook (j + 1)) _ tt tt (λ x. x) refl refl refl refl tt
-balances_own z r r' s choice l a l' (freezes_last j e o) h i = keeps_alone z r r' s choice l _ l' h i (ScanLook 0) _ tt tt (λ x. x) refl refl refl refl tt
-balances_own z r r' s choice l a l' (looks_again j e) h i = keeps_alone z r r' s choice l _ l' h i (FreezeLook j) _ tt tt (λ x. x) refl refl refl refl tt
-balances_own z r r' s choice l a l' (meets_quiet j e o) h i = keeps_alone z r r' s choice l _ l' h i (ScanLook (j + 1)) _ tt tt (λ x. x) refl refl refl refl tt
-balances_own z r r' s choice l a l' (meets_quiet_last j e o) h i = keeps_alone z r r' s choice l _ l' h i TakeFrom _ tt tt (λ x. x) refl refl refl refl tt
-balances_own z r r' s choice l a l' (helps_scan j clock e) h i = keeps_alone z r r' s choice l _ l' h i (HelpDraw j) _ tt tt (λ x. x) refl refl refl refl tt
-balances_own z r r' s choice l a l' (meets_drawn j version e o) h i = keeps_alone z r r' s choice l _ l' h i (ScanLook (j + 1)) _ tt tt (λ x. x) refl refl refl refl tt
-balances_own z r r' s choice l a l' (meets_drawn_last j version e o) h i = keeps_alone z r r' s choice l _ l' h i TakeFrom _ tt tt (λ x. x) refl refl refl refl tt
-balances_own z r r' s choice l a l' (draws_for j) h i = keeps_alone z r r' s choice l _ l' h i (HelpSettle j) _ tt tt (λ x. x) refl refl refl refl tt
-balances_own z r r' s choice l a l' (settles_scan j e o) h i = keeps_alone z r r' s choice l _ l' h i (ScanLook (j + 1)) _ tt tt (λ x. x) refl refl refl refl tt
-balances_own z r r' s choice l a l' (settles_last j e o) h i = keeps_alone z r r' s choice l _ l' h i TakeFrom _ tt tt (λ x. x) refl refl refl refl tt
-balances_own z r r' s choice l a l' (finds_drawn j version e o) h i = keeps_alone z r r' s choice l _ l' h i (ScanLook (j + 1)) _ tt tt (λ x. x) refl refl refl refl tt
-balances_own z r r' s choice l a l' (finds_drawn_last j version e o) h i = keeps_alone z r r' s choice l _ l' h i TakeFrom _ tt tt (λ x. x) refl refl refl refl tt
-balances_own z r r' s choice l a l' (finds_no_scan j e o) h i = keeps_alone z r r' s choice l _ l' h i (ScanLook (j + 1)) _ tt tt (λ x. x) refl refl refl refl tt
-balances_own z r r' s choice l a l' (finds_no_scan_last j e o) h i = keeps_alone z r r' s choice l _ l' h i TakeFrom _ tt tt (λ x. x) refl refl refl refl tt
-balances_own z r r' s choice l a l' (take_leads c e) h i = keeps_alone z r r' s choice l _ l' h i TakeKey _ tt tt (λ x. x) refl refl refl refl tt
-balances_own z r r' s choice l a l' (takes_left m e n) h i = keeps_alone z r r' s choice l _ l' h i TakeRestKey _ tt tt (λ x. x) refl refl refl refl tt
-balances_own z r r' s choice l a l' takes_key h i = keeps_alone z r r' s choice l _ l' h i TakeVersion _ tt tt (λ x. x) refl refl refl refl tt
-balances_own z r r' s choice l a l' takes_version h i = keeps_alone z r r' s choice l _ l' h i TakeValue _ tt tt (λ x. x) refl refl refl refl tt
-balances_own z r r' s choice l a l' keeps_taken h i = keeps_alone z r r' s choice l _ l' h i TakeFrom _ tt tt (λ x. x) refl refl refl refl tt
-balances_own z r r' s choice l a l' takes_left_key h i = keeps_alone z r r' s choice l _ l' h i TakeRestValue _ tt tt (λ x. x) refl refl refl refl tt
-balances_own z r r' s choice l a l' (keeps_left m n) h i = keeps_alone z r r' s choice l _ l' h i TakeRestKey _ tt tt (λ x. x) refl refl refl refl tt
-balances_own z r r' s choice l a l' (takes_no_more e n) h i = keeps_alone z r r' s choice l _ l' h i SeekFirst _ tt tt (λ x. x) refl refl refl refl tt
-balances_own z r r' s choice l a l' (keeps_no_more n) h i = keeps_alone z r r' s choice l _ l' h i SeekFirst _ tt tt (λ x. x) refl refl refl refl tt
+balances_own z r r' s choice l a l' freezes_count h i = alone_on z r r' s choice l _ l' h i (Activity.Rebalance (Rebalance.Freeze (Freeze.Look 0))) _ tt tt (λ x. x) refl refl refl refl (freezing h i).frozen
+balances_own z r r' s choice l a l' (meets_idle j e) h i = keeps_alone z r r' s choice l _ l' h i (Activity.Rebalance (Rebalance.Freeze (Freeze.Entry j))) _ tt tt (λ x. x) refl refl refl refl tt
+balances_own z r r' s choice l a l' (meets_unstamped j c e) h i = keeps_alone z r r' s choice l _ l' h i (Activity.Rebalance (Rebalance.Freeze (Freeze.Entry j))) _ tt tt (λ x. x) refl refl refl refl tt
+balances_own z r r' s choice l a l' (remembers j c version e o) h i = keeps_alone z r r' s choice l _ l' h i (Activity.Rebalance (Rebalance.Freeze (Freeze.Look (j + 1)))) _ tt tt (λ x. x) refl refl refl refl tt
+balances_own z r r' s choice l a l' (remembers_last j c version e o) h i = keeps_alone z r r' s choice l _ l' h i (Activity.Rebalance (Rebalance.Freeze (Freeze.Scan 0))) _ tt tt (λ x. x) refl refl refl refl tt
+balances_own z r r' s choice l a l' (meets_frozen j e o) h i = keeps_alone z r r' s choice l _ l' h i (Activity.Rebalance (Rebalance.Freeze (Freeze.Look (j + 1)))) _ tt tt (λ x. x) refl refl refl refl tt
+balances_own z r r' s choice l a l' (meets_frozen_last j e o) h i = keeps_alone z r r' s choice l _ l' h i (Activity.Rebalance (Rebalance.Freeze (Freeze.Scan 0))) _ tt tt (λ x. x) refl refl refl refl tt
+balances_own z r r' s choice l a l' (freezes_entry j e o) h i = keeps_alone z r r' s choice l _ l' h i (Activity.Rebalance (Rebalance.Freeze (Freeze.Look (j + 1)))) _ tt tt (λ x. x) refl refl refl refl tt
+balances_own z r r' s choice l a l' (freezes_last j e o) h i = keeps_alone z r r' s choice l _ l' h i (Activity.Rebalance (Rebalance.Freeze (Freeze.Scan 0))) _ tt tt (λ x. x) refl refl refl refl tt
+balances_own z r r' s choice l a l' (looks_again j e) h i = keeps_alone z r r' s choice l _ l' h i (Activity.Rebalance (Rebalance.Freeze (Freeze.Look j))) _ tt tt (λ x. x) refl refl refl refl tt
+balances_own z r r' s choice l a l' (meets_quiet j e o) h i = keeps_alone z r r' s choice l _ l' h i (Activity.Rebalance (Rebalance.Freeze (Freeze.Scan (j + 1)))) _ tt tt (λ x. x) refl refl refl refl tt
+balances_own z r r' s choice l a l' (meets_quiet_last j e o) h i = keeps_alone z r r' s choice l _ l' h i (Activity.Rebalance (Rebalance.Gather Gather.Link)) _ tt tt (λ x. x) refl refl refl refl tt
+balances_own z r r' s choice l a l' (helps_scan j clock e) h i = keeps_alone z r r' s choice l _ l' h i (Activity.Rebalance (Rebalance.Freeze (Freeze.Draw j))) _ tt tt (λ x. x) refl refl refl refl tt
+balances_own z r r' s choice l a l' (meets_drawn j version e o) h i = keeps_alone z r r' s choice l _ l' h i (Activity.Rebalance (Rebalance.Freeze (Freeze.Scan (j + 1)))) _ tt tt (λ x. x) refl refl refl refl tt
+balances_own z r r' s choice l a l' (meets_drawn_last j version e o) h i = keeps_alone z r r' s choice l _ l' h i (Activity.Rebalance (Rebalance.Gather Gather.Link)) _ tt tt (λ x. x) refl refl refl refl tt
+balances_own z r r' s choice l a l' (draws_for j) h i = keeps_alone z r r' s choice l _ l' h i (Activity.Rebalance (Rebalance.Freeze (Freeze.Settle j))) _ tt tt (λ x. x) refl refl refl refl tt
+balances_own z r r' s choice l a l' (settles_scan j e o) h i = keeps_alone z r r' s choice l _ l' h i (Activity.Rebalance (Rebalance.Freeze (Freeze.Scan (j + 1)))) _ tt tt (λ x. x) refl refl refl refl tt
+balances_own z r r' s choice l a l' (settles_last j e o) h i = keeps_alone z r r' s choice l _ l' h i (Activity.Rebalance (Rebalance.Gather Gather.Link)) _ tt tt (λ x. x) refl refl refl refl tt
+balances_own z r r' s choice l a l' (finds_drawn j version e o) h i = keeps_alone z r r' s choice l _ l' h i (Activity.Rebalance (Rebalance.Freeze (Freeze.Scan (j + 1)))) _ tt tt (λ x. x) refl refl refl refl tt
+balances_own z r r' s choice l a l' (finds_drawn_last j version e o) h i = keeps_alone z r r' s choice l _ l' h i (Activity.Rebalance (Rebalance.Gather Gather.Link)) _ tt tt (λ x. x) refl refl refl refl tt
+balances_own z r r' s choice l a l' (finds_no_scan j e o) h i = keeps_alone z r r' s choice l _ l' h i (Activity.Rebalance (Rebalance.Freeze (Freeze.Scan (j + 1)))) _ tt tt (λ x. x) refl refl refl refl tt
+balances_own z r r' s choice l a l' (finds_no_scan_last j e o) h i = keeps_alone z r r' s choice l _ l' h i (Activity.Rebalance (Rebalance.Gather Gather.Link)) _ tt tt (λ x. x) refl refl refl refl tt
+balances_own z r r' s choice l a l' (take_leads c e) h i = keeps_alone z r r' s choice l _ l' h i (Activity.Rebalance (Rebalance.Gather Gather.Key)) _ tt tt (λ x. x) refl refl refl refl tt
+balances_own z r r' s choice l a l' (takes_left m e n) h i = keeps_alone z r r' s choice l _ l' h i (Activity.Rebalance (Rebalance.Gather Gather.LeftOverKey)) _ tt tt (λ x. x) refl refl refl refl tt
+balances_own z r r' s choice l a l' takes_key h i = keeps_alone z r r' s choice l _ l' h i (Activity.Rebalance (Rebalance.Gather Gather.Version)) _ tt tt (λ x. x) refl refl refl refl tt
+balances_own z r r' s choice l a l' takes_version h i = keeps_alone z r r' s choice l _ l' h i (Activity.Rebalance (Rebalance.Gather Gather.Value)) _ tt tt (λ x. x) refl refl refl refl tt
+balances_own z r r' s choice l a l' keeps_taken h i = keeps_alone z r r' s choice l _ l' h i (Activity.Rebalance (Rebalance.Gather Gather.Link)) _ tt tt (λ x. x) refl refl refl refl tt
+balances_own z r r' s choice l a l' takes_left_key h i = keeps_alone z r r' s choice l _ l' h i (Activity.Rebalance (Rebalance.Gather Gather.LeftOverValue)) _ tt tt (λ x. x) refl refl refl refl tt
+balances_own z r r' s choice l a l' (keeps_left m n) h i = keeps_alone z r r' s choice l _ l' h i (Activity.Rebalance (Rebalance.Gather Gather.LeftOverKey)) _ tt tt (λ x. x) refl refl refl refl tt
+balances_own z r r' s choice l a l' (takes_no_more e n) h i = keeps_alone z r r' s choice l _ l' h i (Activity.Rebalance (Rebalance.Seek Seek.First)) _ tt tt (λ x. x) refl refl refl refl tt
+balances_own z r r' s choice l a l' (keeps_no_more n) h i = keeps_alone z r r' s choice l _ l' h i (Activity.Rebalance (Rebalance.Seek Seek.First)) _ tt tt (λ x. x) refl refl refl refl tt
 balances_own z r r' s choice l a l' _ h i = outside _ _ s _ _ (λ x. x) tt
 
 -- another seat

@@ -23,7 +23,10 @@ use Rattle.kw_rows.specs.RowState as row
 use Rattle.kw_rows.specs.Rows.{Rows}
 use Rattle.kw_rows.specs.States.{HasState, IsNumbered, States}
 use Rattle.kw_world.specs.declared.activity.Activity.{Activity}
-use Rattle.kw_world.specs.declared.activity.Activity.TheVariants.{Reclaim, TakeRow, GiveBack, WriteCount, WriteMin, WriteNext, WriteFirst, WritePend, WriteKey, WriteValue, WriteVersion, WriteAfter, Normalise, Number, Retire}
+use Rattle.kw_world.specs.declared.activity.rebalance.Rebalance.TheVariants as Rebalance
+use Rattle.kw_world.specs.declared.activity.rebalance.replace.Replace.TheVariants as Replace
+use Rattle.kw_world.specs.declared.activity.rebalance.seek.Seek.TheVariants as Seek
+use Rattle.kw_world.specs.declared.activity.rebalance.write.Write.TheVariants as Write
 use Rattle.kw_world.specs.declared.event.Choice.{Choice}
 use Rattle.kw_world.specs.declared.local.Local.{Local}
 use Rattle.kw_world.specs.Sane.{IsSane}
@@ -130,28 +133,28 @@ module _ {z : Sizes} {r r' : Run} {s : ℕ} {choice : Choice} {l l' : Local} whe
   -- The events.
 
   -- a seat that finds a row free takes it
-  pub taking : Happens z r r' s choice l l' TakeRow → IsSane z r.world → States (rows_in (word z r.world)) r.ledger.rows → Event (rows_in (word z r.world)) (rows_in (word z r'.world)) r.ledger.rows r'.ledger.rows (length r.history.log)
+  pub taking : Happens z r r' s choice l l' (Activity.Rebalance (Rebalance.Seek Seek.Take)) → IsSane z r.world → States (rows_in (word z r.world)) r.ledger.rows → Event (rows_in (word z r.world)) (rows_in (word z r'.world)) r.ledger.rows r'.ledger.rows (length r.history.log)
   taking h sane states = which (cases_eq (word z r.world (name.State l.rebalance.sought)) (state_word state.Free))
     where
       which : (word z r.world (name.State l.rebalance.sought) ≡ state_word state.Free) ⊎ (word z r.world (name.State l.rebalance.sought) ≡ state_word state.Free → ⊥) → Event (rows_in (word z r.world)) (rows_in (word z r'.world)) r.ledger.rows r'.ledger.rows (length r.history.log)
       which (inl e) = takes l.rebalance.sought s (record {
         free = free_by_state (rows_in (word z r.world)) r.ledger.rows l.rebalance.sought states (word_says _ state.Free tt e);
         turns = record {
-          sets = sets_state TakeRow h sane (λ c. c) (λ q c. c) (λ q c. c) (λ q c. c) l.rebalance.sought (λ q d c. d c) (row.Infant s) (word_says _ (state.Infant s) (seat_fits TakeRow h sane) (taken_won h e));
-          fates = λ q d. fate_stays TakeRow h q d;
-          others = passes_stay TakeRow h (λ c. c) (λ c. c);
+          sets = sets_state (Activity.Rebalance (Rebalance.Seek Seek.Take)) h sane (λ c. c) (λ q c. c) (λ q c. c) (λ q c. c) l.rebalance.sought (λ q d c. d c) (row.Infant s) (word_says _ (state.Infant s) (seat_fits (Activity.Rebalance (Rebalance.Seek Seek.Take)) h sane) (taken_won h e));
+          fates = λ q d. fate_stays (Activity.Rebalance (Rebalance.Seek Seek.Take)) h q d;
+          others = passes_stay (Activity.Rebalance (Rebalance.Seek Seek.Take)) h (λ c. c) (λ c. c);
         };
         status = ap (λ (f : kw_rows.Fate). f.status) (fate_of_taken h e);
         owner = ap (λ (f : kw_rows.Fate). f.owner) (fate_of_taken h e);
       })
       which (inr d) = rests (record {
-        links = links_kept TakeRow h sane (λ c. c) (λ q c. c) (λ q c. c) (λ q c. c);
-        states = states_still TakeRow h sane l.rebalance.sought (λ q n c. n c) (taken_lost h d);
-        ledger = record { fates = λ q. ap (λ (g : ledger.Ledger). g.rows.fates q) (none_taken h d); others = passes_stay TakeRow h (λ c. c) (λ c. c) };
+        links = links_kept (Activity.Rebalance (Rebalance.Seek Seek.Take)) h sane (λ c. c) (λ q c. c) (λ q c. c) (λ q c. c);
+        states = states_still (Activity.Rebalance (Rebalance.Seek Seek.Take)) h sane l.rebalance.sought (λ q n c. n c) (taken_lost h d);
+        ledger = record { fates = λ q. ap (λ (g : ledger.Ledger). g.rows.fates q) (none_taken h d); others = passes_stay (Activity.Rebalance (Rebalance.Seek Seek.Take)) h (λ c. c) (λ c. c) };
       })
 
   -- one that finds a row retired with the number that it knows frees it
-  pub freeing : Happens z r r' s choice l l' Reclaim → IsSane z r.world → States (rows_in (word z r.world)) r.ledger.rows → IsState (state.Retired l.rebalance.number) →
+  pub freeing : Happens z r r' s choice l l' (Activity.Rebalance (Rebalance.Seek Seek.Reclaim)) → IsSane z r.world → States (rows_in (word z r.world)) r.ledger.rows → IsState (state.Retired l.rebalance.number) →
       ((t since at : ℕ) → r.ledger.rows.passes t ≡ Some since → r.ledger.rows.numbered l.rebalance.number ≡ Some at → at < since) → Event (rows_in (word z r.world)) (rows_in (word z r'.world)) r.ledger.rows r'.ledger.rows (length r.history.log)
   freeing h sane states small young = which (cases_eq (word z r.world (name.State l.rebalance.sought)) (state_word (state.Retired l.rebalance.number)))
     where
@@ -164,26 +167,26 @@ module _ {z : Sizes} {r r' : Run} {s : ℕ} {choice : Choice} {l l' : Local} whe
             retired = f;
             young = young;
             turns = record {
-              sets = sets_state Reclaim h sane (λ c. c) (λ q c. c) (λ q c. c) (λ q c. c) l.rebalance.sought (λ q d c. d c) row.Free (word_says _ state.Free tt (freed h e));
-              fates = λ q d. fate_stays Reclaim h q d;
-              others = passes_stay Reclaim h (λ c. c) (λ c. c);
+              sets = sets_state (Activity.Rebalance (Rebalance.Seek Seek.Reclaim)) h sane (λ c. c) (λ q c. c) (λ q c. c) (λ q c. c) l.rebalance.sought (λ q d c. d c) row.Free (word_says _ state.Free tt (freed h e));
+              fates = λ q d. fate_stays (Activity.Rebalance (Rebalance.Seek Seek.Reclaim)) h q d;
+              others = passes_stay (Activity.Rebalance (Rebalance.Seek Seek.Reclaim)) h (λ c. c) (λ c. c);
             };
             status = ap (λ (f : kw_rows.Fate). f.status) (fate_of_freed h e);
           })
       which (inr d) = rests (record {
-        links = links_kept Reclaim h sane (λ c. c) (λ q c. c) (λ q c. c) (λ q c. c);
-        states = states_still Reclaim h sane l.rebalance.sought (λ q n c. n c) (not_freed h d);
-        ledger = record { fates = λ q. ap (λ (g : ledger.Ledger). g.rows.fates q) (none_freed h d); others = passes_stay Reclaim h (λ c. c) (λ c. c) };
+        links = links_kept (Activity.Rebalance (Rebalance.Seek Seek.Reclaim)) h sane (λ c. c) (λ q c. c) (λ q c. c) (λ q c. c);
+        states = states_still (Activity.Rebalance (Rebalance.Seek Seek.Reclaim)) h sane l.rebalance.sought (λ q n c. n c) (not_freed h d);
+        ledger = record { fates = λ q. ap (λ (g : ledger.Ledger). g.rows.fates q) (none_freed h d); others = passes_stay (Activity.Rebalance (Rebalance.Seek Seek.Reclaim)) h (λ c. c) (λ c. c) };
       })
 
   -- one that gives its infant at hand back
-  pub giving_back : Happens z r r' s choice l l' GiveBack → IsSane z r.world → IsInfantOf r.ledger.rows s (infant l) → Event (rows_in (word z r.world)) (rows_in (word z r'.world)) r.ledger.rows r'.ledger.rows (length r.history.log)
+  pub giving_back : Happens z r r' s choice l l' (Activity.Rebalance (Rebalance.Seek Seek.GiveBack)) → IsSane z r.world → IsInfantOf r.ledger.rows s (infant l) → Event (rows_in (word z r.world)) (rows_in (word z r'.world)) r.ledger.rows r'.ledger.rows (length r.history.log)
   giving_back h sane x = gives_back (infant l) (record {
     infant = x.status;
     turns = record {
-      sets = sets_state GiveBack h sane (λ c. c) (λ q c. c) (λ q c. c) (λ q c. c) (infant l) (λ q d c. d c) row.Free (word_says _ state.Free tt (given_back h));
-      fates = λ q d. fate_stays GiveBack h q d;
-      others = passes_stay GiveBack h (λ c. c) (λ c. c);
+      sets = sets_state (Activity.Rebalance (Rebalance.Seek Seek.GiveBack)) h sane (λ c. c) (λ q c. c) (λ q c. c) (λ q c. c) (infant l) (λ q d c. d c) row.Free (word_says _ state.Free tt (given_back h));
+      fates = λ q d. fate_stays (Activity.Rebalance (Rebalance.Seek Seek.GiveBack)) h q d;
+      others = passes_stay (Activity.Rebalance (Rebalance.Seek Seek.GiveBack)) h (λ c. c) (λ c. c);
     };
     status = ap (λ (f : kw_rows.Fate). f.status) (fate_of_given h);
   })
@@ -204,52 +207,54 @@ module _ {z : Sizes} {r r' : Run} {s : ℕ} {choice : Choice} {l l' : Local} whe
 
   -- each of the events that write
   pub writing : (a : Activity) → IsWriting (nursing_of a) → Happens z r r' s choice l l' a → IsSane z r.world → IsInfantOf r.ledger.rows s (infant l) → Event (rows_in (word z r.world)) (rows_in (word z r'.world)) r.ledger.rows r'.ledger.rows (length r.history.log)
-  writing WriteCount m h sane x = filling WriteCount h sane x (λ c. c) (λ q d c. c) (λ q d c. d c) (λ q d c. c) (λ q c. c) (λ q c. c) (λ c. c) (λ c. c)
-  writing WriteMin m h sane x = filling WriteMin h sane x (λ c. c) (λ q d c. c) (λ q d c. c) (λ q d c. d c) (λ q c. c) (λ q c. c) (λ c. c) (λ c. c)
-  writing WriteNext m h sane x = filling WriteNext h sane x (λ c. c) (λ q d c. d c) (λ q d c. c) (λ q d c. c) (λ q c. c) (λ q c. c) (λ c. c) (λ c. c)
-  writing WriteFirst m h sane x = filling WriteFirst h sane x (λ c. c) (λ q d c. c) (λ q d c. c) (λ q d c. c) (λ q c. c) (λ q c. c) (λ c. c) (λ c. c)
-  writing (WritePend j) m h sane x = filling (WritePend j) h sane x (λ c. c) (λ q d c. c) (λ q d c. c) (λ q d c. c) (λ q c. c) (λ q c. c) (λ c. c) (λ c. c)
-  writing (WriteKey j) m h sane x = filling (WriteKey j) h sane x (λ c. c) (λ q d c. c) (λ q d c. c) (λ q d c. c) (λ q c. c) (λ q c. c) (λ c. c) (λ c. c)
-  writing (WriteValue j) m h sane x = filling (WriteValue j) h sane x (λ c. c) (λ q d c. c) (λ q d c. c) (λ q d c. c) (λ q c. c) (λ q c. c) (λ c. c) (λ c. c)
-  writing (WriteVersion j) m h sane x = filling (WriteVersion j) h sane x (λ c. c) (λ q d c. c) (λ q d c. c) (λ q d c. c) (λ q c. c) (λ q c. c) (λ c. c) (λ c. c)
-  writing (WriteAfter j) m h sane x = filling (WriteAfter j) h sane x (λ c. c) (λ q d c. c) (λ q d c. c) (λ q d c. c) (λ q c. c) (λ q c. c) (λ c. c) (λ c. c)
+  writing (Activity.Rebalance (Rebalance.Write Write.Count)) m h sane x = filling (Activity.Rebalance (Rebalance.Write Write.Count)) h sane x (λ c. c) (λ q d c. c) (λ q d c. d c) (λ q d c. c) (λ q c. c) (λ q c. c) (λ c. c) (λ c. c)
+  writing (Activity.Rebalance (Rebalance.Write Write.Least)) m h sane x = filling (Activity.Rebalance (Rebalance.Write Write.Least)) h sane x (λ c. c) (λ q d c. c) (λ q d c. c) (λ q d c. d c) (λ q c. c) (λ q c. c) (λ c. c) (λ c. c)
+  writing (Activity.Rebalance (Rebalance.Write Write.Next)) m h sane x = filling (Activity.Rebalance (Rebalance.Write Write.Next)) h sane x (λ c. c) (λ q d c. d c) (λ q d c. c) (λ q d c. c) (λ q c. c) (λ q c. c) (λ c. c) (λ c. c)
+  writing (Activity.Rebalance (Rebalance.Write Write.First)) m h sane x = filling (Activity.Rebalance (Rebalance.Write Write.First)) h sane x (λ c. c) (λ q d c. c) (λ q d c. c) (λ q d c. c) (λ q c. c) (λ q c. c) (λ c. c) (λ c. c)
+  writing (Activity.Rebalance (Rebalance.Write (Write.Entry j))) m h sane x = filling (Activity.Rebalance (Rebalance.Write (Write.Entry j))) h sane x (λ c. c) (λ q d c. c) (λ q d c. c) (λ q d c. c) (λ q c. c) (λ q c. c) (λ c. c) (λ c. c)
+  writing (Activity.Rebalance (Rebalance.Write (Write.Key j))) m h sane x = filling (Activity.Rebalance (Rebalance.Write (Write.Key j))) h sane x (λ c. c) (λ q d c. c) (λ q d c. c) (λ q d c. c) (λ q c. c) (λ q c. c) (λ c. c) (λ c. c)
+  writing (Activity.Rebalance (Rebalance.Write (Write.Value j))) m h sane x = filling (Activity.Rebalance (Rebalance.Write (Write.Value j))) h sane x (λ c. c) (λ q d c. c) (λ q d c. c) (λ q d c. c) (λ q c. c) (λ q c. c) (λ c. c) (λ c. c)
+  writing (Activity.Rebalance (Rebalance.Write (Write.Version j))) m h sane x = filling (Activity.Rebalance (Rebalance.Write (Write.Version j))) h sane x (λ c. c) (λ q d c. c) (λ q d c. c) (λ q d c. c) (λ q c. c) (λ q c. c) (λ c. c) (λ c. c)
+  writing (Activity.Rebalance (Rebalance.Write (Write.After j))) m h sane x = filling (Activity.Rebalance (Rebalance.Write (Write.After j))) h sane x (λ c. c) (λ q d c. c) (λ q d c. c) (λ q d c. c) (λ q c. c) (λ q c. c) (λ c. c) (λ c. c)
+  writing (Activity.Rebalance (Rebalance.Seek Seek.Next)) m h sane x = absurd m
+  writing (Activity.Rebalance (Rebalance.Replace Replace.First)) m h sane x = absurd m
   writing _ m h sane x = absurd m
 
   -- one that makes a row normal which it may name, or leaves a row that was made so
-  pub making_normal : Happens z r r' s choice l l' Normalise → IsSane z r.world → kw_rows.IsHeld r.ledger.rows (infant l) → Event (rows_in (word z r.world)) (rows_in (word z r'.world)) r.ledger.rows r'.ledger.rows (length r.history.log)
+  pub making_normal : Happens z r r' s choice l l' (Activity.Rebalance (Rebalance.Replace Replace.Normalise)) → IsSane z r.world → kw_rows.IsHeld r.ledger.rows (infant l) → Event (rows_in (word z r.world)) (rows_in (word z r'.world)) r.ledger.rows r'.ledger.rows (length r.history.log)
   making_normal h sane held = which (cases_eq (word z r.world (name.State (infant l))) (state_word (state.Infant s)))
     where
       which : (word z r.world (name.State (infant l)) ≡ state_word (state.Infant s)) ⊎ (word z r.world (name.State (infant l)) ≡ state_word (state.Infant s) → ⊥) → Event (rows_in (word z r.world)) (rows_in (word z r'.world)) r.ledger.rows r'.ledger.rows (length r.history.log)
       which (inl e) = normalises (infant l) s (record {
         held = held;
-        infant = word_says _ (state.Infant s) (seat_fits Normalise h sane) e;
-        sets = sets_state Normalise h sane (λ c. c) (λ q c. c) (λ q c. c) (λ q c. c) (infant l) (λ q d c. d c) row.Normal (word_says _ state.Normal tt (normal_won h e));
-        ledger = ledger_kept Normalise h (λ q c. c) (λ c. c) (λ c. c);
+        infant = word_says _ (state.Infant s) (seat_fits (Activity.Rebalance (Rebalance.Replace Replace.Normalise)) h sane) e;
+        sets = sets_state (Activity.Rebalance (Rebalance.Replace Replace.Normalise)) h sane (λ c. c) (λ q c. c) (λ q c. c) (λ q c. c) (infant l) (λ q d c. d c) row.Normal (word_says _ state.Normal tt (normal_won h e));
+        ledger = ledger_kept (Activity.Rebalance (Rebalance.Replace Replace.Normalise)) h (λ q c. c) (λ c. c) (λ c. c);
       })
       which (inr d) = rests (record {
-        links = links_kept Normalise h sane (λ c. c) (λ q c. c) (λ q c. c) (λ q c. c);
-        states = states_still Normalise h sane (infant l) (λ q n c. n c) (normal_lost h d);
-        ledger = ledger_kept Normalise h (λ q c. c) (λ c. c) (λ c. c);
+        links = links_kept (Activity.Rebalance (Rebalance.Replace Replace.Normalise)) h sane (λ c. c) (λ q c. c) (λ q c. c) (λ q c. c);
+        states = states_still (Activity.Rebalance (Rebalance.Replace Replace.Normalise)) h sane (infant l) (λ q n c. n c) (normal_lost h d);
+        ledger = ledger_kept (Activity.Rebalance (Rebalance.Replace Replace.Normalise)) h (λ q c. c) (λ c. c) (λ c. c);
       })
 
   -- one that draws a number, which nobody drew before
-  pub numbering : Happens z r r' s choice l l' Number → IsSane z r.world → Numbers (word z r.world) r.ledger.rows → Event (rows_in (word z r.world)) (rows_in (word z r'.world)) r.ledger.rows r'.ledger.rows (length r.history.log)
+  pub numbering : Happens z r r' s choice l l' (Activity.Rebalance (Rebalance.Replace Replace.Number)) → IsSane z r.world → Numbers (word z r.world) r.ledger.rows → Event (rows_in (word z r.world)) (rows_in (word z r'.world)) r.ledger.rows r'.ledger.rows (length r.history.log)
   numbering h sane n = numbers (word z r.world name.Epoch) (record {
     new = undrawn (word z r.world) r.ledger.rows _ refl n;
-    links = links_kept Number h sane (λ c. c) (λ q c. c) (λ q c. c) (λ q c. c);
-    states = λ q. state_kept Number h sane q (λ c. c);
-    fates = λ q. fate_stays Number h q (λ c. c);
-    passes = λ t. others_stay Number h t (λ c e. c);
+    links = links_kept (Activity.Rebalance (Rebalance.Replace Replace.Number)) h sane (λ c. c) (λ q c. c) (λ q c. c) (λ q c. c);
+    states = λ q. state_kept (Activity.Rebalance (Rebalance.Replace Replace.Number)) h sane q (λ c. c);
+    fates = λ q. fate_stays (Activity.Rebalance (Rebalance.Replace Replace.Number)) h q (λ c. c);
+    passes = λ t. others_stay (Activity.Rebalance (Rebalance.Replace Replace.Number)) h t (λ c e. c);
     drawn = number_of_drawn h;
     others = λ k d. other_numbers h k d;
   })
 
   -- one that retires the row that it replaced
-  pub retiring : Happens z r r' s choice l l' Retire → IsSane z r.world → IsState (state.Retired l.rebalance.number) → kw_rows.IsDead r.ledger.rows l.row → IsNumbered r.ledger.rows l.row l.rebalance.number →
+  pub retiring : Happens z r r' s choice l l' (Activity.Rebalance (Rebalance.Replace Replace.Retire)) → IsSane z r.world → IsState (state.Retired l.rebalance.number) → kw_rows.IsDead r.ledger.rows l.row → IsNumbered r.ledger.rows l.row l.rebalance.number →
       Event (rows_in (word z r.world)) (rows_in (word z r'.world)) r.ledger.rows r'.ledger.rows (length r.history.log)
   retiring h sane small dead number = retires l.row l.rebalance.number (record {
     dead = dead;
     number = number;
-    sets = sets_state Retire h sane (λ c. c) (λ q c. c) (λ q c. c) (λ q c. c) l.row (λ q d c. d c) (row.Retired l.rebalance.number) (word_says _ (state.Retired l.rebalance.number) small (retired h));
-    ledger = ledger_kept Retire h (λ q c. c) (λ c. c) (λ c. c);
+    sets = sets_state (Activity.Rebalance (Rebalance.Replace Replace.Retire)) h sane (λ c. c) (λ q c. c) (λ q c. c) (λ q c. c) l.row (λ q d c. d c) (row.Retired l.rebalance.number) (word_says _ (state.Retired l.rebalance.number) small (retired h));
+    ledger = ledger_kept (Activity.Rebalance (Rebalance.Replace Replace.Retire)) h (λ q c. c) (λ c. c) (λ c. c);
   })

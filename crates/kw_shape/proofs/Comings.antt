@@ -3,7 +3,9 @@
 use Rattle.std.proofs.Common.{ℕ, ◌≡◌, [], refl}
 use Rattle.kw_rows.specs.Ledger.{Ledger}
 use Rattle.kw_world.specs.declared.activity.Activity.{Activity}
-use Rattle.kw_world.specs.declared.activity.Activity.TheVariants.{SeekFirst, Seek, SeekPass, Reclaim, TakeRow, GiveBack, WriteCount, WriteMin, WriteNext, WriteFirst, WritePend, WriteKey, WriteValue, WriteVersion, WriteAfter, Before, BeforeGuess, BeforeHead, BeforeLink, BeforeMin, Replace, Normalise, Number, Retire}
+use Rattle.kw_world.specs.declared.activity.rebalance.Rebalance.TheVariants as Rebalance
+use Rattle.kw_world.specs.declared.activity.rebalance.replace.Replace.TheVariants as Replace
+use Rattle.kw_world.specs.declared.activity.rebalance.seek.Seek.TheVariants as Seek
 use Rattle.kw_world.specs.declared.event.Choice.{Choice}
 use Rattle.kw_world.specs.declared.local.Local.{Local}
 use Rattle.kw_world.specs.Sizes.{Sizes}
@@ -19,7 +21,7 @@ use Rattle.kw_shape.specs.Won.{HasWon}
 -- it is at none of them, or begins to seek, or goes on from one
 pub data Comes (z : Sizes) (v : Words) (choice : Choice) (l : Local) (a : Activity) (k : Local) : Type 0 where
   stays_out : (IsBuilding k.activity → ⊥) → Comes z v choice l a k
-  seeks : k.activity ≡ SeekFirst → k.rebalance.taken ≡ [] → Comes z v choice l a k
+  seeks : k.activity ≡ Activity.Rebalance (Rebalance.Seek Seek.First) → k.rebalance.taken ≡ [] → Comes z v choice l a k
   goes_on : IsBuilding a → Building z v choice l a k → Comes z v choice l a k
 
 look_out : (z : Sizes) (j : ℕ) (next : Activity) → NextLook z j next → IsBuilding next → ⊥
@@ -53,54 +55,41 @@ comes z v s choice l a k _ = stays_out (λ x. x)
 
 -- a seat has no infants
 pub unbuilt_nursing : (a : Activity) → (IsBuilding a → ⊥) → nursing_of a ≡ HasNone
-unbuilt_nursing SeekFirst n = absurd (n tt)
-unbuilt_nursing Seek n = absurd (n tt)
-unbuilt_nursing (SeekPass i) n = absurd (n tt)
-unbuilt_nursing Reclaim n = absurd (n tt)
-unbuilt_nursing TakeRow n = absurd (n tt)
-unbuilt_nursing GiveBack n = absurd (n tt)
-unbuilt_nursing WriteCount n = absurd (n tt)
-unbuilt_nursing WriteMin n = absurd (n tt)
-unbuilt_nursing WriteNext n = absurd (n tt)
-unbuilt_nursing WriteFirst n = absurd (n tt)
-unbuilt_nursing (WritePend i) n = absurd (n tt)
-unbuilt_nursing (WriteKey j) n = absurd (n tt)
-unbuilt_nursing (WriteValue j) n = absurd (n tt)
-unbuilt_nursing (WriteVersion j) n = absurd (n tt)
-unbuilt_nursing (WriteAfter j) n = absurd (n tt)
-unbuilt_nursing Before n = absurd (n tt)
-unbuilt_nursing BeforeGuess n = absurd (n tt)
-unbuilt_nursing BeforeHead n = absurd (n tt)
-unbuilt_nursing BeforeLink n = absurd (n tt)
-unbuilt_nursing BeforeMin n = absurd (n tt)
-unbuilt_nursing Replace n = absurd (n tt)
+unbuilt_nursing (Activity.Rebalance (Rebalance.Seek _)) n = absurd (n tt)
+unbuilt_nursing (Activity.Rebalance (Rebalance.Write _)) n = absurd (n tt)
+unbuilt_nursing (Activity.Rebalance (Rebalance.Replace Replace.Start)) n = absurd (n tt)
+unbuilt_nursing (Activity.Rebalance (Rebalance.Replace Replace.GuessedLeast)) n = absurd (n tt)
+unbuilt_nursing (Activity.Rebalance (Rebalance.Replace Replace.First)) n = absurd (n tt)
+unbuilt_nursing (Activity.Rebalance (Rebalance.Replace Replace.Next)) n = absurd (n tt)
+unbuilt_nursing (Activity.Rebalance (Rebalance.Replace Replace.NextLeast)) n = absurd (n tt)
+unbuilt_nursing (Activity.Rebalance (Rebalance.Replace Replace.Exchange)) n = absurd (n tt)
 unbuilt_nursing _ n = refl
 
 -- it has replaced no row that it has not retired
 pub won_builds : (a : Activity) → HasWon a → IsBuilding a
-won_builds Normalise x = tt
-won_builds Number x = tt
-won_builds Retire x = tt
+won_builds (Activity.Rebalance (Rebalance.Replace Replace.Normalise)) x = tt
+won_builds (Activity.Rebalance (Rebalance.Replace Replace.Number)) x = tt
+won_builds (Activity.Rebalance (Rebalance.Replace Replace.Retire)) x = tt
 won_builds _ x = absurd x
 
 -- it seeks no row before its own
 pub searching_builds : (a : Activity) (l : Local) → IsSearching a l → IsBuilding a
-searching_builds BeforeGuess l x = tt
-searching_builds BeforeLink l x = tt
-searching_builds BeforeMin l x = tt
-searching_builds Replace l x = tt
-searching_builds GiveBack l x = tt
+searching_builds (Activity.Rebalance (Rebalance.Replace Replace.GuessedLeast)) l x = tt
+searching_builds (Activity.Rebalance (Rebalance.Replace Replace.Next)) l x = tt
+searching_builds (Activity.Rebalance (Rebalance.Replace Replace.NextLeast)) l x = tt
+searching_builds (Activity.Rebalance (Rebalance.Replace Replace.Exchange)) l x = tt
+searching_builds (Activity.Rebalance (Rebalance.Seek Seek.GiveBack)) l x = tt
 searching_builds _ l x = absurd x
 
 before_builds : (a : Activity) (l : Local) → HasBefore a l → IsBuilding a
-before_builds BeforeGuess l x = tt
-before_builds BeforeLink l x = tt
-before_builds BeforeMin l x = tt
-before_builds GiveBack l x = tt
+before_builds (Activity.Rebalance (Rebalance.Replace Replace.GuessedLeast)) l x = tt
+before_builds (Activity.Rebalance (Rebalance.Replace Replace.Next)) l x = tt
+before_builds (Activity.Rebalance (Rebalance.Replace Replace.NextLeast)) l x = tt
+before_builds (Activity.Rebalance (Rebalance.Seek Seek.GiveBack)) l x = tt
 before_builds _ l x = absurd x
 
 met_builds : (a : Activity) → HasMetNext a → IsBuilding a
-met_builds BeforeMin x = tt
+met_builds (Activity.Rebalance (Rebalance.Replace Replace.NextLeast)) x = tt
 met_builds _ x = absurd x
 
 pub unbuilt_search : (v : Words) (g : Ledger) (t : ℕ) (a : Activity) (l : Local) → (IsBuilding a → ⊥) → Search v g t a l

@@ -3,7 +3,12 @@ use Rattle.std.proofs.Common.{ℕ, zero, suc, ◌≡◌, ◌+◌, ◌*◌, ◌<�
 use Rattle.std.proofs.Math.Nat.{mul-le-mul_right, suc-mul}
 use Rattle.std.proofs.lemmas.Option.{same_Some}
 use Rattle.kw_world.specs.declared.activity.Activity.{Activity}
-use Rattle.kw_world.specs.declared.activity.Activity.TheVariants.{ScanClock, ScanWait, ScanDraw, PutCount, PutAdd, BalClock, BalEpoch, BalState, BalNormal, Engage, MarkLink, Decide, FreezeCount, FreezeLook, Freeze, ScanLook, HelpDraw, HelpSettle}
+use Rattle.kw_world.specs.declared.activity.draw.Draw.TheVariants as Draw
+use Rattle.kw_world.specs.declared.activity.rebalance.engage.Engage.TheVariants as Engage
+use Rattle.kw_world.specs.declared.activity.rebalance.freeze.Freeze.TheVariants as Freeze
+use Rattle.kw_world.specs.declared.activity.put.Put.TheVariants as Put
+use Rattle.kw_world.specs.declared.activity.rebalance.Rebalance.TheVariants as Rebalance
+use Rattle.kw_world.specs.declared.activity.walk.Walk.TheVariants as Walk
 use Rattle.kw_world.specs.declared.local.Local.{Local}
 use Rattle.kw_world.specs.declared.event.Choice.{Choice}
 use Rattle.kw_world.specs.Sizes.{Sizes}
@@ -19,7 +24,7 @@ adders-set q (k ∷ ls) zero l l' e = let x = ap (λ (y : Local). adding y.activ
 adders-set q (k ∷ ls) (suc s) l l' e = omega (arith, adders-set q ls s l l' e)
 
 pub adding_at_most : (a : Activity) (row q : ℕ) → adding a row q ≤ 1
-adding_at_most PutAdd row q = met (row == q)
+adding_at_most (Activity.Put Put.Add) row q = met (row == q)
   where
     met : (b : Bool) → (if b then 1 else 0) ≤ 1
     met true = omega arith
@@ -45,11 +50,12 @@ drawers-set n (k ∷ ls) (suc s) l l' e = omega (arith, drawers-set n ls s l l' 
 
 -- each seat draws at most as many as there are seats
 pub drawing_at_most : (n : ℕ) (a : Activity) → 1 ≤ n → drawing n a ≤ n
-drawing_at_most n ScanWait o = o
-drawing_at_most n ScanDraw o = o
-drawing_at_most n (ScanLook i) o = omega arith
-drawing_at_most n (HelpDraw i) o = omega arith
-drawing_at_most n (HelpSettle i) o = omega arith
+drawing_at_most n (Activity.Draw Draw.Wait) o = o
+drawing_at_most n (Activity.Draw Draw.Version) o = o
+drawing_at_most n (Activity.Rebalance (Rebalance.Freeze (Freeze.Scan i))) o = omega arith
+drawing_at_most n (Activity.Rebalance (Rebalance.Freeze (Freeze.Draw i))) o = omega arith
+drawing_at_most n (Activity.Rebalance (Rebalance.Freeze (Freeze.Settle i))) o = omega arith
+drawing_at_most n (Activity.Rebalance (Rebalance.Engage Engage.Clock)) o = omega arith
 drawing_at_most n _ o = omega arith
 
 drawers_at_most : (n : ℕ) (ls : List Local) → 1 ≤ n → drawers n ls ≤ length ls * n
@@ -67,12 +73,12 @@ square_few n m o = mul-le-mul_right {m = n} {n = m} n o
 
 -- which activities lead to asking for a cell, and to a draw
 abbrev pub IsCounting : Activity → Type 0
-IsCounting PutCount = Unit {0}
+IsCounting (Activity.Put Put.Count) = Unit {0}
 IsCounting _ = ⊥
 
 abbrev pub IsToWait : Activity → Type 0
-IsToWait ScanClock = Unit {0}
-IsToWait BalClock = Unit {0}
+IsToWait (Activity.Draw Draw.Clock) = Unit {0}
+IsToWait (Activity.Rebalance (Rebalance.Engage Engage.Clock)) = Unit {0}
 IsToWait _ = ⊥
 
 look_adds : (z : Sizes) (j row q : ℕ) (next : Activity) → NextLook z j next → adding next row q ≡ 0
@@ -97,24 +103,20 @@ cell_draws l k next (scans_on r o y n w) = refl
 
 -- what follows where new rows are built neither asks for a cell nor draws a version
 pub built_adds : (a : Activity) (row q : ℕ) → IsAfterBuilding a → adding a row q ≡ 0
-built_adds PutAdd row q o = absurd o
+built_adds (Activity.Put Put.Add) row q o = absurd o
+built_adds (Activity.Walk Walk.First) row q o = refl
 built_adds _ row q o = refl
 
 pub built_draws : (n : ℕ) (a : Activity) → IsAfterBuilding a → drawing n a ≡ 0
-built_draws n ScanWait o = absurd o
-built_draws n ScanDraw o = absurd o
-built_draws n BalEpoch o = absurd o
-built_draws n BalState o = absurd o
-built_draws n (BalNormal seat) o = absurd o
-built_draws n Engage o = absurd o
-built_draws n (MarkLink count) o = absurd o
-built_draws n (Decide count) o = absurd o
-built_draws n FreezeCount o = absurd o
-built_draws n (FreezeLook i) o = absurd o
-built_draws n (Freeze i) o = absurd o
-built_draws n (ScanLook i) o = absurd o
-built_draws n (HelpDraw i) o = absurd o
-built_draws n (HelpSettle i) o = absurd o
+built_draws n (Activity.Draw Draw.Wait) o = absurd o
+built_draws n (Activity.Draw Draw.Version) o = absurd o
+built_draws n (Activity.Rebalance (Rebalance.Engage Engage.Epoch)) o = absurd o
+built_draws n (Activity.Rebalance (Rebalance.Engage Engage.State)) o = absurd o
+built_draws n (Activity.Rebalance (Rebalance.Engage (Engage.Normal seat))) o = absurd o
+built_draws n (Activity.Rebalance (Rebalance.Engage Engage.Lead)) o = absurd o
+built_draws n (Activity.Rebalance (Rebalance.Engage (Engage.MarkLink count))) o = absurd o
+built_draws n (Activity.Rebalance (Rebalance.Engage (Engage.Decide count))) o = absurd o
+built_draws n (Activity.Rebalance (Rebalance.Freeze _)) o = absurd o
 built_draws n _ o = refl
 
 -- only a seat that found room goes on to ask for a cell

@@ -5,7 +5,10 @@ use Rattle.std.proofs.lemmas.Option.{same_Some}
 use Rattle.kw_words.specs.declared.layout.Name.TheVariants as name
 use Rattle.kw_words.specs.declared.sizes.TheConstants.{SPENT}
 use Rattle.kw_world.specs.declared.activity.Activity.{Activity}
-use Rattle.kw_world.specs.declared.activity.Activity.TheVariants.{BalEpoch, Number}
+use Rattle.kw_world.specs.declared.activity.rebalance.engage.Engage.TheVariants as Engage
+use Rattle.kw_world.specs.declared.activity.rebalance.Rebalance.TheVariants as Rebalance
+use Rattle.kw_world.specs.declared.activity.rebalance.replace.Replace.TheVariants as Replace
+use Rattle.kw_world.specs.declared.activity.rebalance.seek.Seek.TheVariants as Seek
 use Rattle.kw_world.specs.declared.event.Choice.{Choice}
 use Rattle.kw_world.specs.declared.local.Local.{Local}
 use Rattle.kw_world.specs.declared.rebalance.Afterwards.{Afterwards}
@@ -28,7 +31,9 @@ numberers-set (k ∷ ls) zero l l' e = let x = ap (λ (y : Local). numbering y.a
 numberers-set (k ∷ ls) (suc s) l l' e = omega (arith, numberers-set ls s l l' e)
 
 numbering_at_most : (a : Activity) → numbering a ≤ 1
-numbering_at_most Number = omega arith
+numbering_at_most (Activity.Rebalance (Rebalance.Replace Replace.Number)) = omega arith
+numbering_at_most (Activity.Rebalance (Rebalance.Engage Engage.Clock)) = omega arith
+numbering_at_most (Activity.Rebalance (Rebalance.Seek Seek.Next)) = omega arith
 numbering_at_most _ = omega arith
 
 -- there are no more of them than seats
@@ -63,7 +68,7 @@ built_numbers z v choice l a k (retires_and_leaves dn) = omega arith
 built_numbers z v choice l a k _ = numbering_at_most k.activity
 
 abbrev AsksEpoch : Activity → Type 0
-AsksEpoch BalEpoch = Unit {0}
+AsksEpoch (Activity.Rebalance (Rebalance.Engage Engage.Epoch)) = Unit {0}
 AsksEpoch _ = ⊥
 
 numbers_next : (z : Sizes) (v : Words) (s : ℕ) (choice : Choice) (l : Local) (a : Activity) (l' : Local) → Arrow z v s choice l a l' → (AsksEpoch a → ⊥) → numbering l'.activity ≤ numbering a
@@ -88,8 +93,8 @@ epoch_built z r r' s choice l a l' t h i = omega (arith, i.epoch, epoch_stays _ 
 
 -- the epoch has room for the numbers that are drawn
 pub epoch_keeps : (z : Sizes) (r r' : Run) (s : ℕ) (choice : Choice) (l : Local) (a : Activity) (l' : Local) → Arrow z (word z r.world) s choice l a l' → Happens z r r' s choice l l' a → Shape z r → word z r'.world name.Epoch + numberers r'.world.locals ≤ SPENT + z.seats
-epoch_keeps z r r' s choice l a l' (epoch_serves e) h i = omega (arith, e, epoch_stays BalEpoch h (λ c. c), numberers_at_most r'.world.locals, ap length h.locals, length-set r.world.locals s l', i.sane.seats)
-epoch_keeps z r r' s choice l a l' (epoch_is_spent e nd) h i = omega (arith, i.epoch, epoch_stays BalEpoch h (λ c. c), numberers-set r.world.locals s l l' h.knows, ap numberers h.locals)
-epoch_keeps z r r' s choice l a l' (ends_at_epoch dn) h i = omega (arith, i.epoch, epoch_stays BalEpoch h (λ c. c), numberers-set r.world.locals s l l' h.knows, ap numberers h.locals)
+epoch_keeps z r r' s choice l a l' (epoch_serves e) h i = omega (arith, e, epoch_stays (Activity.Rebalance (Rebalance.Engage Engage.Epoch)) h (λ c. c), numberers_at_most r'.world.locals, ap length h.locals, length-set r.world.locals s l', i.sane.seats)
+epoch_keeps z r r' s choice l a l' (epoch_is_spent e nd) h i = omega (arith, i.epoch, epoch_stays (Activity.Rebalance (Rebalance.Engage Engage.Epoch)) h (λ c. c), numberers-set r.world.locals s l l' h.knows, ap numberers h.locals)
+epoch_keeps z r r' s choice l a l' (ends_at_epoch dn) h i = omega (arith, i.epoch, epoch_stays (Activity.Rebalance (Rebalance.Engage Engage.Epoch)) h (λ c. c), numberers-set r.world.locals s l l' h.knows, ap numberers h.locals)
 epoch_keeps z r r' s choice l a l' (builds b next y t) h i = epoch_built z r r' s choice l b next t h i
 epoch_keeps z r r' s choice l a l' b h i = omega (arith, i.epoch, epoch_stays _ h (λ c. c), numbers_next z (word z r.world) s choice l _ l' b (λ x. x), ap numbering h.activity, numberers-set r.world.locals s l l' h.knows, ap numberers h.locals)

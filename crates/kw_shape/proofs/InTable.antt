@@ -27,7 +27,20 @@ use Rattle.kw_words.proofs.PendWords.{pend_of-pend_word}
 use Rattle.kw_words.proofs.ScanWords.{scan_of-scan_word}
 use Rattle.kw_words.proofs.Places.{same_name}
 use Rattle.kw_world.specs.declared.activity.Activity.{Activity}
-use Rattle.kw_world.specs.declared.activity.Activity.TheVariants.{Enter, ScanWait, ScanDraw, ScanSettle, Start, Walk, LookHelp, ClearScan, PutAdd, PutKey, PutValue, Announce, Stamp, PutVersion, InsSet, Insert, PutClear, Leave, Again, BalNormal, Engage, MarkLink, Decide, FreezeCount, Freeze, HelpDraw, HelpSettle, SeekFirst, Reclaim, TakeRow, GiveBack, WriteCount, WriteMin, WriteNext, WriteFirst, WritePend, WriteKey, WriteValue, WriteVersion, WriteAfter, Before, Replace, Normalise, Number, Retire}
+use Rattle.kw_world.specs.declared.activity.draw.Draw.TheVariants as Draw
+use Rattle.kw_world.specs.declared.activity.rebalance.engage.Engage.TheVariants as Engage
+use Rattle.kw_world.specs.declared.activity.enter.Enter.TheVariants as Enter
+use Rattle.kw_world.specs.declared.activity.rebalance.freeze.Freeze.TheVariants as Freeze
+use Rattle.kw_world.specs.declared.activity.insert.Insert.TheVariants as Insert
+use Rattle.kw_world.specs.declared.activity.look.Look.TheVariants as Look
+use Rattle.kw_world.specs.declared.activity.put.Put.TheVariants as Put
+use Rattle.kw_world.specs.declared.activity.rebalance.Rebalance.TheVariants as Rebalance
+use Rattle.kw_world.specs.declared.activity.rebalance.replace.Replace.TheVariants as Replace
+use Rattle.kw_world.specs.declared.activity.rebalance.seek.Seek.TheVariants as Seek
+use Rattle.kw_world.specs.declared.activity.walk.Walk.TheVariants as Walk
+use Rattle.kw_world.specs.declared.activity.rebalance.write.Write.TheVariants as Write
+use Rattle.kw_world.specs.declared.activity.rebalance.gather.Gather.TheVariants as Gather
+use Rattle.kw_world.specs.declared.activity.read.Read.TheVariants as Read
 use Rattle.kw_world.specs.declared.limits.TheConstants.{GIVEN_END}
 use Rattle.kw_world.specs.declared.local.Local.{Local}
 use Rattle.kw_world.specs.declared.event.Choice.{Choice}
@@ -145,7 +158,7 @@ module _ (z : Sizes) (rows : ℕ) (v : Words) (s : ℕ) (choice : Choice) (l : L
   guesses Stop n = loaded name.Head n
 
   -- the link to the full row is exchanged for one to the first new row
-  links : (before : Option ℕ) → IsWithin z.seats z.cells rows (replaced_link before) → IsKnownAt z rows Replace l →
+  links : (before : Option ℕ) → IsWithin z.seats z.cells rows (replaced_link before) → IsKnownAt z rows (Activity.Rebalance (Rebalance.Replace Replace.Exchange)) l →
       IsWord z (replaced_link before) (word_after (Exchange (link_word (unmarked_link (Some l.row))) (link_word (unmarked_link (Some (first_infant l))))) (v (replaced_link before))) ×
       IsLed rows (replaced_link before) (word_after (Exchange (link_word (unmarked_link (Some l.row))) (link_word (unmarked_link (Some (first_infant l))))) (v (replaced_link before)))
   links (Some p) n k =
@@ -156,22 +169,22 @@ module _ (z : Sizes) (rows : ℕ) (v : Words) (s : ℕ) (choice : Choice) (l : L
       (exchanges (λ u. IsKnownWord (link_of u)) (v name.Head) _ _ (w.each name.Head n) y.0, exchanges (λ u. IsHead rows (link_of u)) (v name.Head) _ _ (w.led name.Head n) (new.head_known z rows l w.sized k.ranges k.below))
 
   written : (a : Activity) → IsKnownAt z rows a l → IsWithin z.seats z.cells rows (transition z a s choice l).operation.name → Writes (transition z a s choice l)
-  written Enter k n = (k.ranges.epoch.1, tt)
-  written ScanWait k n = (scan_known (Waiting l.waiting) k.ranges.waiting, tt)
-  written ScanDraw k n = ((omega arith, more.clock), tt)
-  written ScanSettle k n = (exchanges (λ u. IsKnownWord (scan_of u)) (v (name.Scan s)) _ _ (w.each (name.Scan s) n) (scan_known (Drawn l.drawn) k.ranges.drawn), tt)
-  written Start k n = starts choice n
-  written Walk k n = walks (is_stopped choice l) n
-  written LookHelp k n = (exchanges (λ u. IsEntry z (pend_of u)) (v (name.Pend l.row l.looked)) _ _ (w.each (name.Pend l.row l.looked) n) (entry_known z (pend.Stamped l.met l.helping) (omega (arith, k.ranges.met, w.sized.few_cells), k.ranges.helping.0, k.ranges.helping.1) (k.ranges.met, k.ranges.helping)), tt)
-  written (ClearScan answer) k n = (scan_known Quiet tt, tt)
-  written PutAdd k n = (given_known (v (name.Count l.row)) _ refl (w.each (name.Count l.row) n) (more.given l.row n), tt)
-  written PutKey k n = (first_in_range l.call k.ranges.call, tt)
-  written PutValue k n = (value_known (put_value l.call) (put_in_range l.call k.ranges.call), tt)
-  written Announce k n = (exchanges (λ u. IsEntry z (pend_of u)) (v (name.Pend l.row s)) _ _ (w.each (name.Pend l.row s) n) (entry_known z (pend.Pending l.cell) (omega (arith, k.ranges.cell, w.sized.few_cells)) k.ranges.cell), tt)
-  written Stamp k n = (exchanges (λ u. IsEntry z (pend_of u)) (v (name.Pend l.row s)) _ _ (w.each (name.Pend l.row s) n) (entry_known z (pend.Stamped l.cell l.version) (omega (arith, k.ranges.cell, w.sized.few_cells), k.ranges.version.0, k.ranges.version.1) (k.ranges.cell, k.ranges.version)), tt)
-  written PutVersion k n = (k.ranges.version.1, tt)
-  written InsSet k n = (held_below l.held k.ranges.held, tt)
-  written Insert k n = (linked l.link (v (link_name l.row l.link)) (w.each (link_name l.row l.link) n) k.ranges.cell, led l.link _)
+  written (Activity.Enter Enter.Announce) k n = (k.ranges.epoch.1, tt)
+  written (Activity.Draw Draw.Wait) k n = (scan_known (Waiting l.waiting) k.ranges.waiting, tt)
+  written (Activity.Draw Draw.Version) k n = ((omega arith, more.clock), tt)
+  written (Activity.Draw Draw.Settle) k n = (exchanges (λ u. IsKnownWord (scan_of u)) (v (name.Scan s)) _ _ (w.each (name.Scan s) n) (scan_known (Drawn l.drawn) k.ranges.drawn), tt)
+  written (Activity.Walk Walk.Start) k n = starts choice n
+  written (Activity.Walk Walk.Next) k n = walks (is_stopped choice l) n
+  written (Activity.Look Look.Help) k n = (exchanges (λ u. IsEntry z (pend_of u)) (v (name.Pend l.row l.looked)) _ _ (w.each (name.Pend l.row l.looked) n) (entry_known z (pend.Stamped l.met l.helping) (omega (arith, k.ranges.met, w.sized.few_cells), k.ranges.helping.0, k.ranges.helping.1) (k.ranges.met, k.ranges.helping)), tt)
+  written (Activity.EndScan answer) k n = (scan_known Quiet tt, tt)
+  written (Activity.Put Put.Add) k n = (given_known (v (name.Count l.row)) _ refl (w.each (name.Count l.row) n) (more.given l.row n), tt)
+  written (Activity.Put Put.Key) k n = (first_in_range l.call k.ranges.call, tt)
+  written (Activity.Put Put.Value) k n = (value_known (put_value l.call) (put_in_range l.call k.ranges.call), tt)
+  written (Activity.Put Put.Announce) k n = (exchanges (λ u. IsEntry z (pend_of u)) (v (name.Pend l.row s)) _ _ (w.each (name.Pend l.row s) n) (entry_known z (pend.Pending l.cell) (omega (arith, k.ranges.cell, w.sized.few_cells)) k.ranges.cell), tt)
+  written (Activity.Put Put.Stamp) k n = (exchanges (λ u. IsEntry z (pend_of u)) (v (name.Pend l.row s)) _ _ (w.each (name.Pend l.row s) n) (entry_known z (pend.Stamped l.cell l.version) (omega (arith, k.ranges.cell, w.sized.few_cells), k.ranges.version.0, k.ranges.version.1) (k.ranges.cell, k.ranges.version)), tt)
+  written (Activity.Put Put.Version) k n = (k.ranges.version.1, tt)
+  written (Activity.Insert Insert.Set) k n = (held_below l.held k.ranges.held, tt)
+  written (Activity.Insert Insert.Exchange) k n = (linked l.link (v (link_name l.row l.link)) (w.each (link_name l.row l.link) n) k.ranges.cell, led l.link _)
     where
       linked : (link : Option ℕ) (found : ℕ) → IsWord z (link_name l.row link) found → l.cell < z.cells → IsWord z (link_name l.row link) (word_after (Exchange (cell_link_word l.held) (cell_link_word (Some l.cell))) found)
       linked (Some c) found f o = exchanges (λ x. x ≤ z.cells) found _ _ f (omega (arith, o))
@@ -180,35 +193,37 @@ module _ (z : Sizes) (rows : ℕ) (v : Words) (s : ℕ) (choice : Choice) (l : L
       led : (link : Option ℕ) (x : ℕ) → IsLed rows (link_name l.row link) x
       led (Some c) x = tt
       led None x = tt
-  written PutClear k n = (entry_known z pend.Idle tt tt, tt)
-  written (Leave answer) k n = (omega arith, tt)
-  written Again k n = (omega arith, tt)
-  written (BalNormal seat) k n = set_state l.row (state.Infant seat) Normal tt tt tt n
-  written Engage k n = set_state l.row Normal (Leader 0) (omega arith) tt tt n
-  written (MarkLink count) k n = marked_known rows (v (name.Next l.row)) _ refl (w.each (name.Next l.row) n) (w.led (name.Next l.row) n)
-  written (Decide count) k n = set_state l.row (Leader 0) (Leader count) k.activity tt tt n
-  written FreezeCount k n = (frozen_known (v (name.Count l.row)) _ refl (w.each (name.Count l.row) n), tt)
-  written (Freeze i) k n = (exchanges (λ u. IsEntry z (pend_of u)) (v (name.Pend l.row i)) _ _ (w.each (name.Pend l.row i) n) (entry_known z pend.Frozen tt tt), tt)
-  written (HelpDraw i) k n = ((omega arith, more.clock), tt)
-  written (HelpSettle i) k n = (exchanges (λ u. IsKnownWord (scan_of u)) (v (name.Scan i)) _ _ (w.each (name.Scan i) n) (scan_known (Drawn l.rebalance.drawn) k.ranges.rebalance.drawn), tt)
-  written SeekFirst k n = seeks choice n
-  written Reclaim k n = set_state l.rebalance.sought (state.Retired l.rebalance.number) state.Free tt tt tt n
-  written TakeRow k n = set_state l.rebalance.sought state.Free (state.Infant s) (omega (arith, more.seat, w.sized.few_seats)) more.seat tt n
-  written GiveBack k n = (state_known z state.Free tt tt, state_below rows state.Free tt tt)
-  written WriteCount k n = (new.count_known z rows l w.sized k.ranges k.below, tt)
-  written WriteMin k n = (new.least_known z rows l w.sized k.ranges k.below, tt)
-  written WriteNext k n = new.next_known z rows l w.sized k.ranges k.below
-  written WriteFirst k n = (new.first_known z rows l w.sized k.ranges k.below, tt)
-  written (WritePend i) k n = (entry_known z pend.Idle tt tt, tt)
-  written (WriteKey j) k n = (new.key_known z rows l w.sized k.ranges k.below j, tt)
-  written (WriteValue j) k n = (new.value_known z rows l w.sized k.ranges k.below j, tt)
-  written (WriteVersion j) k n = (new.version_known z rows l w.sized k.ranges k.below j, tt)
-  written (WriteAfter j) k n = (new.after_known z rows l w.sized k.ranges k.below j k.activity, tt)
-  written Before k n = guesses choice n
-  written Replace k n = links l.rebalance.before n k
-  written Normalise k n = set_state (infant l) (state.Infant s) Normal tt tt tt n
-  written Number k n = ((omega arith, more.epoch), tt)
-  written Retire k n = (state_known z (state.Retired l.rebalance.number) k.ranges.rebalance.number k.ranges.rebalance.number, state_below rows (state.Retired l.rebalance.number) k.ranges.rebalance.number tt)
+  written (Activity.Put Put.Clear) k n = (entry_known z pend.Idle tt tt, tt)
+  written (Activity.Leave answer) k n = (omega arith, tt)
+  written Activity.Retry k n = (omega arith, tt)
+  written (Activity.Rebalance (Rebalance.Engage (Engage.Normal seat))) k n = set_state l.row (state.Infant seat) Normal tt tt tt n
+  written (Activity.Rebalance (Rebalance.Engage Engage.Lead)) k n = set_state l.row Normal (Leader 0) (omega arith) tt tt n
+  written (Activity.Rebalance (Rebalance.Engage (Engage.MarkLink count))) k n = marked_known rows (v (name.Next l.row)) _ refl (w.each (name.Next l.row) n) (w.led (name.Next l.row) n)
+  written (Activity.Rebalance (Rebalance.Engage (Engage.Decide count))) k n = set_state l.row (Leader 0) (Leader count) k.activity tt tt n
+  written (Activity.Rebalance (Rebalance.Freeze Freeze.Count)) k n = (frozen_known (v (name.Count l.row)) _ refl (w.each (name.Count l.row) n), tt)
+  written (Activity.Rebalance (Rebalance.Freeze (Freeze.Entry i))) k n = (exchanges (λ u. IsEntry z (pend_of u)) (v (name.Pend l.row i)) _ _ (w.each (name.Pend l.row i) n) (entry_known z pend.Frozen tt tt), tt)
+  written (Activity.Rebalance (Rebalance.Freeze (Freeze.Draw i))) k n = ((omega arith, more.clock), tt)
+  written (Activity.Rebalance (Rebalance.Freeze (Freeze.Settle i))) k n = (exchanges (λ u. IsKnownWord (scan_of u)) (v (name.Scan i)) _ _ (w.each (name.Scan i) n) (scan_known (Drawn l.rebalance.drawn) k.ranges.rebalance.drawn), tt)
+  written (Activity.Rebalance (Rebalance.Seek Seek.First)) k n = seeks choice n
+  written (Activity.Rebalance (Rebalance.Seek Seek.Reclaim)) k n = set_state l.rebalance.sought (state.Retired l.rebalance.number) state.Free tt tt tt n
+  written (Activity.Rebalance (Rebalance.Seek Seek.Take)) k n = set_state l.rebalance.sought state.Free (state.Infant s) (omega (arith, more.seat, w.sized.few_seats)) more.seat tt n
+  written (Activity.Rebalance (Rebalance.Seek Seek.GiveBack)) k n = (state_known z state.Free tt tt, state_below rows state.Free tt tt)
+  written (Activity.Rebalance (Rebalance.Write Write.Count)) k n = (new.count_known z rows l w.sized k.ranges k.below, tt)
+  written (Activity.Rebalance (Rebalance.Write Write.Least)) k n = (new.least_known z rows l w.sized k.ranges k.below, tt)
+  written (Activity.Rebalance (Rebalance.Write Write.Next)) k n = new.next_known z rows l w.sized k.ranges k.below
+  written (Activity.Rebalance (Rebalance.Write Write.First)) k n = (new.first_known z rows l w.sized k.ranges k.below, tt)
+  written (Activity.Rebalance (Rebalance.Write (Write.Entry i))) k n = (entry_known z pend.Idle tt tt, tt)
+  written (Activity.Rebalance (Rebalance.Write (Write.Key j))) k n = (new.key_known z rows l w.sized k.ranges k.below j, tt)
+  written (Activity.Rebalance (Rebalance.Write (Write.Value j))) k n = (new.value_known z rows l w.sized k.ranges k.below j, tt)
+  written (Activity.Rebalance (Rebalance.Write (Write.Version j))) k n = (new.version_known z rows l w.sized k.ranges k.below j, tt)
+  written (Activity.Rebalance (Rebalance.Write (Write.After j))) k n = (new.after_known z rows l w.sized k.ranges k.below j k.activity, tt)
+  written (Activity.Rebalance (Rebalance.Replace Replace.Start)) k n = guesses choice n
+  written (Activity.Rebalance (Rebalance.Replace Replace.Exchange)) k n = links l.rebalance.before n k
+  written (Activity.Rebalance (Rebalance.Replace Replace.Normalise)) k n = set_state (infant l) (state.Infant s) Normal tt tt tt n
+  written (Activity.Rebalance (Rebalance.Replace Replace.Number)) k n = ((omega arith, more.epoch), tt)
+  written (Activity.Rebalance (Rebalance.Replace Replace.Retire)) k n = (state_known z (state.Retired l.rebalance.number) k.ranges.rebalance.number k.ranges.rebalance.number, state_below rows (state.Retired l.rebalance.number) k.ranges.rebalance.number tt)
+  written (Activity.Read Read.Link) k n = loaded (transition z (Activity.Read Read.Link) s choice l).operation.name n
+  written (Activity.Rebalance (Rebalance.Gather Gather.Link)) k n = loaded (transition z (Activity.Rebalance (Rebalance.Gather Gather.Link)) s choice l).operation.name n
   written a k n = loaded (transition z a s choice l).operation.name n
 
   -- a word after the event: the one that was written, or another

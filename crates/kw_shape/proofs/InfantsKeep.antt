@@ -7,7 +7,11 @@ use Rattle.std.proofs.lemmas.Option.{get_or_from_slice_get, same_Some, slice_get
 use Rattle.std.proofs.Math.Seq.{get_or-append_seam}
 use Rattle.kw_rows.specs.Ledger.{Ledger}
 use Rattle.kw_world.specs.declared.activity.Activity.{Activity}
-use Rattle.kw_world.specs.declared.activity.Activity.TheVariants.{Seek, SeekPass, Reclaim, GiveBack, WriteCount, WritePend, WriteKey, WriteVersion, Before, Again, Leave, BalClock}
+use Rattle.kw_world.specs.declared.activity.rebalance.engage.Engage.TheVariants as Engage
+use Rattle.kw_world.specs.declared.activity.rebalance.Rebalance.TheVariants as Rebalance
+use Rattle.kw_world.specs.declared.activity.rebalance.replace.Replace.TheVariants as Replace
+use Rattle.kw_world.specs.declared.activity.rebalance.seek.Seek.TheVariants as Seek
+use Rattle.kw_world.specs.declared.activity.rebalance.write.Write.TheVariants as Write
 use Rattle.kw_world.specs.declared.local.Local.{Local}
 use Rattle.kw_world.specs.declared.rebalance.Afterwards.{Afterwards}
 use Rattle.kw_world.specs.SeekTransitions.{at_infant, infant}
@@ -44,7 +48,7 @@ pub record Wrote (z : Sizes) (v : Words) (g : Ledger) (t : ℕ) (l : Local) (b :
   pub own : Own g t l.rebalance.taken
   pub hand : l.rebalance.at < length l.rebalance.taken
   pub enough : length l.rebalance.starts ≤ length l.rebalance.taken
-  pub whole : (i q : ℕ) → i < l.rebalance.at → slice_get l.rebalance.taken i ≡ Some q → Written z v Before (at_infant i l) q
+  pub whole : (i q : ℕ) → i < l.rebalance.at → slice_get l.rebalance.taken i ≡ Some q → Written z v (Activity.Rebalance (Rebalance.Replace Replace.Start)) (at_infant i l) q
   pub words : Written z v b l (infant l)
 
 module _ (z : Sizes) (v : Words) (g : Ledger) (t : ℕ) where
@@ -71,7 +75,7 @@ module _ (z : Sizes) (v : Words) (g : Ledger) (t : ℕ) where
   }
 
   -- one that gives them back
-  pub giving : (k : Local) → k.rebalance.at < length k.rebalance.taken → Own g t k.rebalance.taken → Infants z v g t GiveBack k
+  pub giving : (k : Local) → k.rebalance.at < length k.rebalance.taken → Own g t k.rebalance.taken → Infants z v g t (Activity.Rebalance (Rebalance.Seek Seek.GiveBack)) k
   giving k h o = record {
     owned = λ i q n f. o.owned i q f;
     apart = λ i j q n m f e. o.apart i j q f e;
@@ -83,7 +87,7 @@ module _ (z : Sizes) (v : Words) (g : Ledger) (t : ℕ) where
 
   -- one that begins to write the row at hand
   pub begins_row : (k : Local) → k.rebalance.at < length k.rebalance.taken → length k.rebalance.starts ≤ length k.rebalance.taken → Own g t k.rebalance.taken →
-      ((i q : ℕ) → i < k.rebalance.at → slice_get k.rebalance.taken i ≡ Some q → Written z v Before (at_infant i k) q) → Infants z v g t WriteCount k
+      ((i q : ℕ) → i < k.rebalance.at → slice_get k.rebalance.taken i ≡ Some q → Written z v (Activity.Rebalance (Rebalance.Replace Replace.Start)) (at_infant i k) q) → Infants z v g t (Activity.Rebalance (Rebalance.Write Write.Count)) k
   begins_row k h m o w = record {
     owned = λ i q n f. o.owned i q f;
     apart = λ i j q n c f e. o.apart i j q f e;
@@ -100,13 +104,13 @@ module _ (z : Sizes) (v : Words) (g : Ledger) (t : ℕ) where
     apart = λ i j q n m f h. w.own.apart i j q f h;
     hand = λ n. w.hand;
     enough = λ n. (omega (arith, w.hand), w.enough);
-    whole = λ i q n f. written_like z v Before (at_infant i l) (at_infant i (record l { activity = b })) q refl refl refl (w.whole i q (subst (λ m. IsWhole m (record l { activity = b }) i) e n) f);
+    whole = λ i q n f. written_like z v (Activity.Rebalance (Rebalance.Replace Replace.Start)) (at_infant i l) (at_infant i (record l { activity = b })) q refl refl refl (w.whole i q (subst (λ m. IsWhole m (record l { activity = b }) i) e n) f);
     words = λ n. written_like z v b l (record l { activity = b }) (infant l) refl refl refl w.words;
   }
 
   -- one that has written all
   pub linking : (b : Activity) (k : Local) → nursing_of b ≡ Links → (0 < length k.rebalance.taken) × (length k.rebalance.starts ≤ length k.rebalance.taken) → Own g t k.rebalance.taken →
-      ((i q : ℕ) → slice_get k.rebalance.taken i ≡ Some q → Written z v Before (at_infant i k) q) → Infants z v g t b k
+      ((i q : ℕ) → slice_get k.rebalance.taken i ≡ Some q → Written z v (Activity.Rebalance (Rebalance.Replace Replace.Start)) (at_infant i k) q) → Infants z v g t b k
   linking b k e m o w = record {
     owned = λ i q n f. o.owned i q f;
     apart = λ i j q n c f h. o.apart i j q f h;
@@ -119,53 +123,53 @@ module _ (z : Sizes) (v : Words) (g : Ledger) (t : ℕ) where
   -- What follows where a part has no event of its own.
 
   pub given_on : (c : Afterwards) (k next : Local) → GivenBack k c next → Infants z v g t next.activity next
-  given_on c k next (tries_again nd) = nowhere Again _ refl
-  given_on c k next (was_done dn) = nowhere (Leave _) _ refl
-  given_on c k next (is_refused_rows nd) = nowhere (Leave _) _ refl
-  given_on c k next (was_served dn) = nowhere (Leave _) _ refl
-  given_on c k next moves_left = nowhere BalClock _ refl
+  given_on c k next (tries_again nd) = nowhere Activity.Retry _ refl
+  given_on c k next (was_done dn) = nowhere (Activity.Leave _) _ refl
+  given_on c k next (is_refused_rows nd) = nowhere (Activity.Leave _) _ refl
+  given_on c k next (was_served dn) = nowhere (Activity.Leave _) _ refl
+  given_on c k next moves_left = nowhere (Activity.Rebalance (Rebalance.Engage Engage.Clock)) _ refl
 
   pub back_on : (c : Afterwards) (k next : Local) → NextBack c k next → Own g t k.rebalance.taken → Infants z v g t next.activity next
   back_on c k next (gives_back o) x = giving _ o x
   back_on c k next (has_none m o y) x = given_on c k next y
 
   pub seek_on : (rows : ℕ) (k next : Local) → NextSeek rows k next → Own g t k.rebalance.taken → Infants z v g t next.activity next
-  seek_on rows k next (asks o) x = seeking Seek _ refl x
+  seek_on rows k next (asks o) x = seeking (Activity.Rebalance (Rebalance.Seek Seek.Next)) _ refl x
   seek_on rows k next (has_asked m o y) x = back_on _ k next y x
 
   pub pass_on : (i : ℕ) (k next : Local) → NextPass z i k next → Own g t k.rebalance.taken → Infants z v g t next.activity next
-  pass_on i k next (looks_on o) x = seeking (SeekPass i) _ refl x
-  pass_on i k next (has_looked o) x = seeking Reclaim _ refl x
+  pass_on i k next (looks_on o) x = seeking (Activity.Rebalance (Rebalance.Seek (Seek.Pass i))) _ refl x
+  pass_on i k next (has_looked o) x = seeking (Activity.Rebalance (Rebalance.Seek Seek.Reclaim)) _ refl x
 
   pub taken_on : (rows : ℕ) (k next : Local) → NextTaken rows k next → Own g t k.rebalance.taken → 0 < length k.rebalance.taken → Infants z v g t next.activity next
   taken_on rows k next (wants_more m o y) x c = seek_on rows k next y x
   taken_on rows k next (has_enough o) x c = begins_row _ c o x (λ i q n f. absurd (omega (arith, n)))
 
   -- a row up to the one at hand, which is whole now
-  up_to : (l : Local) → Wrote z v g t l Before → (i q : ℕ) → i ≤ l.rebalance.at → slice_get l.rebalance.taken i ≡ Some q → Written z v Before (at_infant i l) q
+  up_to : (l : Local) → Wrote z v g t l (Activity.Rebalance (Rebalance.Replace Replace.Start)) → (i q : ℕ) → i ≤ l.rebalance.at → slice_get l.rebalance.taken i ≡ Some q → Written z v (Activity.Rebalance (Rebalance.Replace Replace.Start)) (at_infant i l) q
   up_to l w i q o f = which (cases_eq i l.rebalance.at)
     where
-      which : (i ≡ l.rebalance.at) ⊎ (i ≡ l.rebalance.at → ⊥) → Written z v Before (at_infant i l) q
+      which : (i ≡ l.rebalance.at) ⊎ (i ≡ l.rebalance.at → ⊥) → Written z v (Activity.Rebalance (Rebalance.Replace Replace.Start)) (at_infant i l) q
       which (inl e) =
           let s : slice_get l.rebalance.taken l.rebalance.at ≡ Some q = subst (λ n. slice_get l.rebalance.taken n ≡ Some q) e f in
           let y : infant l ≡ q = same_Some (infant l) q (sym (infant_at l w.hand) ∙ s) in
-          subst (λ n. Written z v Before (at_infant n l) q) (sym e) (subst (Written z v Before (at_infant l.rebalance.at l)) y (written_like z v Before l (at_infant l.rebalance.at l) (infant l) refl refl refl w.words))
+          subst (λ n. Written z v (Activity.Rebalance (Rebalance.Replace Replace.Start)) (at_infant n l) q) (sym e) (subst (Written z v (Activity.Rebalance (Rebalance.Replace Replace.Start)) (at_infant l.rebalance.at l)) y (written_like z v (Activity.Rebalance (Rebalance.Replace Replace.Start)) l (at_infant l.rebalance.at l) (infant l) refl refl refl w.words))
       which (inr d) = w.whole i q (omega (arith, o, d)) f
 
-  pub row_on : (l next : Local) → NextNewRow l next → Wrote z v g t l Before → Infants z v g t next.activity next
-  row_on l next (writes_row o) w = begins_row _ o w.enough w.own (λ i q n f. written_like z v Before (at_infant i l) _ q refl refl refl (up_to l w i q (omega (arith, n)) f))
-  row_on l next (has_written o) w = linking Before _ refl (omega (arith, w.hand), w.enough) w.own
-      (λ i q f. written_like z v Before (at_infant i l) _ q refl refl refl (up_to l w i q (omega (arith, o, slice_get_within l.rebalance.taken i q f)) f))
+  pub row_on : (l next : Local) → NextNewRow l next → Wrote z v g t l (Activity.Rebalance (Rebalance.Replace Replace.Start)) → Infants z v g t next.activity next
+  row_on l next (writes_row o) w = begins_row _ o w.enough w.own (λ i q n f. written_like z v (Activity.Rebalance (Rebalance.Replace Replace.Start)) (at_infant i l) _ q refl refl refl (up_to l w i q (omega (arith, n)) f))
+  row_on l next (has_written o) w = linking (Activity.Rebalance (Rebalance.Replace Replace.Start)) _ refl (omega (arith, w.hand), w.enough) w.own
+      (λ i q f. written_like z v (Activity.Rebalance (Rebalance.Replace Replace.Start)) (at_infant i l) _ q refl refl refl (up_to l w i q (omega (arith, o, slice_get_within l.rebalance.taken i q f)) f))
 
   -- so much of the row at hand is written, by other words
   wrote_more : (l : Local) (b c : Activity) → (Written z v b l (infant l) → Written z v c l (infant l)) → Wrote z v g t l b → Wrote z v g t l c
   wrote_more l b c f w = record { own = w.own; hand = w.hand; enough = w.enough; whole = w.whole; words = f w.words }
 
-  pub cell_on : (j : ℕ) (l next : Local) → NextNewCell z j l next → Wrote z v g t l (WriteKey j) → Infants z v g t next.activity next
-  cell_on j l next (fills o p) w = at_writing (WriteKey j) l refl w
-  cell_on j l next (empties o p) w = at_writing (WriteVersion j) l refl (wrote_more l (WriteKey j) (WriteVersion j) (cells_end z v l (infant l) j p) w)
-  cell_on j l next (has_cells m o y) w = row_on l next y (wrote_more l (WriteKey j) Before (cells_done z v l (infant l) j o) w)
+  pub cell_on : (j : ℕ) (l next : Local) → NextNewCell z j l next → Wrote z v g t l (Activity.Rebalance (Rebalance.Write (Write.Key j))) → Infants z v g t next.activity next
+  cell_on j l next (fills o p) w = at_writing (Activity.Rebalance (Rebalance.Write (Write.Key j))) l refl w
+  cell_on j l next (empties o p) w = at_writing (Activity.Rebalance (Rebalance.Write (Write.Version j))) l refl (wrote_more l (Activity.Rebalance (Rebalance.Write (Write.Key j))) (Activity.Rebalance (Rebalance.Write (Write.Version j))) (cells_end z v l (infant l) j p) w)
+  cell_on j l next (has_cells m o y) w = row_on l next y (wrote_more l (Activity.Rebalance (Rebalance.Write (Write.Key j))) (Activity.Rebalance (Rebalance.Replace Replace.Start)) (cells_done z v l (infant l) j o) w)
 
-  pub entry_on : (i : ℕ) (l next : Local) → NextNewEntry z i l next → Wrote z v g t l (WritePend i) → Infants z v g t next.activity next
-  entry_on i l next (writes_idle o) w = at_writing (WritePend i) l refl w
-  entry_on i l next (has_entries m o y) w = cell_on 0 l next y (wrote_more l (WritePend i) (WriteKey 0) (entries_done z v l (infant l) i o) w)
+  pub entry_on : (i : ℕ) (l next : Local) → NextNewEntry z i l next → Wrote z v g t l (Activity.Rebalance (Rebalance.Write (Write.Entry i))) → Infants z v g t next.activity next
+  entry_on i l next (writes_idle o) w = at_writing (Activity.Rebalance (Rebalance.Write (Write.Entry i))) l refl w
+  entry_on i l next (has_entries m o y) w = cell_on 0 l next y (wrote_more l (Activity.Rebalance (Rebalance.Write (Write.Entry i))) (Activity.Rebalance (Rebalance.Write (Write.Key 0))) (entries_done z v l (infant l) i o) w)

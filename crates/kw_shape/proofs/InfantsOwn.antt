@@ -17,7 +17,10 @@ use Rattle.kw_rows.specs.Ledger.{Fate, Ledger}
 use Rattle.kw_rows.specs.RowState as row
 use Rattle.kw_rows.specs.States.{HasState, States}
 use Rattle.kw_world.specs.declared.activity.Activity.{Activity}
-use Rattle.kw_world.specs.declared.activity.Activity.TheVariants.{Leave, SeekFirst, Seek, SeekPass, Reclaim, TakeRow, GiveBack, WriteCount, WriteMin, WriteNext, WriteFirst, WritePend, WriteKey, WriteValue, WriteVersion, WriteAfter, Before, BeforeGuess, BeforeHead, BeforeLink, BeforeMin, Replace, Normalise, Number, Retire, Again}
+use Rattle.kw_world.specs.declared.activity.rebalance.Rebalance.TheVariants as Rebalance
+use Rattle.kw_world.specs.declared.activity.rebalance.replace.Replace.TheVariants as Replace
+use Rattle.kw_world.specs.declared.activity.rebalance.seek.Seek.TheVariants as Seek
+use Rattle.kw_world.specs.declared.activity.rebalance.write.Write.TheVariants as Write
 use Rattle.kw_world.specs.declared.event.Choice.{Choice}
 use Rattle.kw_world.specs.declared.event.Choice.TheVariants.{Begin, Go, Guess, Stop}
 use Rattle.kw_world.specs.declared.local.Local.{Local}
@@ -99,11 +102,11 @@ module _ {z : Sizes} {r r' : Run} {s : ℕ} {choice : Choice} {l k : Local} wher
 
   -- an event that writes a word of the row at hand leaves the rows before it
   rest_stays : (a : Activity) → Happens z r r' s choice l k a → ((q : ℕ) → (q ≡ infant l → ⊥) → IsTarget (target_of a) l q → ⊥) → ((i q : ℕ) → slice_get l.rebalance.taken i ≡ Some q → q < r.world.rows) → Own r.ledger.rows s l.rebalance.taken → l.rebalance.at < length l.rebalance.taken →
-      ((i q : ℕ) → i < l.rebalance.at → slice_get l.rebalance.taken i ≡ Some q → Written z (word z r.world) Before (at_infant i l) q) →
-      (i q : ℕ) → i < l.rebalance.at → slice_get l.rebalance.taken i ≡ Some q → Written z (word z r'.world) Before (at_infant i l) q
+      ((i q : ℕ) → i < l.rebalance.at → slice_get l.rebalance.taken i ≡ Some q → Written z (word z r.world) (Activity.Rebalance (Rebalance.Replace Replace.Start)) (at_infant i l) q) →
+      (i q : ℕ) → i < l.rebalance.at → slice_get l.rebalance.taken i ≡ Some q → Written z (word z r'.world) (Activity.Rebalance (Rebalance.Replace Replace.Start)) (at_infant i l) q
   rest_stays a h target inside own hand whole i q o f =
       let apart : q ≡ infant l → ⊥ = λ e. let c : i ≡ l.rebalance.at = own.apart i l.rebalance.at q f (infant_at l hand ∙ ap Some (sym e)) in absurd (omega (arith, o, c)) in
-      written_stays z r.world.rows (word z r.world) (word z r'.world) Before (at_infant i l) q (inside i q f) (λ n e b w. row_stays a h n q e w (target q apart)) (whole i q o f)
+      written_stays z r.world.rows (word z r.world) (word z r'.world) (Activity.Rebalance (Rebalance.Replace Replace.Start)) (at_infant i l) q (inside i q f) (λ n e b w. row_stays a h n q e w (target q apart)) (whole i q o f)
 
   -- it goes on with what it has written
   wrote_on : (a b : Activity) → Happens z r r' s choice l k a → ((q : ℕ) → (q ≡ infant l → ⊥) → IsTarget (target_of a) l q → ⊥) → ((q : ℕ) → ChangesFate a l q → ⊥) → ((i q : ℕ) → slice_get l.rebalance.taken i ≡ Some q → q < r.world.rows) →
@@ -119,7 +122,7 @@ module _ {z : Sizes} {r r' : Run} {s : ℕ} {choice : Choice} {l k : Local} wher
   -- A row that was free is taken.
 
   -- all taken rows are infants then, that one too
-  own_more : Happens z r r' s choice l k TakeRow → States (rows_in (word z r.world)) r.ledger.rows → word z r.world (name.State l.rebalance.sought) ≡ state_word state.Free → Own r.ledger.rows s l.rebalance.taken → Own r'.ledger.rows s (with_row l).rebalance.taken
+  own_more : Happens z r r' s choice l k (Activity.Rebalance (Rebalance.Seek Seek.Take)) → States (rows_in (word z r.world)) r.ledger.rows → word z r.world (name.State l.rebalance.sought) ≡ state_word state.Free → Own r.ledger.rows s l.rebalance.taken → Own r'.ledger.rows s (with_row l).rebalance.taken
   own_more h states free o = record { owned = λ i q f. owned i q (got_more l.rebalance.taken l.rebalance.sought i q f); apart = λ i j q f e. apart i j q (got_more l.rebalance.taken l.rebalance.sought i q f) (got_more l.rebalance.taken l.rebalance.sought j q e) }
     where
       -- the row that was free was none of them
@@ -127,7 +130,7 @@ module _ {z : Sizes} {r r' : Run} {s : ℕ} {choice : Choice} {l k : Local} wher
       fresh i q f e = infant_not_free (word z r.world) r.ledger.rows s q states (o.owned i q f) (ap (λ x. word z r.world (name.State x)) e ∙ free)
 
       owned : (i q : ℕ) → (slice_get l.rebalance.taken i ≡ Some q) ⊎ (i ≡ length l.rebalance.taken) × (q ≡ l.rebalance.sought) → IsInfantOf r'.ledger.rows s q
-      owned i q (inl f) = infant_stays r.ledger.rows r'.ledger.rows s q (fate_stays TakeRow h q (fresh i q f)) (o.owned i q f)
+      owned i q (inl f) = infant_stays r.ledger.rows r'.ledger.rows s q (fate_stays (Activity.Rebalance (Rebalance.Seek Seek.Take)) h q (fresh i q f)) (o.owned i q f)
       owned i q (inr f) =
           let e = fate_of_taken h free in
           subst (IsInfantOf r'.ledger.rows s) (sym f.1) (record { status = ap (λ (x : Fate). x.status) e; owner = ap (λ (x : Fate). x.owner) e })
@@ -141,11 +144,11 @@ module _ {z : Sizes} {r r' : Run} {s : ℕ} {choice : Choice} {l k : Local} wher
   -- A retired row is freed.
 
   -- the taken rows are infants still, since that one was dead
-  own_freed : Happens z r r' s choice l k Reclaim → States (rows_in (word z r.world)) r.ledger.rows → IsState (state.Retired l.rebalance.number) → Own r.ledger.rows s l.rebalance.taken → Own r'.ledger.rows s l.rebalance.taken
+  own_freed : Happens z r r' s choice l k (Activity.Rebalance (Rebalance.Seek Seek.Reclaim)) → States (rows_in (word z r.world)) r.ledger.rows → IsState (state.Retired l.rebalance.number) → Own r.ledger.rows s l.rebalance.taken → Own r'.ledger.rows s l.rebalance.taken
   own_freed h states small o = which (cases_eq (word z r.world (name.State l.rebalance.sought)) (state_word (state.Retired l.rebalance.number)))
     where
       which : (word z r.world (name.State l.rebalance.sought) ≡ state_word (state.Retired l.rebalance.number)) ⊎ (word z r.world (name.State l.rebalance.sought) ≡ state_word (state.Retired l.rebalance.number) → ⊥) → Own r'.ledger.rows s l.rebalance.taken
-      which (inl e) = own_stays Reclaim h (λ q x c. infant_not_retired (word z r.world) r.ledger.rows s q l.rebalance.number states small x (ap (λ y. word z r.world (name.State y)) c ∙ e)) o
+      which (inl e) = own_stays (Activity.Rebalance (Rebalance.Seek Seek.Reclaim)) h (λ q x c. infant_not_retired (word z r.world) r.ledger.rows s q l.rebalance.number states small x (ap (λ y. word z r.world (name.State y)) c ∙ e)) o
       which (inr d) = subst (λ g. Own g s l.rebalance.taken) (sym (ap (λ (g : ledger.Ledger). g.rows) (none_freed h d))) o
 
   -- Each event.
@@ -156,7 +159,7 @@ module _ {z : Sizes} {r r' : Run} {s : ℕ} {choice : Choice} {l k : Local} wher
 
   -- after an event of a seat that has written all, and loads
   linked : (a b : Activity) (m : Local) → Happens z r r' s choice l k a → Infants z (word z r'.world) r'.ledger.rows s a l → nursing_of a ≡ Links → nursing_of b ≡ Links → m.rebalance.taken ≡ l.rebalance.taken → m.rebalance.starts ≡ l.rebalance.starts →
-      ((i q : ℕ) → Written z (word z r'.world) Before (at_infant i l) q → Written z (word z r'.world) Before (at_infant i m) q) → Infants z (word z r'.world) r'.ledger.rows s b m
+      ((i q : ℕ) → Written z (word z r'.world) (Activity.Rebalance (Rebalance.Replace Replace.Start)) (at_infant i l) q → Written z (word z r'.world) (Activity.Rebalance (Rebalance.Replace Replace.Start)) (at_infant i m) q) → Infants z (word z r'.world) r'.ledger.rows s b m
   linked a b m h x e f t c like =
       let o = own_of z (word z r'.world) r'.ledger.rows s a l (λ i. subst (λ n. IsNursed n l i) (sym e) tt) x in
       let y = x.enough (subst HasAll (sym e) tt) in
@@ -165,29 +168,29 @@ module _ {z : Sizes} {r r' : Run} {s : ℕ} {choice : Choice} {l k : Local} wher
 
   -- the search along the rows begins, or the full row is the first
   first_on : (a : Activity) → Happens z r r' s choice l k a → Infants z (word z r'.world) r'.ledger.rows s a l → nursing_of a ≡ Links → {q : ℕ} (next : Local) → NextBefore q l next → Infants z (word z r'.world) r'.ledger.rows s next.activity next
-  first_on a h x e next (is_first o) = linked a Replace _ h x e refl refl refl (λ i q w. written_like z (word z r'.world) Before (at_infant i l) _ q refl refl refl w)
-  first_on a h x e next (is_behind o) = linked a BeforeLink _ h x e refl refl refl (λ i q w. written_like z (word z r'.world) Before (at_infant i l) _ q refl refl refl w)
+  first_on a h x e next (is_first o) = linked a (Activity.Rebalance (Rebalance.Replace Replace.Exchange)) _ h x e refl refl refl (λ i q w. written_like z (word z r'.world) (Activity.Rebalance (Rebalance.Replace Replace.Start)) (at_infant i l) _ q refl refl refl w)
+  first_on a h x e next (is_behind o) = linked a (Activity.Rebalance (Rebalance.Replace Replace.Next)) _ h x e refl refl refl (λ i q w. written_like z (word z r'.world) (Activity.Rebalance (Rebalance.Replace Replace.Start)) (at_infant i l) _ q refl refl refl w)
 
   -- whatever the seat chooses there, it loads
-  before_loaded : (c : Choice) → choice ≡ c → Happens z r r' s choice l k Before → (n : Name) → word z r'.world n ≡ word z r.world n
+  before_loaded : (c : Choice) → choice ≡ c → Happens z r r' s choice l k (Activity.Rebalance (Rebalance.Replace Replace.Start)) → (n : Name) → word z r'.world n ≡ word z r.world n
   before_loaded (Begin call) e h n = h.changed.loaded (ap (λ (d : Choice). (before_transition d l).operation.action) e) n
   before_loaded Go e h n = h.changed.loaded (ap (λ (d : Choice). (before_transition d l).operation.action) e) n
   before_loaded (Guess q) e h n = h.changed.loaded (ap (λ (d : Choice). (before_transition d l).operation.action) e) n
   before_loaded Stop e h n = h.changed.loaded (ap (λ (d : Choice). (before_transition d l).operation.action) e) n
 
   -- the same of a search for rows
-  seek_loaded : (c : Choice) → choice ≡ c → Happens z r r' s choice l k SeekFirst → (n : Name) → word z r'.world n ≡ word z r.world n
+  seek_loaded : (c : Choice) → choice ≡ c → Happens z r r' s choice l k (Activity.Rebalance (Rebalance.Seek Seek.First)) → (n : Name) → word z r'.world n ≡ word z r.world n
   seek_loaded (Begin call) e h n = h.changed.loaded (ap (λ (d : Choice). (seek_first_transition d l).operation.action) e) n
   seek_loaded Go e h n = h.changed.loaded (ap (λ (d : Choice). (seek_first_transition d l).operation.action) e) n
   seek_loaded (Guess q) e h n = h.changed.loaded (ap (λ (d : Choice). (seek_first_transition d l).operation.action) e) n
   seek_loaded Stop e h n = h.changed.loaded (ap (λ (d : Choice). (seek_first_transition d l).operation.action) e) n
 
   -- one row is given back, and the next one is at hand
-  one_back : Happens z r r' s choice l k GiveBack → l.rebalance.at + 1 < length l.rebalance.taken → Infants z (word z r.world) r.ledger.rows s GiveBack l → Infants z (word z r'.world) r'.ledger.rows s GiveBack (record (at_infant (l.rebalance.at + 1) l) { activity = GiveBack })
+  one_back : Happens z r r' s choice l k (Activity.Rebalance (Rebalance.Seek Seek.GiveBack)) → l.rebalance.at + 1 < length l.rebalance.taken → Infants z (word z r.world) r.ledger.rows s (Activity.Rebalance (Rebalance.Seek Seek.GiveBack)) l → Infants z (word z r'.world) r'.ledger.rows s (Activity.Rebalance (Rebalance.Seek Seek.GiveBack)) (record (at_infant (l.rebalance.at + 1) l) { activity = Activity.Rebalance (Rebalance.Seek Seek.GiveBack) })
   one_back h o x = record {
     owned = λ i q n f.
         let apart : q ≡ infant l → ⊥ = λ e. let c : i ≡ l.rebalance.at = x.apart i l.rebalance.at q (omega (arith, n)) (omega arith) f (infant_at l (x.hand tt) ∙ ap Some (sym e)) in absurd (omega (arith, n, c)) in
-        infant_stays r.ledger.rows r'.ledger.rows s q (fate_stays GiveBack h q apart) (x.owned i q (omega (arith, n)) f);
+        infant_stays r.ledger.rows r'.ledger.rows s q (fate_stays (Activity.Rebalance (Rebalance.Seek Seek.GiveBack)) h q apart) (x.owned i q (omega (arith, n)) f);
     apart = λ i j q n m f e. x.apart i j q (omega (arith, n)) (omega (arith, m)) f e;
     hand = λ n. o;
     enough = λ n. absurd n;
@@ -199,45 +202,45 @@ module _ {z : Sizes} {r r' : Run} {s : ℕ} {choice : Choice} {l : Local} where
   -- each event of the seat
   pub infants_own : (a : Activity) (k : Local) → Building z (word z r.world) choice l a k → Happens z r r' s choice l k a → States (rows_in (word z r.world)) r.ledger.rows → IsLink (unmarked_link (Some l.row)) × IsState (state.Retired l.rebalance.number) →
       ((i q : ℕ) → slice_get l.rebalance.taken i ≡ Some q → q < r.world.rows) → Infants z (word z r.world) r.ledger.rows s a l → Infants z (word z r'.world) r'.ledger.rows s k.activity k
-  infants_own a k (first_is_free q c e) h states small inside x = seeking z (word z r'.world) r'.ledger.rows s TakeRow _ refl (own_of z (word z r'.world) r'.ledger.rows s SeekFirst l (λ i. tt) (loaded SeekFirst h (seek_loaded choice refl h) (λ q c. c) inside x))
-  infants_own a k (first_is_taken q rows next c n y) h states small inside x = seek_on z (word z r'.world) r'.ledger.rows s rows _ next y (own_of z (word z r'.world) r'.ledger.rows s SeekFirst l (λ i. tt) (loaded SeekFirst h (seek_loaded choice refl h) (λ q c. c) inside x))
-  infants_own a k (sought_is_free e) h states small inside x = seeking z (word z r'.world) r'.ledger.rows s TakeRow _ refl (own_of z (word z r'.world) r'.ledger.rows s Seek l (λ i. tt) (loaded Seek h (h.changed.loaded refl) (λ q c. c) inside x))
-  infants_own a k (sought_is_taken rows next n y) h states small inside x = seek_on z (word z r'.world) r'.ledger.rows s rows _ next y (own_of z (word z r'.world) r'.ledger.rows s Seek l (λ i. tt) (loaded Seek h (h.changed.loaded refl) (λ q c. c) inside x))
-  infants_own a k (first_is_retired q m c e) h states small inside x = seeking z (word z r'.world) r'.ledger.rows s (SeekPass 0) _ refl (own_of z (word z r'.world) r'.ledger.rows s SeekFirst l (λ i. tt) (loaded SeekFirst h (seek_loaded choice refl h) (λ q c. c) inside x))
-  infants_own a k (sought_is_retired m e) h states small inside x = seeking z (word z r'.world) r'.ledger.rows s (SeekPass 0) _ refl (own_of z (word z r'.world) r'.ledger.rows s Seek l (λ i. tt) (loaded Seek h (h.changed.loaded refl) (λ q c. c) inside x))
-  infants_own a k (pass_is_old i epoch rows next e o y) h states small inside x = seek_on z (word z r'.world) r'.ledger.rows s rows _ next y (own_of z (word z r'.world) r'.ledger.rows s (SeekPass i) l (λ i. tt) (loaded (SeekPass i) h (h.changed.loaded refl) (λ q c. c) inside x))
-  infants_own a k (pass_is_young i next o y) h states small inside x = pass_on z (word z r'.world) r'.ledger.rows s _ l next y (own_of z (word z r'.world) r'.ledger.rows s (SeekPass i) l (λ i. tt) (loaded (SeekPass i) h (h.changed.loaded refl) (λ q c. c) inside x))
-  infants_own a k frees_row h states small inside x = seeking z (word z r'.world) r'.ledger.rows s TakeRow _ refl (own_freed h states small.1 (own_of z (word z r.world) r.ledger.rows s Reclaim l (λ i. tt) x))
-  infants_own a k (takes_row rows next e y) h states small inside x = taken_on z (word z r'.world) r'.ledger.rows s rows _ next y (own_more h states e (own_of z (word z r.world) r.ledger.rows s TakeRow l (λ i. tt) x)) (omega (arith, length-append l.rebalance.taken (l.rebalance.sought ∷ [])))
-  infants_own a k (loses_row rows next d y) h states small inside x = seek_on z (word z r'.world) r'.ledger.rows s rows _ next y (subst (λ g. Own g s l.rebalance.taken) (sym (ap (λ (g : ledger.Ledger). g.rows) (none_taken h d))) (own_of z (word z r.world) r.ledger.rows s TakeRow l (λ i. tt) x))
+  infants_own a k (first_is_free q c e) h states small inside x = seeking z (word z r'.world) r'.ledger.rows s (Activity.Rebalance (Rebalance.Seek Seek.Take)) _ refl (own_of z (word z r'.world) r'.ledger.rows s (Activity.Rebalance (Rebalance.Seek Seek.First)) l (λ i. tt) (loaded (Activity.Rebalance (Rebalance.Seek Seek.First)) h (seek_loaded choice refl h) (λ q c. c) inside x))
+  infants_own a k (first_is_taken q rows next c n y) h states small inside x = seek_on z (word z r'.world) r'.ledger.rows s rows _ next y (own_of z (word z r'.world) r'.ledger.rows s (Activity.Rebalance (Rebalance.Seek Seek.First)) l (λ i. tt) (loaded (Activity.Rebalance (Rebalance.Seek Seek.First)) h (seek_loaded choice refl h) (λ q c. c) inside x))
+  infants_own a k (sought_is_free e) h states small inside x = seeking z (word z r'.world) r'.ledger.rows s (Activity.Rebalance (Rebalance.Seek Seek.Take)) _ refl (own_of z (word z r'.world) r'.ledger.rows s (Activity.Rebalance (Rebalance.Seek Seek.Next)) l (λ i. tt) (loaded (Activity.Rebalance (Rebalance.Seek Seek.Next)) h (h.changed.loaded refl) (λ q c. c) inside x))
+  infants_own a k (sought_is_taken rows next n y) h states small inside x = seek_on z (word z r'.world) r'.ledger.rows s rows _ next y (own_of z (word z r'.world) r'.ledger.rows s (Activity.Rebalance (Rebalance.Seek Seek.Next)) l (λ i. tt) (loaded (Activity.Rebalance (Rebalance.Seek Seek.Next)) h (h.changed.loaded refl) (λ q c. c) inside x))
+  infants_own a k (first_is_retired q m c e) h states small inside x = seeking z (word z r'.world) r'.ledger.rows s (Activity.Rebalance (Rebalance.Seek (Seek.Pass 0))) _ refl (own_of z (word z r'.world) r'.ledger.rows s (Activity.Rebalance (Rebalance.Seek Seek.First)) l (λ i. tt) (loaded (Activity.Rebalance (Rebalance.Seek Seek.First)) h (seek_loaded choice refl h) (λ q c. c) inside x))
+  infants_own a k (sought_is_retired m e) h states small inside x = seeking z (word z r'.world) r'.ledger.rows s (Activity.Rebalance (Rebalance.Seek (Seek.Pass 0))) _ refl (own_of z (word z r'.world) r'.ledger.rows s (Activity.Rebalance (Rebalance.Seek Seek.Next)) l (λ i. tt) (loaded (Activity.Rebalance (Rebalance.Seek Seek.Next)) h (h.changed.loaded refl) (λ q c. c) inside x))
+  infants_own a k (pass_is_old i epoch rows next e o y) h states small inside x = seek_on z (word z r'.world) r'.ledger.rows s rows _ next y (own_of z (word z r'.world) r'.ledger.rows s (Activity.Rebalance (Rebalance.Seek (Seek.Pass i))) l (λ i. tt) (loaded (Activity.Rebalance (Rebalance.Seek (Seek.Pass i))) h (h.changed.loaded refl) (λ q c. c) inside x))
+  infants_own a k (pass_is_young i next o y) h states small inside x = pass_on z (word z r'.world) r'.ledger.rows s _ l next y (own_of z (word z r'.world) r'.ledger.rows s (Activity.Rebalance (Rebalance.Seek (Seek.Pass i))) l (λ i. tt) (loaded (Activity.Rebalance (Rebalance.Seek (Seek.Pass i))) h (h.changed.loaded refl) (λ q c. c) inside x))
+  infants_own a k frees_row h states small inside x = seeking z (word z r'.world) r'.ledger.rows s (Activity.Rebalance (Rebalance.Seek Seek.Take)) _ refl (own_freed h states small.1 (own_of z (word z r.world) r.ledger.rows s (Activity.Rebalance (Rebalance.Seek Seek.Reclaim)) l (λ i. tt) x))
+  infants_own a k (takes_row rows next e y) h states small inside x = taken_on z (word z r'.world) r'.ledger.rows s rows _ next y (own_more h states e (own_of z (word z r.world) r.ledger.rows s (Activity.Rebalance (Rebalance.Seek Seek.Take)) l (λ i. tt) x)) (omega (arith, length-append l.rebalance.taken (l.rebalance.sought ∷ [])))
+  infants_own a k (loses_row rows next d y) h states small inside x = seek_on z (word z r'.world) r'.ledger.rows s rows _ next y (subst (λ g. Own g s l.rebalance.taken) (sym (ap (λ (g : ledger.Ledger). g.rows) (none_taken h d))) (own_of z (word z r.world) r.ledger.rows s (Activity.Rebalance (Rebalance.Seek Seek.Take)) l (λ i. tt) x))
   infants_own a k (gives_one_back o) h states small inside x = one_back h o x
   infants_own a k (gives_last_back next o y) h states small inside x = given_on z (word z r'.world) r'.ledger.rows s l.rebalance.afterwards l next y
-  infants_own a k built.writes_count h states small inside x = at_writing z (word z r'.world) r'.ledger.rows s WriteMin l refl (wrote_on WriteCount WriteMin h (λ q d c. d c) (λ q c. c) inside (λ i w. writes_count h i w) (wrote_of z (word z r.world) r.ledger.rows s WriteCount l refl x))
-  infants_own a k built.writes_least h states small inside x = at_writing z (word z r'.world) r'.ledger.rows s WriteNext l refl (wrote_on WriteMin WriteNext h (λ q d c. d c) (λ q c. c) inside (λ i w. writes_least h i w) (wrote_of z (word z r.world) r.ledger.rows s WriteMin l refl x))
-  infants_own a k writes_link h states small inside x = at_writing z (word z r'.world) r'.ledger.rows s WriteFirst l refl (wrote_on WriteNext WriteFirst h (λ q d c. d c) (λ q c. c) inside (λ i w. writes_next h i w) (wrote_of z (word z r.world) r.ledger.rows s WriteNext l refl x))
-  infants_own a k (built.writes_first next y) h states small inside x = entry_on z (word z r'.world) r'.ledger.rows s 0 l next y (wrote_on WriteFirst (WritePend 0) h (λ q d c. d c) (λ q c. c) inside (λ i w. writes_first h i w) (wrote_of z (word z r.world) r.ledger.rows s WriteFirst l refl x))
-  infants_own a k (built.writes_entry j next y) h states small inside x = entry_on z (word z r'.world) r'.ledger.rows s (j + 1) l next y (wrote_on (WritePend j) (WritePend (j + 1)) h (λ q d c. d c) (λ q c. c) inside (λ i w. writes_entry j h i w) (wrote_of z (word z r.world) r.ledger.rows s (WritePend j) l refl x))
-  infants_own a k (built.writes_key j) h states small inside x = at_writing z (word z r'.world) r'.ledger.rows s (WriteValue j) l refl (wrote_on (WriteKey j) (WriteValue j) h (λ q d c. d c) (λ q c. c) inside (λ i w. writes_key j h i w) (wrote_of z (word z r.world) r.ledger.rows s (WriteKey j) l refl x))
-  infants_own a k (built.writes_value j) h states small inside x = at_writing z (word z r'.world) r'.ledger.rows s (WriteVersion j) l refl (wrote_on (WriteValue j) (WriteVersion j) h (λ q d c. d c) (λ q c. c) inside (λ i w. writes_value j h i w) (wrote_of z (word z r.world) r.ledger.rows s (WriteValue j) l refl x))
-  infants_own a k (built.writes_version j) h states small inside x = at_writing z (word z r'.world) r'.ledger.rows s (WriteAfter j) l refl (wrote_on (WriteVersion j) (WriteAfter j) h (λ q d c. d c) (λ q c. c) inside (λ i w. writes_version j h i w) (wrote_of z (word z r.world) r.ledger.rows s (WriteVersion j) l refl x))
-  infants_own a k (built.writes_after j next y) h states small inside x = cell_on z (word z r'.world) r'.ledger.rows s (j + 1) l next y (wrote_on (WriteAfter j) (WriteKey (j + 1)) h (λ q d c. d c) (λ q c. c) inside (λ i w. writes_after j h i w) (wrote_of z (word z r.world) r.ledger.rows s (WriteAfter j) l refl x))
-  infants_own a k (begins_before next y) h states small inside x = first_on Before h (loaded Before h (before_loaded choice refl h) (λ q c. c) inside x) refl next y
-  infants_own a k (guesses_before q c e) h states small inside x = linked Before BeforeGuess _ h (loaded Before h (before_loaded choice refl h) (λ q c. c) inside x) refl refl refl refl (λ i q w. written_like z (word z r'.world) Before (at_infant i l) _ q refl refl refl w)
-  infants_own a k guess_before_fails h states small inside x = linked Before BeforeHead _ h (loaded Before h (before_loaded choice refl h) (λ q c. c) inside x) refl refl refl refl (λ i q w. written_like z (word z r'.world) Before (at_infant i l) _ q refl refl refl w)
-  infants_own a k (before_serves o) h states small inside x = linked BeforeGuess BeforeLink _ h (loaded BeforeGuess h (h.changed.loaded refl) (λ q c. c) inside x) refl refl refl refl (λ i q w. written_like z (word z r'.world) Before (at_infant i l) _ q refl refl refl w)
-  infants_own a k (before_is_above o) h states small inside x = linked BeforeGuess BeforeHead _ h (loaded BeforeGuess h (h.changed.loaded refl) (λ q c. c) inside x) refl refl refl refl (λ i q w. written_like z (word z r'.world) Before (at_infant i l) _ q refl refl refl w)
-  infants_own a k (takes_head_before next y) h states small inside x = first_on BeforeHead h (loaded BeforeHead h (h.changed.loaded refl) (λ q c. c) inside x) refl next y
-  infants_own a k (leads_to_full e) h states small inside x = linked BeforeLink Replace _ h (loaded BeforeLink h (h.changed.loaded refl) (λ q c. c) inside x) refl refl refl refl (λ i q w. written_like z (word z r'.world) Before (at_infant i l) _ q refl refl refl w)
-  infants_own a k (leads_on_marked next e y) h states small inside x = back_on z (word z r'.world) r'.ledger.rows s _ l next y (own_of z (word z r'.world) r'.ledger.rows s BeforeLink l (λ i. tt) (loaded BeforeLink h (h.changed.loaded refl) (λ q c. c) inside x))
-  infants_own a k (leads_to_other q e d) h states small inside x = linked BeforeLink BeforeMin _ h (loaded BeforeLink h (h.changed.loaded refl) (λ q c. c) inside x) refl refl refl refl (λ i q w. written_like z (word z r'.world) Before (at_infant i l) _ q refl refl refl w)
-  infants_own a k (leads_nowhere next e y) h states small inside x = back_on z (word z r'.world) r'.ledger.rows s _ l next y (own_of z (word z r'.world) r'.ledger.rows s BeforeLink l (λ i. tt) (loaded BeforeLink h (h.changed.loaded refl) (λ q c. c) inside x))
-  infants_own a k (walks_before o) h states small inside x = linked BeforeMin BeforeLink _ h (loaded BeforeMin h (h.changed.loaded refl) (λ q c. c) inside x) refl refl refl refl (λ i q w. written_like z (word z r'.world) Before (at_infant i l) _ q refl refl refl w)
-  infants_own a k (walks_past next o y) h states small inside x = back_on z (word z r'.world) r'.ledger.rows s _ l next y (own_of z (word z r'.world) r'.ledger.rows s BeforeMin l (λ i. tt) (loaded BeforeMin h (h.changed.loaded refl) (λ q c. c) inside x))
-  infants_own a k (replaces_row e) h states small inside x = nowhere z (word z r'.world) r'.ledger.rows s Normalise _ refl
-  infants_own a k (is_marked_before next e y) h states small inside x = back_on z (word z r'.world) r'.ledger.rows s _ l next y (subst (λ g. Own g s l.rebalance.taken) (sym (ap (λ (g : ledger.Ledger). g.rows) (none_replaced h (marked_other l.row small.0 e)))) (own_of z (word z r.world) r.ledger.rows s Replace l (λ i. tt) x))
-  infants_own a k (is_replaced next d y) h states small inside x = back_on z (word z r'.world) r'.ledger.rows s _ l next y (subst (λ g. Own g s l.rebalance.taken) (sym (ap (λ (g : ledger.Ledger). g.rows) (none_replaced h (not_open _ l.row small.0 (λ q. d (ap row_linked q)))))) (own_of z (word z r.world) r.ledger.rows s Replace l (λ i. tt) x))
-  infants_own a k (makes_normal o) h states small inside x = nowhere z (word z r'.world) r'.ledger.rows s Normalise _ refl
-  infants_own a k (makes_last_normal o) h states small inside x = nowhere z (word z r'.world) r'.ledger.rows s Number _ refl
-  infants_own a k draws_number h states small inside x = nowhere z (word z r'.world) r'.ledger.rows s Retire _ refl
-  infants_own a k (retires_row nd) h states small inside x = nowhere z (word z r'.world) r'.ledger.rows s Again _ refl
-  infants_own a k (retires_and_leaves dn) h states small inside x = nowhere z (word z r'.world) r'.ledger.rows s (Leave _) _ refl
+  infants_own a k built.writes_count h states small inside x = at_writing z (word z r'.world) r'.ledger.rows s (Activity.Rebalance (Rebalance.Write Write.Least)) l refl (wrote_on (Activity.Rebalance (Rebalance.Write Write.Count)) (Activity.Rebalance (Rebalance.Write Write.Least)) h (λ q d c. d c) (λ q c. c) inside (λ i w. writes_count h i w) (wrote_of z (word z r.world) r.ledger.rows s (Activity.Rebalance (Rebalance.Write Write.Count)) l refl x))
+  infants_own a k built.writes_least h states small inside x = at_writing z (word z r'.world) r'.ledger.rows s (Activity.Rebalance (Rebalance.Write Write.Next)) l refl (wrote_on (Activity.Rebalance (Rebalance.Write Write.Least)) (Activity.Rebalance (Rebalance.Write Write.Next)) h (λ q d c. d c) (λ q c. c) inside (λ i w. writes_least h i w) (wrote_of z (word z r.world) r.ledger.rows s (Activity.Rebalance (Rebalance.Write Write.Least)) l refl x))
+  infants_own a k writes_link h states small inside x = at_writing z (word z r'.world) r'.ledger.rows s (Activity.Rebalance (Rebalance.Write Write.First)) l refl (wrote_on (Activity.Rebalance (Rebalance.Write Write.Next)) (Activity.Rebalance (Rebalance.Write Write.First)) h (λ q d c. d c) (λ q c. c) inside (λ i w. writes_next h i w) (wrote_of z (word z r.world) r.ledger.rows s (Activity.Rebalance (Rebalance.Write Write.Next)) l refl x))
+  infants_own a k (built.writes_first next y) h states small inside x = entry_on z (word z r'.world) r'.ledger.rows s 0 l next y (wrote_on (Activity.Rebalance (Rebalance.Write Write.First)) (Activity.Rebalance (Rebalance.Write (Write.Entry 0))) h (λ q d c. d c) (λ q c. c) inside (λ i w. writes_first h i w) (wrote_of z (word z r.world) r.ledger.rows s (Activity.Rebalance (Rebalance.Write Write.First)) l refl x))
+  infants_own a k (built.writes_entry j next y) h states small inside x = entry_on z (word z r'.world) r'.ledger.rows s (j + 1) l next y (wrote_on (Activity.Rebalance (Rebalance.Write (Write.Entry j))) (Activity.Rebalance (Rebalance.Write (Write.Entry (j + 1)))) h (λ q d c. d c) (λ q c. c) inside (λ i w. writes_entry j h i w) (wrote_of z (word z r.world) r.ledger.rows s (Activity.Rebalance (Rebalance.Write (Write.Entry j))) l refl x))
+  infants_own a k (built.writes_key j) h states small inside x = at_writing z (word z r'.world) r'.ledger.rows s (Activity.Rebalance (Rebalance.Write (Write.Value j))) l refl (wrote_on (Activity.Rebalance (Rebalance.Write (Write.Key j))) (Activity.Rebalance (Rebalance.Write (Write.Value j))) h (λ q d c. d c) (λ q c. c) inside (λ i w. writes_key j h i w) (wrote_of z (word z r.world) r.ledger.rows s (Activity.Rebalance (Rebalance.Write (Write.Key j))) l refl x))
+  infants_own a k (built.writes_value j) h states small inside x = at_writing z (word z r'.world) r'.ledger.rows s (Activity.Rebalance (Rebalance.Write (Write.Version j))) l refl (wrote_on (Activity.Rebalance (Rebalance.Write (Write.Value j))) (Activity.Rebalance (Rebalance.Write (Write.Version j))) h (λ q d c. d c) (λ q c. c) inside (λ i w. writes_value j h i w) (wrote_of z (word z r.world) r.ledger.rows s (Activity.Rebalance (Rebalance.Write (Write.Value j))) l refl x))
+  infants_own a k (built.writes_version j) h states small inside x = at_writing z (word z r'.world) r'.ledger.rows s (Activity.Rebalance (Rebalance.Write (Write.After j))) l refl (wrote_on (Activity.Rebalance (Rebalance.Write (Write.Version j))) (Activity.Rebalance (Rebalance.Write (Write.After j))) h (λ q d c. d c) (λ q c. c) inside (λ i w. writes_version j h i w) (wrote_of z (word z r.world) r.ledger.rows s (Activity.Rebalance (Rebalance.Write (Write.Version j))) l refl x))
+  infants_own a k (built.writes_after j next y) h states small inside x = cell_on z (word z r'.world) r'.ledger.rows s (j + 1) l next y (wrote_on (Activity.Rebalance (Rebalance.Write (Write.After j))) (Activity.Rebalance (Rebalance.Write (Write.Key (j + 1)))) h (λ q d c. d c) (λ q c. c) inside (λ i w. writes_after j h i w) (wrote_of z (word z r.world) r.ledger.rows s (Activity.Rebalance (Rebalance.Write (Write.After j))) l refl x))
+  infants_own a k (begins_before next y) h states small inside x = first_on (Activity.Rebalance (Rebalance.Replace Replace.Start)) h (loaded (Activity.Rebalance (Rebalance.Replace Replace.Start)) h (before_loaded choice refl h) (λ q c. c) inside x) refl next y
+  infants_own a k (guesses_before q c e) h states small inside x = linked (Activity.Rebalance (Rebalance.Replace Replace.Start)) (Activity.Rebalance (Rebalance.Replace Replace.GuessedLeast)) _ h (loaded (Activity.Rebalance (Rebalance.Replace Replace.Start)) h (before_loaded choice refl h) (λ q c. c) inside x) refl refl refl refl (λ i q w. written_like z (word z r'.world) (Activity.Rebalance (Rebalance.Replace Replace.Start)) (at_infant i l) _ q refl refl refl w)
+  infants_own a k guess_before_fails h states small inside x = linked (Activity.Rebalance (Rebalance.Replace Replace.Start)) (Activity.Rebalance (Rebalance.Replace Replace.First)) _ h (loaded (Activity.Rebalance (Rebalance.Replace Replace.Start)) h (before_loaded choice refl h) (λ q c. c) inside x) refl refl refl refl (λ i q w. written_like z (word z r'.world) (Activity.Rebalance (Rebalance.Replace Replace.Start)) (at_infant i l) _ q refl refl refl w)
+  infants_own a k (before_serves o) h states small inside x = linked (Activity.Rebalance (Rebalance.Replace Replace.GuessedLeast)) (Activity.Rebalance (Rebalance.Replace Replace.Next)) _ h (loaded (Activity.Rebalance (Rebalance.Replace Replace.GuessedLeast)) h (h.changed.loaded refl) (λ q c. c) inside x) refl refl refl refl (λ i q w. written_like z (word z r'.world) (Activity.Rebalance (Rebalance.Replace Replace.Start)) (at_infant i l) _ q refl refl refl w)
+  infants_own a k (before_is_above o) h states small inside x = linked (Activity.Rebalance (Rebalance.Replace Replace.GuessedLeast)) (Activity.Rebalance (Rebalance.Replace Replace.First)) _ h (loaded (Activity.Rebalance (Rebalance.Replace Replace.GuessedLeast)) h (h.changed.loaded refl) (λ q c. c) inside x) refl refl refl refl (λ i q w. written_like z (word z r'.world) (Activity.Rebalance (Rebalance.Replace Replace.Start)) (at_infant i l) _ q refl refl refl w)
+  infants_own a k (takes_head_before next y) h states small inside x = first_on (Activity.Rebalance (Rebalance.Replace Replace.First)) h (loaded (Activity.Rebalance (Rebalance.Replace Replace.First)) h (h.changed.loaded refl) (λ q c. c) inside x) refl next y
+  infants_own a k (leads_to_full e) h states small inside x = linked (Activity.Rebalance (Rebalance.Replace Replace.Next)) (Activity.Rebalance (Rebalance.Replace Replace.Exchange)) _ h (loaded (Activity.Rebalance (Rebalance.Replace Replace.Next)) h (h.changed.loaded refl) (λ q c. c) inside x) refl refl refl refl (λ i q w. written_like z (word z r'.world) (Activity.Rebalance (Rebalance.Replace Replace.Start)) (at_infant i l) _ q refl refl refl w)
+  infants_own a k (leads_on_marked next e y) h states small inside x = back_on z (word z r'.world) r'.ledger.rows s _ l next y (own_of z (word z r'.world) r'.ledger.rows s (Activity.Rebalance (Rebalance.Replace Replace.Next)) l (λ i. tt) (loaded (Activity.Rebalance (Rebalance.Replace Replace.Next)) h (h.changed.loaded refl) (λ q c. c) inside x))
+  infants_own a k (leads_to_other q e d) h states small inside x = linked (Activity.Rebalance (Rebalance.Replace Replace.Next)) (Activity.Rebalance (Rebalance.Replace Replace.NextLeast)) _ h (loaded (Activity.Rebalance (Rebalance.Replace Replace.Next)) h (h.changed.loaded refl) (λ q c. c) inside x) refl refl refl refl (λ i q w. written_like z (word z r'.world) (Activity.Rebalance (Rebalance.Replace Replace.Start)) (at_infant i l) _ q refl refl refl w)
+  infants_own a k (leads_nowhere next e y) h states small inside x = back_on z (word z r'.world) r'.ledger.rows s _ l next y (own_of z (word z r'.world) r'.ledger.rows s (Activity.Rebalance (Rebalance.Replace Replace.Next)) l (λ i. tt) (loaded (Activity.Rebalance (Rebalance.Replace Replace.Next)) h (h.changed.loaded refl) (λ q c. c) inside x))
+  infants_own a k (walks_before o) h states small inside x = linked (Activity.Rebalance (Rebalance.Replace Replace.NextLeast)) (Activity.Rebalance (Rebalance.Replace Replace.Next)) _ h (loaded (Activity.Rebalance (Rebalance.Replace Replace.NextLeast)) h (h.changed.loaded refl) (λ q c. c) inside x) refl refl refl refl (λ i q w. written_like z (word z r'.world) (Activity.Rebalance (Rebalance.Replace Replace.Start)) (at_infant i l) _ q refl refl refl w)
+  infants_own a k (walks_past next o y) h states small inside x = back_on z (word z r'.world) r'.ledger.rows s _ l next y (own_of z (word z r'.world) r'.ledger.rows s (Activity.Rebalance (Rebalance.Replace Replace.NextLeast)) l (λ i. tt) (loaded (Activity.Rebalance (Rebalance.Replace Replace.NextLeast)) h (h.changed.loaded refl) (λ q c. c) inside x))
+  infants_own a k (replaces_row e) h states small inside x = nowhere z (word z r'.world) r'.ledger.rows s (Activity.Rebalance (Rebalance.Replace Replace.Normalise)) _ refl
+  infants_own a k (is_marked_before next e y) h states small inside x = back_on z (word z r'.world) r'.ledger.rows s _ l next y (subst (λ g. Own g s l.rebalance.taken) (sym (ap (λ (g : ledger.Ledger). g.rows) (none_replaced h (marked_other l.row small.0 e)))) (own_of z (word z r.world) r.ledger.rows s (Activity.Rebalance (Rebalance.Replace Replace.Exchange)) l (λ i. tt) x))
+  infants_own a k (is_replaced next d y) h states small inside x = back_on z (word z r'.world) r'.ledger.rows s _ l next y (subst (λ g. Own g s l.rebalance.taken) (sym (ap (λ (g : ledger.Ledger). g.rows) (none_replaced h (not_open _ l.row small.0 (λ q. d (ap row_linked q)))))) (own_of z (word z r.world) r.ledger.rows s (Activity.Rebalance (Rebalance.Replace Replace.Exchange)) l (λ i. tt) x))
+  infants_own a k (makes_normal o) h states small inside x = nowhere z (word z r'.world) r'.ledger.rows s (Activity.Rebalance (Rebalance.Replace Replace.Normalise)) _ refl
+  infants_own a k (makes_last_normal o) h states small inside x = nowhere z (word z r'.world) r'.ledger.rows s (Activity.Rebalance (Rebalance.Replace Replace.Number)) _ refl
+  infants_own a k draws_number h states small inside x = nowhere z (word z r'.world) r'.ledger.rows s (Activity.Rebalance (Rebalance.Replace Replace.Retire)) _ refl
+  infants_own a k (retires_row nd) h states small inside x = nowhere z (word z r'.world) r'.ledger.rows s Activity.Retry _ refl
+  infants_own a k (retires_and_leaves dn) h states small inside x = nowhere z (word z r'.world) r'.ledger.rows s (Activity.Leave _) _ refl

@@ -13,7 +13,15 @@ use Rattle.kw_rows.specs.Ledger.{Ledger, Infant, Live, Dead}
 use Rattle.kw_rows.specs.Rows.{WasLinked}
 use Rattle.kw_rows.specs.States.{States}
 use Rattle.kw_world.specs.declared.activity.Activity.{Activity}
-use Rattle.kw_world.specs.declared.activity.Activity.TheVariants.{Reclaim, TakeRow, GiveBack, WriteCount, WriteMin, WriteNext, WriteFirst, WritePend, WriteKey, WriteValue, WriteVersion, WriteAfter, Replace, Normalise}
+use Rattle.kw_world.specs.declared.activity.rebalance.Rebalance.TheVariants as Rebalance
+use Rattle.kw_world.specs.declared.activity.rebalance.replace.Replace.TheVariants as Replace
+use Rattle.kw_world.specs.declared.activity.rebalance.seek.Seek.TheVariants as Seek
+use Rattle.kw_world.specs.declared.activity.rebalance.write.Write.TheVariants as Write
+use Rattle.kw_world.specs.declared.activity.look.Look.TheVariants as Look
+use Rattle.kw_world.specs.declared.activity.put.Put.TheVariants as Put
+use Rattle.kw_world.specs.declared.activity.insert.Insert.TheVariants as Insert
+use Rattle.kw_world.specs.declared.activity.rebalance.engage.Engage.TheVariants as Engage
+use Rattle.kw_world.specs.declared.activity.rebalance.freeze.Freeze.TheVariants as Freeze
 use Rattle.kw_world.specs.declared.event.Choice.{Choice}
 use Rattle.kw_world.specs.declared.local.Local.{Local}
 use Rattle.kw_world.specs.SeekTransitions.{infant}
@@ -50,48 +58,54 @@ pub no_state : {A : Type 0} (q : ℕ) (n : Name) → is_state n ≡ false → So
 no_state q n f e = let x : true ≡ false = ap is_state (same_Some (name.State q) n e) ∙ f in absurd (cc)
 
 module _ {z : Sizes} {r r' : Run} {s : ℕ} {choice : Choice} {l l' : Local} where
+  -- an event that is no new row's, no sought row's and not at the row before writes no infant
+  not_target : (a : Activity) → Happens z r r' s choice l l' a → (t q : ℕ) → IsInfantOf r.ledger.rows t q → (target_of a ≡ OwnRow → WasLinked r.ledger.rows l.row) → (c : Target) → target_of a ≡ c → (target_of a ≡ NewRow → ⊥) → (target_of a ≡ SoughtRow → ⊥) → (target_of a ≡ RowBefore → ⊥) → IsTarget c l q → ⊥
+  not_target a h t q y own NoRow k new sought left m = m
+  not_target a h t q y own OwnRow k new sought left m = linked_not_infant r.ledger.rows t q (subst (WasLinked r.ledger.rows) (sym m) (own k)) y
+  not_target a h t q y own NewRow k new sought left m = new k
+  not_target a h t q y own SoughtRow k new sought left m = sought k
+  not_target a h t q y own RowBefore k new sought left m = left k
+
   -- the word of an infant of the seat t is none that the event writes, where the row of the acting
   -- seat, and the one before it, were linked
   words_kept : (a : Activity) → Happens z r r' s choice l l' a → (t : ℕ) → t ≢ s → Infants z (word z r.world) r.ledger.rows s a l → (target_of a ≡ OwnRow → WasLinked r.ledger.rows l.row) → (target_of a ≡ RowBefore → (p : ℕ) → l.rebalance.before ≡ Some p → WasLinked r.ledger.rows p) →
       (q : ℕ) → IsInfantOf r.ledger.rows t q → (n : Name) → row_in n ≡ Some q → is_state n ≡ false → IsWithin z.seats z.cells r.world.rows n → word z r'.world n ≡ word z r.world n
-  words_kept TakeRow h t d x own before q y n e f i = unwritten TakeRow h n i (no_state l.rebalance.sought n f)
-  words_kept Reclaim h t d x own before q y n e f i = unwritten Reclaim h n i (no_state l.rebalance.sought n f)
-  words_kept GiveBack h t d x own before q y n e f i = unwritten GiveBack h n i (no_state (infant l) n f)
-  words_kept Normalise h t d x own before q y n e f i = unwritten Normalise h n i (no_state (infant l) n f)
-  words_kept Replace h t d x own before q y n e f i = row_stays Replace h n q e i (λ p. linked_not_infant r.ledger.rows t q (before refl q p) y)
-  words_kept WriteCount h t d x own before q y n e f i = row_stays WriteCount h n q e i (λ m. one_owner r.ledger.rows t s q d y (subst (IsInfantOf r.ledger.rows s) (sym m) (x.owned l.rebalance.at (infant l) tt (infant_at l (x.hand tt)))))
-  words_kept WriteMin h t d x own before q y n e f i = row_stays WriteMin h n q e i (λ m. one_owner r.ledger.rows t s q d y (subst (IsInfantOf r.ledger.rows s) (sym m) (x.owned l.rebalance.at (infant l) tt (infant_at l (x.hand tt)))))
-  words_kept WriteNext h t d x own before q y n e f i = row_stays WriteNext h n q e i (λ m. one_owner r.ledger.rows t s q d y (subst (IsInfantOf r.ledger.rows s) (sym m) (x.owned l.rebalance.at (infant l) tt (infant_at l (x.hand tt)))))
-  words_kept WriteFirst h t d x own before q y n e f i = row_stays WriteFirst h n q e i (λ m. one_owner r.ledger.rows t s q d y (subst (IsInfantOf r.ledger.rows s) (sym m) (x.owned l.rebalance.at (infant l) tt (infant_at l (x.hand tt)))))
-  words_kept (WritePend j) h t d x own before q y n e f i = row_stays (WritePend j) h n q e i (λ m. one_owner r.ledger.rows t s q d y (subst (IsInfantOf r.ledger.rows s) (sym m) (x.owned l.rebalance.at (infant l) tt (infant_at l (x.hand tt)))))
-  words_kept (WriteKey j) h t d x own before q y n e f i = row_stays (WriteKey j) h n q e i (λ m. one_owner r.ledger.rows t s q d y (subst (IsInfantOf r.ledger.rows s) (sym m) (x.owned l.rebalance.at (infant l) tt (infant_at l (x.hand tt)))))
-  words_kept (WriteValue j) h t d x own before q y n e f i = row_stays (WriteValue j) h n q e i (λ m. one_owner r.ledger.rows t s q d y (subst (IsInfantOf r.ledger.rows s) (sym m) (x.owned l.rebalance.at (infant l) tt (infant_at l (x.hand tt)))))
-  words_kept (WriteVersion j) h t d x own before q y n e f i = row_stays (WriteVersion j) h n q e i (λ m. one_owner r.ledger.rows t s q d y (subst (IsInfantOf r.ledger.rows s) (sym m) (x.owned l.rebalance.at (infant l) tt (infant_at l (x.hand tt)))))
-  words_kept (WriteAfter j) h t d x own before q y n e f i = row_stays (WriteAfter j) h n q e i (λ m. one_owner r.ledger.rows t s q d y (subst (IsInfantOf r.ledger.rows s) (sym m) (x.owned l.rebalance.at (infant l) tt (infant_at l (x.hand tt)))))
-  words_kept a h t d x own before q y n e f i = row_stays a h n q e i (by_target (target_of a) refl (λ c. cc) (λ c. cc) (λ c. cc))
-    where
-      by_target : (c : Target) → target_of a ≡ c → (target_of a ≡ NewRow → ⊥) → (target_of a ≡ SoughtRow → ⊥) → (target_of a ≡ RowBefore → ⊥) → IsTarget c l q → ⊥
-      by_target NoRow k new sought left m = m
-      by_target OwnRow k new sought left m = linked_not_infant r.ledger.rows t q (subst (WasLinked r.ledger.rows) (sym m) (own k)) y
-      by_target NewRow k new sought left m = new k
-      by_target SoughtRow k new sought left m = sought k
-      by_target RowBefore k new sought left m = left k
+  words_kept (Activity.Rebalance (Rebalance.Seek Seek.Take)) h t d x own before q y n e f i = unwritten (Activity.Rebalance (Rebalance.Seek Seek.Take)) h n i (no_state l.rebalance.sought n f)
+  words_kept (Activity.Rebalance (Rebalance.Seek Seek.Reclaim)) h t d x own before q y n e f i = unwritten (Activity.Rebalance (Rebalance.Seek Seek.Reclaim)) h n i (no_state l.rebalance.sought n f)
+  words_kept (Activity.Rebalance (Rebalance.Seek Seek.GiveBack)) h t d x own before q y n e f i = unwritten (Activity.Rebalance (Rebalance.Seek Seek.GiveBack)) h n i (no_state (infant l) n f)
+  words_kept (Activity.Rebalance (Rebalance.Replace Replace.Normalise)) h t d x own before q y n e f i = unwritten (Activity.Rebalance (Rebalance.Replace Replace.Normalise)) h n i (no_state (infant l) n f)
+  words_kept (Activity.Rebalance (Rebalance.Replace Replace.Exchange)) h t d x own before q y n e f i = row_stays (Activity.Rebalance (Rebalance.Replace Replace.Exchange)) h n q e i (λ p. linked_not_infant r.ledger.rows t q (before refl q p) y)
+  words_kept (Activity.Rebalance (Rebalance.Write Write.Count)) h t d x own before q y n e f i = row_stays (Activity.Rebalance (Rebalance.Write Write.Count)) h n q e i (λ m. one_owner r.ledger.rows t s q d y (subst (IsInfantOf r.ledger.rows s) (sym m) (x.owned l.rebalance.at (infant l) tt (infant_at l (x.hand tt)))))
+  words_kept (Activity.Rebalance (Rebalance.Write Write.Least)) h t d x own before q y n e f i = row_stays (Activity.Rebalance (Rebalance.Write Write.Least)) h n q e i (λ m. one_owner r.ledger.rows t s q d y (subst (IsInfantOf r.ledger.rows s) (sym m) (x.owned l.rebalance.at (infant l) tt (infant_at l (x.hand tt)))))
+  words_kept (Activity.Rebalance (Rebalance.Write Write.Next)) h t d x own before q y n e f i = row_stays (Activity.Rebalance (Rebalance.Write Write.Next)) h n q e i (λ m. one_owner r.ledger.rows t s q d y (subst (IsInfantOf r.ledger.rows s) (sym m) (x.owned l.rebalance.at (infant l) tt (infant_at l (x.hand tt)))))
+  words_kept (Activity.Rebalance (Rebalance.Write Write.First)) h t d x own before q y n e f i = row_stays (Activity.Rebalance (Rebalance.Write Write.First)) h n q e i (λ m. one_owner r.ledger.rows t s q d y (subst (IsInfantOf r.ledger.rows s) (sym m) (x.owned l.rebalance.at (infant l) tt (infant_at l (x.hand tt)))))
+  words_kept (Activity.Rebalance (Rebalance.Write (Write.Entry j))) h t d x own before q y n e f i = row_stays (Activity.Rebalance (Rebalance.Write (Write.Entry j))) h n q e i (λ m. one_owner r.ledger.rows t s q d y (subst (IsInfantOf r.ledger.rows s) (sym m) (x.owned l.rebalance.at (infant l) tt (infant_at l (x.hand tt)))))
+  words_kept (Activity.Rebalance (Rebalance.Write (Write.Key j))) h t d x own before q y n e f i = row_stays (Activity.Rebalance (Rebalance.Write (Write.Key j))) h n q e i (λ m. one_owner r.ledger.rows t s q d y (subst (IsInfantOf r.ledger.rows s) (sym m) (x.owned l.rebalance.at (infant l) tt (infant_at l (x.hand tt)))))
+  words_kept (Activity.Rebalance (Rebalance.Write (Write.Value j))) h t d x own before q y n e f i = row_stays (Activity.Rebalance (Rebalance.Write (Write.Value j))) h n q e i (λ m. one_owner r.ledger.rows t s q d y (subst (IsInfantOf r.ledger.rows s) (sym m) (x.owned l.rebalance.at (infant l) tt (infant_at l (x.hand tt)))))
+  words_kept (Activity.Rebalance (Rebalance.Write (Write.Version j))) h t d x own before q y n e f i = row_stays (Activity.Rebalance (Rebalance.Write (Write.Version j))) h n q e i (λ m. one_owner r.ledger.rows t s q d y (subst (IsInfantOf r.ledger.rows s) (sym m) (x.owned l.rebalance.at (infant l) tt (infant_at l (x.hand tt)))))
+  words_kept (Activity.Rebalance (Rebalance.Write (Write.After j))) h t d x own before q y n e f i = row_stays (Activity.Rebalance (Rebalance.Write (Write.After j))) h n q e i (λ m. one_owner r.ledger.rows t s q d y (subst (IsInfantOf r.ledger.rows s) (sym m) (x.owned l.rebalance.at (infant l) tt (infant_at l (x.hand tt)))))
+  words_kept (Activity.Look Look.Key) h t d x own before q y n e f i = row_stays (Activity.Look Look.Key) h n q e i (not_target (Activity.Look Look.Key) h t q y own (target_of (Activity.Look Look.Key)) refl (λ c. cc) (λ c. cc) (λ c. cc))
+  words_kept (Activity.Put Put.Count) h t d x own before q y n e f i = row_stays (Activity.Put Put.Count) h n q e i (not_target (Activity.Put Put.Count) h t q y own (target_of (Activity.Put Put.Count)) refl (λ c. cc) (λ c. cc) (λ c. cc))
+  words_kept (Activity.Insert Insert.Link) h t d x own before q y n e f i = row_stays (Activity.Insert Insert.Link) h n q e i (not_target (Activity.Insert Insert.Link) h t q y own (target_of (Activity.Insert Insert.Link)) refl (λ c. cc) (λ c. cc) (λ c. cc))
+  words_kept (Activity.Rebalance (Rebalance.Engage Engage.Clock)) h t d x own before q y n e f i = row_stays (Activity.Rebalance (Rebalance.Engage Engage.Clock)) h n q e i (not_target (Activity.Rebalance (Rebalance.Engage Engage.Clock)) h t q y own (target_of (Activity.Rebalance (Rebalance.Engage Engage.Clock))) refl (λ c. cc) (λ c. cc) (λ c. cc))
+  words_kept (Activity.Rebalance (Rebalance.Freeze Freeze.Count)) h t d x own before q y n e f i = row_stays (Activity.Rebalance (Rebalance.Freeze Freeze.Count)) h n q e i (not_target (Activity.Rebalance (Rebalance.Freeze Freeze.Count)) h t q y own (target_of (Activity.Rebalance (Rebalance.Freeze Freeze.Count))) refl (λ c. cc) (λ c. cc) (λ c. cc))
+  words_kept a h t d x own before q y n e f i = row_stays a h n q e i (not_target a h t q y own (target_of a) refl (λ c. cc) (λ c. cc) (λ c. cc))
 
   -- nor does its fate change
   fates_kept : (a : Activity) → Happens z r r' s choice l l' a → (t : ℕ) → t ≢ s → States (rows_in (word z r.world)) r.ledger.rows → IsState (state.Retired l.rebalance.number) → Infants z (word z r.world) r.ledger.rows s a l → (target_of a ≡ RowBefore → WasLinked r.ledger.rows l.row) →
       (q : ℕ) → IsInfantOf r.ledger.rows t q → r'.ledger.rows.fates q ≡ r.ledger.rows.fates q
-  fates_kept TakeRow h t d states small x full q y = which (cases_eq (word z r.world (name.State l.rebalance.sought)) (state_word state.Free))
+  fates_kept (Activity.Rebalance (Rebalance.Seek Seek.Take)) h t d states small x full q y = which (cases_eq (word z r.world (name.State l.rebalance.sought)) (state_word state.Free))
     where
       which : (word z r.world (name.State l.rebalance.sought) ≡ state_word state.Free) ⊎ (word z r.world (name.State l.rebalance.sought) ≡ state_word state.Free → ⊥) → r'.ledger.rows.fates q ≡ r.ledger.rows.fates q
-      which (inl e) = fate_stays TakeRow h q (λ c. infant_not_free (word z r.world) r.ledger.rows t q states y (ap (λ k. word z r.world (name.State k)) c ∙ e))
+      which (inl e) = fate_stays (Activity.Rebalance (Rebalance.Seek Seek.Take)) h q (λ c. infant_not_free (word z r.world) r.ledger.rows t q states y (ap (λ k. word z r.world (name.State k)) c ∙ e))
       which (inr n) = ap (λ (g : ledger.Ledger). g.rows.fates q) (none_taken h n)
-  fates_kept Reclaim h t d states small x full q y = which (cases_eq (word z r.world (name.State l.rebalance.sought)) (state_word (state.Retired l.rebalance.number)))
+  fates_kept (Activity.Rebalance (Rebalance.Seek Seek.Reclaim)) h t d states small x full q y = which (cases_eq (word z r.world (name.State l.rebalance.sought)) (state_word (state.Retired l.rebalance.number)))
     where
       which : (word z r.world (name.State l.rebalance.sought) ≡ state_word (state.Retired l.rebalance.number)) ⊎ (word z r.world (name.State l.rebalance.sought) ≡ state_word (state.Retired l.rebalance.number) → ⊥) → r'.ledger.rows.fates q ≡ r.ledger.rows.fates q
-      which (inl e) = fate_stays Reclaim h q (λ c. infant_not_retired (word z r.world) r.ledger.rows t q l.rebalance.number states small y (ap (λ k. word z r.world (name.State k)) c ∙ e))
+      which (inl e) = fate_stays (Activity.Rebalance (Rebalance.Seek Seek.Reclaim)) h q (λ c. infant_not_retired (word z r.world) r.ledger.rows t q l.rebalance.number states small y (ap (λ k. word z r.world (name.State k)) c ∙ e))
       which (inr n) = ap (λ (g : ledger.Ledger). g.rows.fates q) (none_freed h n)
-  fates_kept GiveBack h t d states small x full q y = fate_stays GiveBack h q (λ c. one_owner r.ledger.rows t s q d y (subst (IsInfantOf r.ledger.rows s) (sym c) (x.owned l.rebalance.at (infant l) (omega arith) (infant_at l (x.hand tt)))))
-  fates_kept Replace h t d states small x full q y = fate_stays Replace h q acts
+  fates_kept (Activity.Rebalance (Rebalance.Seek Seek.GiveBack)) h t d states small x full q y = fate_stays (Activity.Rebalance (Rebalance.Seek Seek.GiveBack)) h q (λ c. one_owner r.ledger.rows t s q d y (subst (IsInfantOf r.ledger.rows s) (sym c) (x.owned l.rebalance.at (infant l) (omega arith) (infant_at l (x.hand tt)))))
+  fates_kept (Activity.Rebalance (Rebalance.Replace Replace.Exchange)) h t d states small x full q y = fate_stays (Activity.Rebalance (Rebalance.Replace Replace.Exchange)) h q acts
     where
       acts : (q ≡ l.row) ⊎ IsIn l.rebalance.taken q → ⊥
       acts (inl c) = linked_not_infant r.ledger.rows t q (subst (WasLinked r.ledger.rows) (sym c) (full refl)) y

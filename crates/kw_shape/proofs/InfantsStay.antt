@@ -7,7 +7,9 @@ use Rattle.kw_words.specs.declared.layout.Name.TheVariants as name
 use Rattle.kw_words.specs.Layout.{IsWithin}
 use Rattle.kw_rows.specs.Ledger.{Fate, Ledger, IsDead}
 use Rattle.kw_world.specs.declared.activity.Activity.{Activity}
-use Rattle.kw_world.specs.declared.activity.Activity.TheVariants.{Before, BeforeLink, BeforeMin, GiveBack, Replace}
+use Rattle.kw_world.specs.declared.activity.rebalance.Rebalance.TheVariants as Rebalance
+use Rattle.kw_world.specs.declared.activity.rebalance.replace.Replace.TheVariants as Replace
+use Rattle.kw_world.specs.declared.activity.rebalance.seek.Seek.TheVariants as Seek
 use Rattle.kw_world.specs.declared.local.Local.{Local}
 use Rattle.kw_world.specs.SeekTransitions.{at_infant, infant}
 use Rattle.kw_world.specs.Sizes.{Sizes}
@@ -71,7 +73,7 @@ infants_stable z rows v v' g g' t a l y inside x = record {
   apart = x.apart;
   hand = x.hand;
   enough = x.enough;
-  whole = λ i q n e. written_stays z rows v v' Before (at_infant i l) q (inside i q e) (y.words q (x.owned i q (whole_nursed (nursing_of a) l i n) e) (inside i q e)) (x.whole i q n e);
+  whole = λ i q n e. written_stays z rows v v' (Activity.Rebalance (Rebalance.Replace Replace.Start)) (at_infant i l) q (inside i q e) (y.words q (x.owned i q (whole_nursed (nursing_of a) l i n) e) (inside i q e)) (x.whole i q n e);
   words = λ n.
       let e = infant_at l (x.hand (writing_hand (nursing_of a) n)) in
       let i = inside l.rebalance.at (infant l) e in
@@ -80,10 +82,10 @@ infants_stable z rows v v' g g' t a l y inside x = record {
 
 -- a row whose least key the seat knows is one that it may name
 pub measured : (a : Activity) (l : Local) → IsMeasured a l → IsSearching a l
-measured BeforeLink l m = tt
-measured BeforeMin l m = tt
-measured Replace l m = tt
-measured GiveBack l m = m
+measured (Activity.Rebalance (Rebalance.Replace Replace.Next)) l m = tt
+measured (Activity.Rebalance (Rebalance.Replace Replace.NextLeast)) l m = tt
+measured (Activity.Rebalance (Rebalance.Replace Replace.Exchange)) l m = tt
+measured (Activity.Rebalance (Rebalance.Seek Seek.GiveBack)) l m = m
 measured _ l m = absurd m
 
 -- the row before the full one stays: it and the full row may be named still, their least keys are

@@ -12,7 +12,9 @@ use Rattle.kw_words.specs.Plain.{cell_link_word, key_word, value_word, version_w
 use Rattle.kw_cells.specs.Cells.{value_in}
 use Rattle.kw_cells.specs.declared.cell.Cell.{Cell}
 use Rattle.kw_world.specs.declared.activity.Activity.{Activity}
-use Rattle.kw_world.specs.declared.activity.Activity.TheVariants.{WriteCount, WriteMin, WriteNext, WriteFirst, WritePend, WriteKey, WriteValue, WriteVersion, WriteAfter, Before}
+use Rattle.kw_world.specs.declared.activity.rebalance.Rebalance.TheVariants as Rebalance
+use Rattle.kw_world.specs.declared.activity.rebalance.replace.Replace.TheVariants as Replace
+use Rattle.kw_world.specs.declared.activity.rebalance.write.Write.TheVariants as Write
 use Rattle.kw_world.specs.declared.event.Choice.{Choice}
 use Rattle.kw_world.specs.declared.local.Local.{Local}
 use Rattle.kw_world.specs.SeekTransitions.{infant}
@@ -40,7 +42,7 @@ written_like z v a l k q e m n w = record {
 }
 
 -- all entries are written, and no cell
-pub entries_done : (z : Sizes) (v : Words) (l : Local) (q i : ℕ) → z.seats ≤ i → Written z v (WritePend i) l q → Written z v (WriteKey 0) l q
+pub entries_done : (z : Sizes) (v : Words) (l : Local) (q i : ℕ) → z.seats ≤ i → Written z v (Activity.Rebalance (Rebalance.Write (Write.Entry i))) l q → Written z v (Activity.Rebalance (Rebalance.Write (Write.Key 0))) l q
 entries_done z v l q i s w = record {
   count = w.count;
   least = w.least;
@@ -54,7 +56,7 @@ entries_done z v l q i s w = record {
 }
 
 -- a place beyond the row's cells has no key and no value
-pub cells_end : (z : Sizes) (v : Words) (l : Local) (q j : ℕ) → length (infant_cells l) ≤ j → Written z v (WriteKey j) l q → Written z v (WriteVersion j) l q
+pub cells_end : (z : Sizes) (v : Words) (l : Local) (q j : ℕ) → length (infant_cells l) ≤ j → Written z v (Activity.Rebalance (Rebalance.Write (Write.Key j))) l q → Written z v (Activity.Rebalance (Rebalance.Write (Write.Version j))) l q
 cells_end z v l q j s w = record {
   count = w.count;
   least = w.least;
@@ -68,7 +70,7 @@ cells_end z v l q j s w = record {
 }
 
 -- all cells are written
-pub cells_done : (z : Sizes) (v : Words) (l : Local) (q j : ℕ) → z.cells ≤ j → Written z v (WriteKey j) l q → Written z v Before l q
+pub cells_done : (z : Sizes) (v : Words) (l : Local) (q j : ℕ) → z.cells ≤ j → Written z v (Activity.Rebalance (Rebalance.Write (Write.Key j))) l q → Written z v (Activity.Rebalance (Rebalance.Replace Replace.Start)) l q
 cells_done z v l q j s w = record {
   count = w.count;
   least = w.least;
@@ -83,7 +85,7 @@ cells_done z v l q j s w = record {
 
 module _ {z : Sizes} {r r' : Run} {s : ℕ} {choice : Choice} {l l' : Local} where
   -- its count is written
-  pub writes_count : Happens z r r' s choice l l' WriteCount → infant l < r.world.rows → Written z (word z r.world) WriteCount l (infant l) → Written z (word z r'.world) WriteMin l (infant l)
+  pub writes_count : Happens z r r' s choice l l' (Activity.Rebalance (Rebalance.Write Write.Count)) → infant l < r.world.rows → Written z (word z r.world) (Activity.Rebalance (Rebalance.Write Write.Count)) l (infant l) → Written z (word z r'.world) (Activity.Rebalance (Rebalance.Write Write.Least)) l (infant l)
   writes_count h i w = record {
     count = λ x. count_written h;
     least = λ x. absurd x;
@@ -97,9 +99,9 @@ module _ {z : Sizes} {r r' : Run} {s : ℕ} {choice : Choice} {l l' : Local} whe
   }
 
   -- its least key
-  pub writes_least : Happens z r r' s choice l l' WriteMin → infant l < r.world.rows → Written z (word z r.world) WriteMin l (infant l) → Written z (word z r'.world) WriteNext l (infant l)
+  pub writes_least : Happens z r r' s choice l l' (Activity.Rebalance (Rebalance.Write Write.Least)) → infant l < r.world.rows → Written z (word z r.world) (Activity.Rebalance (Rebalance.Write Write.Least)) l (infant l) → Written z (word z r'.world) (Activity.Rebalance (Rebalance.Write Write.Next)) l (infant l)
   writes_least h i w = record {
-    count = λ x. count_stays WriteMin h (infant l) i (λ y. y) ∙ w.count tt;
+    count = λ x. count_stays (Activity.Rebalance (Rebalance.Write Write.Least)) h (infant l) i (λ y. y) ∙ w.count tt;
     least = λ x. least_written h;
     next = λ x. absurd x;
     first = λ x. absurd x;
@@ -111,10 +113,10 @@ module _ {z : Sizes} {r r' : Run} {s : ℕ} {choice : Choice} {l l' : Local} whe
   }
 
   -- its link
-  pub writes_next : Happens z r r' s choice l l' WriteNext → infant l < r.world.rows → Written z (word z r.world) WriteNext l (infant l) → Written z (word z r'.world) WriteFirst l (infant l)
+  pub writes_next : Happens z r r' s choice l l' (Activity.Rebalance (Rebalance.Write Write.Next)) → infant l < r.world.rows → Written z (word z r.world) (Activity.Rebalance (Rebalance.Write Write.Next)) l (infant l) → Written z (word z r'.world) (Activity.Rebalance (Rebalance.Write Write.First)) l (infant l)
   writes_next h i w = record {
-    count = λ x. count_stays WriteNext h (infant l) i (λ y. y) ∙ w.count tt;
-    least = λ x. least_stays WriteNext h (infant l) i (λ y. y) ∙ w.least tt;
+    count = λ x. count_stays (Activity.Rebalance (Rebalance.Write Write.Next)) h (infant l) i (λ y. y) ∙ w.count tt;
+    least = λ x. least_stays (Activity.Rebalance (Rebalance.Write Write.Next)) h (infant l) i (λ y. y) ∙ w.least tt;
     next = λ x. next_written h;
     first = λ x. absurd x;
     entries = λ k o x. absurd x;
@@ -125,11 +127,11 @@ module _ {z : Sizes} {r r' : Run} {s : ℕ} {choice : Choice} {l l' : Local} whe
   }
 
   -- the link to its first cell
-  pub writes_first : Happens z r r' s choice l l' WriteFirst → infant l < r.world.rows → Written z (word z r.world) WriteFirst l (infant l) → Written z (word z r'.world) (WritePend 0) l (infant l)
+  pub writes_first : Happens z r r' s choice l l' (Activity.Rebalance (Rebalance.Write Write.First)) → infant l < r.world.rows → Written z (word z r.world) (Activity.Rebalance (Rebalance.Write Write.First)) l (infant l) → Written z (word z r'.world) (Activity.Rebalance (Rebalance.Write (Write.Entry 0))) l (infant l)
   writes_first h i w = record {
-    count = λ x. count_stays WriteFirst h (infant l) i (λ y. y) ∙ w.count tt;
-    least = λ x. least_stays WriteFirst h (infant l) i (λ y. y) ∙ w.least tt;
-    next = λ x. next_stays WriteFirst h (infant l) i (λ y. y) ∙ w.next tt;
+    count = λ x. count_stays (Activity.Rebalance (Rebalance.Write Write.First)) h (infant l) i (λ y. y) ∙ w.count tt;
+    least = λ x. least_stays (Activity.Rebalance (Rebalance.Write Write.First)) h (infant l) i (λ y. y) ∙ w.least tt;
+    next = λ x. next_stays (Activity.Rebalance (Rebalance.Write Write.First)) h (infant l) i (λ y. y) ∙ w.next tt;
     first = λ x. first_written h;
     entries = λ k o x. absurd (omega (arith, x));
     keys = λ k o p x. absurd x;
@@ -139,12 +141,12 @@ module _ {z : Sizes} {r r' : Run} {s : ℕ} {choice : Choice} {l l' : Local} whe
   }
 
   -- one more entry
-  pub writes_entry : (j : ℕ) → Happens z r r' s choice l l' (WritePend j) → infant l < r.world.rows → Written z (word z r.world) (WritePend j) l (infant l) → Written z (word z r'.world) (WritePend (j + 1)) l (infant l)
+  pub writes_entry : (j : ℕ) → Happens z r r' s choice l l' (Activity.Rebalance (Rebalance.Write (Write.Entry j))) → infant l < r.world.rows → Written z (word z r.world) (Activity.Rebalance (Rebalance.Write (Write.Entry j))) l (infant l) → Written z (word z r'.world) (Activity.Rebalance (Rebalance.Write (Write.Entry (j + 1)))) l (infant l)
   writes_entry j h i w = record {
-    count = λ x. count_stays (WritePend j) h (infant l) i (λ y. y) ∙ w.count tt;
-    least = λ x. least_stays (WritePend j) h (infant l) i (λ y. y) ∙ w.least tt;
-    next = λ x. next_stays (WritePend j) h (infant l) i (λ y. y) ∙ w.next tt;
-    first = λ x. link_stays (WritePend j) h (infant l) None i tt (λ y. y) ∙ w.first tt;
+    count = λ x. count_stays (Activity.Rebalance (Rebalance.Write (Write.Entry j))) h (infant l) i (λ y. y) ∙ w.count tt;
+    least = λ x. least_stays (Activity.Rebalance (Rebalance.Write (Write.Entry j))) h (infant l) i (λ y. y) ∙ w.least tt;
+    next = λ x. next_stays (Activity.Rebalance (Rebalance.Write (Write.Entry j))) h (infant l) i (λ y. y) ∙ w.next tt;
+    first = λ x. link_stays (Activity.Rebalance (Rebalance.Write (Write.Entry j))) h (infant l) None i tt (λ y. y) ∙ w.first tt;
     entries = λ k o x. which k o x (cases_eq k j);
     keys = λ k o p x. absurd x;
     values = λ k o p x. absurd x;
@@ -154,76 +156,76 @@ module _ {z : Sizes} {r r' : Run} {s : ℕ} {choice : Choice} {l l' : Local} whe
     where
       which : (k : ℕ) → k < z.seats → k < j + 1 → (k ≡ j) ⊎ (k ≡ j → ⊥) → word z r'.world (name.Pend (infant l) k) ≡ pend_word pend.Idle
       which k o x (inl e) = subst (λ (y : ℕ). word z r'.world (name.Pend (infant l) y) ≡ pend_word pend.Idle) (sym e) (entry_written j h)
-      which k o x (inr d) = entry_stays (WritePend j) h (infant l) k i o (λ y. d y.1) ∙ w.entries k o (omega (arith, x, d))
+      which k o x (inr d) = entry_stays (Activity.Rebalance (Rebalance.Write (Write.Entry j))) h (infant l) k i o (λ y. d y.1) ∙ w.entries k o (omega (arith, x, d))
 
   -- the key of one more cell
-  pub writes_key : (j : ℕ) → Happens z r r' s choice l l' (WriteKey j) → infant l < r.world.rows → Written z (word z r.world) (WriteKey j) l (infant l) → Written z (word z r'.world) (WriteValue j) l (infant l)
+  pub writes_key : (j : ℕ) → Happens z r r' s choice l l' (Activity.Rebalance (Rebalance.Write (Write.Key j))) → infant l < r.world.rows → Written z (word z r.world) (Activity.Rebalance (Rebalance.Write (Write.Key j))) l (infant l) → Written z (word z r'.world) (Activity.Rebalance (Rebalance.Write (Write.Value j))) l (infant l)
   writes_key j h i w = record {
-    count = λ x. count_stays (WriteKey j) h (infant l) i (λ y. y) ∙ w.count tt;
-    least = λ x. least_stays (WriteKey j) h (infant l) i (λ y. y) ∙ w.least tt;
-    next = λ x. next_stays (WriteKey j) h (infant l) i (λ y. y) ∙ w.next tt;
-    first = λ x. link_stays (WriteKey j) h (infant l) None i tt (λ y. y) ∙ w.first tt;
-    entries = λ k o x. entry_stays (WriteKey j) h (infant l) k i o (λ y. y) ∙ w.entries k o tt;
+    count = λ x. count_stays (Activity.Rebalance (Rebalance.Write (Write.Key j))) h (infant l) i (λ y. y) ∙ w.count tt;
+    least = λ x. least_stays (Activity.Rebalance (Rebalance.Write (Write.Key j))) h (infant l) i (λ y. y) ∙ w.least tt;
+    next = λ x. next_stays (Activity.Rebalance (Rebalance.Write (Write.Key j))) h (infant l) i (λ y. y) ∙ w.next tt;
+    first = λ x. link_stays (Activity.Rebalance (Rebalance.Write (Write.Key j))) h (infant l) None i tt (λ y. y) ∙ w.first tt;
+    entries = λ k o x. entry_stays (Activity.Rebalance (Rebalance.Write (Write.Key j))) h (infant l) k i o (λ y. y) ∙ w.entries k o tt;
     keys = λ k o p x. which k o p x (cases_eq k j);
-    values = λ k o p x. value_stays (WriteKey j) h (infant l) k i o (λ y. y) ∙ w.values k o p x;
-    versions = λ k o x. version_stays (WriteKey j) h (infant l) k i o (λ y. y) ∙ w.versions k o x;
-    afters = λ k o x. link_stays (WriteKey j) h (infant l) (Some k) i o (λ y. y) ∙ w.afters k o x;
+    values = λ k o p x. value_stays (Activity.Rebalance (Rebalance.Write (Write.Key j))) h (infant l) k i o (λ y. y) ∙ w.values k o p x;
+    versions = λ k o x. version_stays (Activity.Rebalance (Rebalance.Write (Write.Key j))) h (infant l) k i o (λ y. y) ∙ w.versions k o x;
+    afters = λ k o x. link_stays (Activity.Rebalance (Rebalance.Write (Write.Key j))) h (infant l) (Some k) i o (λ y. y) ∙ w.afters k o x;
   }
     where
       which : (k : ℕ) → k < z.cells → k < length (infant_cells l) → k ≤ j → (k ≡ j) ⊎ (k ≡ j → ⊥) → word z r'.world (name.Key (infant l) k) ≡ key_word (key_in (slice_get (infant_cells l) k))
       which k o p x (inl e) = subst (λ (y : ℕ). word z r'.world (name.Key (infant l) y) ≡ key_word (key_in (slice_get (infant_cells l) y))) (sym e) (key_written j h)
-      which k o p x (inr d) = key_stays (WriteKey j) h (infant l) k i o (λ y. d y.1) ∙ w.keys k o p (omega (arith, x, d))
+      which k o p x (inr d) = key_stays (Activity.Rebalance (Rebalance.Write (Write.Key j))) h (infant l) k i o (λ y. d y.1) ∙ w.keys k o p (omega (arith, x, d))
 
   -- its value
-  pub writes_value : (j : ℕ) → Happens z r r' s choice l l' (WriteValue j) → infant l < r.world.rows → Written z (word z r.world) (WriteValue j) l (infant l) → Written z (word z r'.world) (WriteVersion j) l (infant l)
+  pub writes_value : (j : ℕ) → Happens z r r' s choice l l' (Activity.Rebalance (Rebalance.Write (Write.Value j))) → infant l < r.world.rows → Written z (word z r.world) (Activity.Rebalance (Rebalance.Write (Write.Value j))) l (infant l) → Written z (word z r'.world) (Activity.Rebalance (Rebalance.Write (Write.Version j))) l (infant l)
   writes_value j h i w = record {
-    count = λ x. count_stays (WriteValue j) h (infant l) i (λ y. y) ∙ w.count tt;
-    least = λ x. least_stays (WriteValue j) h (infant l) i (λ y. y) ∙ w.least tt;
-    next = λ x. next_stays (WriteValue j) h (infant l) i (λ y. y) ∙ w.next tt;
-    first = λ x. link_stays (WriteValue j) h (infant l) None i tt (λ y. y) ∙ w.first tt;
-    entries = λ k o x. entry_stays (WriteValue j) h (infant l) k i o (λ y. y) ∙ w.entries k o tt;
-    keys = λ k o p x. key_stays (WriteValue j) h (infant l) k i o (λ y. y) ∙ w.keys k o p x;
+    count = λ x. count_stays (Activity.Rebalance (Rebalance.Write (Write.Value j))) h (infant l) i (λ y. y) ∙ w.count tt;
+    least = λ x. least_stays (Activity.Rebalance (Rebalance.Write (Write.Value j))) h (infant l) i (λ y. y) ∙ w.least tt;
+    next = λ x. next_stays (Activity.Rebalance (Rebalance.Write (Write.Value j))) h (infant l) i (λ y. y) ∙ w.next tt;
+    first = λ x. link_stays (Activity.Rebalance (Rebalance.Write (Write.Value j))) h (infant l) None i tt (λ y. y) ∙ w.first tt;
+    entries = λ k o x. entry_stays (Activity.Rebalance (Rebalance.Write (Write.Value j))) h (infant l) k i o (λ y. y) ∙ w.entries k o tt;
+    keys = λ k o p x. key_stays (Activity.Rebalance (Rebalance.Write (Write.Value j))) h (infant l) k i o (λ y. y) ∙ w.keys k o p x;
     values = λ k o p x. which k o p x (cases_eq k j);
-    versions = λ k o x. version_stays (WriteValue j) h (infant l) k i o (λ y. y) ∙ w.versions k o x;
-    afters = λ k o x. link_stays (WriteValue j) h (infant l) (Some k) i o (λ y. y) ∙ w.afters k o x;
+    versions = λ k o x. version_stays (Activity.Rebalance (Rebalance.Write (Write.Value j))) h (infant l) k i o (λ y. y) ∙ w.versions k o x;
+    afters = λ k o x. link_stays (Activity.Rebalance (Rebalance.Write (Write.Value j))) h (infant l) (Some k) i o (λ y. y) ∙ w.afters k o x;
   }
     where
       which : (k : ℕ) → k < z.cells → k < length (infant_cells l) → k ≤ j → (k ≡ j) ⊎ (k ≡ j → ⊥) → word z r'.world (name.Value (infant l) k) ≡ value_word (value_in (slice_get (infant_cells l) k))
       which k o p x (inl e) = subst (λ (y : ℕ). word z r'.world (name.Value (infant l) y) ≡ value_word (value_in (slice_get (infant_cells l) y))) (sym e) (value_written j h)
-      which k o p x (inr d) = value_stays (WriteValue j) h (infant l) k i o (λ y. d y.1) ∙ w.values k o p (omega (arith, x, d))
+      which k o p x (inr d) = value_stays (Activity.Rebalance (Rebalance.Write (Write.Value j))) h (infant l) k i o (λ y. d y.1) ∙ w.values k o p (omega (arith, x, d))
 
   -- its version
-  pub writes_version : (j : ℕ) → Happens z r r' s choice l l' (WriteVersion j) → infant l < r.world.rows → Written z (word z r.world) (WriteVersion j) l (infant l) → Written z (word z r'.world) (WriteAfter j) l (infant l)
+  pub writes_version : (j : ℕ) → Happens z r r' s choice l l' (Activity.Rebalance (Rebalance.Write (Write.Version j))) → infant l < r.world.rows → Written z (word z r.world) (Activity.Rebalance (Rebalance.Write (Write.Version j))) l (infant l) → Written z (word z r'.world) (Activity.Rebalance (Rebalance.Write (Write.After j))) l (infant l)
   writes_version j h i w = record {
-    count = λ x. count_stays (WriteVersion j) h (infant l) i (λ y. y) ∙ w.count tt;
-    least = λ x. least_stays (WriteVersion j) h (infant l) i (λ y. y) ∙ w.least tt;
-    next = λ x. next_stays (WriteVersion j) h (infant l) i (λ y. y) ∙ w.next tt;
-    first = λ x. link_stays (WriteVersion j) h (infant l) None i tt (λ y. y) ∙ w.first tt;
-    entries = λ k o x. entry_stays (WriteVersion j) h (infant l) k i o (λ y. y) ∙ w.entries k o tt;
-    keys = λ k o p x. key_stays (WriteVersion j) h (infant l) k i o (λ y. y) ∙ w.keys k o p x;
-    values = λ k o p x. value_stays (WriteVersion j) h (infant l) k i o (λ y. y) ∙ w.values k o p x;
+    count = λ x. count_stays (Activity.Rebalance (Rebalance.Write (Write.Version j))) h (infant l) i (λ y. y) ∙ w.count tt;
+    least = λ x. least_stays (Activity.Rebalance (Rebalance.Write (Write.Version j))) h (infant l) i (λ y. y) ∙ w.least tt;
+    next = λ x. next_stays (Activity.Rebalance (Rebalance.Write (Write.Version j))) h (infant l) i (λ y. y) ∙ w.next tt;
+    first = λ x. link_stays (Activity.Rebalance (Rebalance.Write (Write.Version j))) h (infant l) None i tt (λ y. y) ∙ w.first tt;
+    entries = λ k o x. entry_stays (Activity.Rebalance (Rebalance.Write (Write.Version j))) h (infant l) k i o (λ y. y) ∙ w.entries k o tt;
+    keys = λ k o p x. key_stays (Activity.Rebalance (Rebalance.Write (Write.Version j))) h (infant l) k i o (λ y. y) ∙ w.keys k o p x;
+    values = λ k o p x. value_stays (Activity.Rebalance (Rebalance.Write (Write.Version j))) h (infant l) k i o (λ y. y) ∙ w.values k o p x;
     versions = λ k o x. which k o x (cases_eq k j);
-    afters = λ k o x. link_stays (WriteVersion j) h (infant l) (Some k) i o (λ y. y) ∙ w.afters k o x;
+    afters = λ k o x. link_stays (Activity.Rebalance (Rebalance.Write (Write.Version j))) h (infant l) (Some k) i o (λ y. y) ∙ w.afters k o x;
   }
     where
       which : (k : ℕ) → k < z.cells → k ≤ j → (k ≡ j) ⊎ (k ≡ j → ⊥) → word z r'.world (name.Version (infant l) k) ≡ version_word (version_in (slice_get (infant_cells l) k))
       which k o x (inl e) = subst (λ (y : ℕ). word z r'.world (name.Version (infant l) y) ≡ version_word (version_in (slice_get (infant_cells l) y))) (sym e) (version_written j h)
-      which k o x (inr d) = version_stays (WriteVersion j) h (infant l) k i o (λ y. d y.1) ∙ w.versions k o (omega (arith, x, d))
+      which k o x (inr d) = version_stays (Activity.Rebalance (Rebalance.Write (Write.Version j))) h (infant l) k i o (λ y. d y.1) ∙ w.versions k o (omega (arith, x, d))
 
   -- and the link behind it
-  pub writes_after : (j : ℕ) → Happens z r r' s choice l l' (WriteAfter j) → infant l < r.world.rows → Written z (word z r.world) (WriteAfter j) l (infant l) → Written z (word z r'.world) (WriteKey (j + 1)) l (infant l)
+  pub writes_after : (j : ℕ) → Happens z r r' s choice l l' (Activity.Rebalance (Rebalance.Write (Write.After j))) → infant l < r.world.rows → Written z (word z r.world) (Activity.Rebalance (Rebalance.Write (Write.After j))) l (infant l) → Written z (word z r'.world) (Activity.Rebalance (Rebalance.Write (Write.Key (j + 1)))) l (infant l)
   writes_after j h i w = record {
-    count = λ x. count_stays (WriteAfter j) h (infant l) i (λ y. y) ∙ w.count tt;
-    least = λ x. least_stays (WriteAfter j) h (infant l) i (λ y. y) ∙ w.least tt;
-    next = λ x. next_stays (WriteAfter j) h (infant l) i (λ y. y) ∙ w.next tt;
-    first = λ x. link_stays (WriteAfter j) h (infant l) None i tt (λ y. let c : None ≡ Some j = y.1 in cc) ∙ w.first tt;
-    entries = λ k o x. entry_stays (WriteAfter j) h (infant l) k i o (λ y. y) ∙ w.entries k o tt;
-    keys = λ k o p x. key_stays (WriteAfter j) h (infant l) k i o (λ y. y) ∙ w.keys k o p (omega (arith, x));
-    values = λ k o p x. value_stays (WriteAfter j) h (infant l) k i o (λ y. y) ∙ w.values k o p (omega (arith, x));
-    versions = λ k o x. version_stays (WriteAfter j) h (infant l) k i o (λ y. y) ∙ w.versions k o (omega (arith, x));
+    count = λ x. count_stays (Activity.Rebalance (Rebalance.Write (Write.After j))) h (infant l) i (λ y. y) ∙ w.count tt;
+    least = λ x. least_stays (Activity.Rebalance (Rebalance.Write (Write.After j))) h (infant l) i (λ y. y) ∙ w.least tt;
+    next = λ x. next_stays (Activity.Rebalance (Rebalance.Write (Write.After j))) h (infant l) i (λ y. y) ∙ w.next tt;
+    first = λ x. link_stays (Activity.Rebalance (Rebalance.Write (Write.After j))) h (infant l) None i tt (λ y. let c : None ≡ Some j = y.1 in cc) ∙ w.first tt;
+    entries = λ k o x. entry_stays (Activity.Rebalance (Rebalance.Write (Write.After j))) h (infant l) k i o (λ y. y) ∙ w.entries k o tt;
+    keys = λ k o p x. key_stays (Activity.Rebalance (Rebalance.Write (Write.After j))) h (infant l) k i o (λ y. y) ∙ w.keys k o p (omega (arith, x));
+    values = λ k o p x. value_stays (Activity.Rebalance (Rebalance.Write (Write.After j))) h (infant l) k i o (λ y. y) ∙ w.values k o p (omega (arith, x));
+    versions = λ k o x. version_stays (Activity.Rebalance (Rebalance.Write (Write.After j))) h (infant l) k i o (λ y. y) ∙ w.versions k o (omega (arith, x));
     afters = λ k o x. which k o x (cases_eq k j);
   }
     where
       which : (k : ℕ) → k < z.cells → k < j + 1 → (k ≡ j) ⊎ (k ≡ j → ⊥) → word z r'.world (name.After (infant l) k) ≡ cell_link_word (listed_after (infant_cells l) k)
       which k o x (inl e) = subst (λ (y : ℕ). word z r'.world (name.After (infant l) y) ≡ cell_link_word (listed_after (infant_cells l) y)) (sym e) (after_written j h)
-      which k o x (inr d) = link_stays (WriteAfter j) h (infant l) (Some k) i o (λ y. d (same_Some k j y.1)) ∙ w.afters k o (omega (arith, x, d))
+      which k o x (inr d) = link_stays (Activity.Rebalance (Rebalance.Write (Write.After j))) h (infant l) (Some k) i o (λ y. d (same_Some k j y.1)) ∙ w.afters k o (omega (arith, x, d))

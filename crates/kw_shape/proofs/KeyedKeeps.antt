@@ -17,7 +17,11 @@ use Rattle.kw_words.proofs.PlainWords.{cell_of_link_word-cell_link_word, key_of_
 use Rattle.kw_rows.specs.Rows as rows
 use Rattle.kw_rows.specs.Rows.{WasLinked}
 use Rattle.kw_world.specs.declared.activity.Activity.{Activity}
-use Rattle.kw_world.specs.declared.activity.Activity.TheVariants.{LookHelp, PutKey, Announce, Stamp, PutClear, InsSet, Insert, Freeze}
+use Rattle.kw_world.specs.declared.activity.rebalance.freeze.Freeze.TheVariants as Freeze
+use Rattle.kw_world.specs.declared.activity.insert.Insert.TheVariants as Insert
+use Rattle.kw_world.specs.declared.activity.look.Look.TheVariants as Look
+use Rattle.kw_world.specs.declared.activity.put.Put.TheVariants as Put
+use Rattle.kw_world.specs.declared.activity.rebalance.Rebalance.TheVariants as Rebalance
 use Rattle.kw_world.specs.declared.event.Choice.{Choice}
 use Rattle.kw_world.specs.declared.local.Local.{Local}
 use Rattle.kw_world.specs.Calls.{first_key}
@@ -102,19 +106,19 @@ module _ {z : Sizes} {r r' : Run} {s : ℕ} {choice : Choice} {l l' : Local} whe
   same_cell a h i q c k e x = subst (rows.HoldsKey (rows_in (word z r'.world)) r'.ledger.rows q) (sym (ap key_of_word e)) (key_keeps a h i q _ k x)
 
   -- the key that a put stores is one that its row may hold
-  pub put_key_holds : Happens z r r' s choice l l' PutKey → Shape z r → WasLinked r.ledger.rows l.row → HoldsCell (word z r'.world) r'.ledger.rows l.row l.cell
+  pub put_key_holds : Happens z r r' s choice l l' (Activity.Put Put.Key) → Shape z r → WasLinked r.ledger.rows l.row → HoldsCell (word z r'.world) r'.ledger.rows l.row l.cell
   put_key_holds h i k =
-      let e : key_of_word (word z r'.world (name.Key l.row l.cell)) ≡ first_key l.call = ap key_of_word h.changed.same ∙ key_of_word-key_word (first_key l.call) (first_in_range l.call (known_at PutKey h i).ranges.call) in
-      subst (rows.HoldsKey (rows_in (word z r'.world)) r'.ledger.rows l.row) (sym e) (key_keeps PutKey h i l.row (first_key l.call) k (holds_put z r s l PutKey i h.knows h.activity tt tt (λ x. x)))
+      let e : key_of_word (word z r'.world (name.Key l.row l.cell)) ≡ first_key l.call = ap key_of_word h.changed.same ∙ key_of_word-key_word (first_key l.call) (first_in_range l.call (known_at (Activity.Put Put.Key) h i).ranges.call) in
+      subst (rows.HoldsKey (rows_in (word z r'.world)) r'.ledger.rows l.row) (sym e) (key_keeps (Activity.Put Put.Key) h i l.row (first_key l.call) k (holds_put z r s l (Activity.Put Put.Key) i h.knows h.activity tt tt (λ x. x)))
 
   -- so each cell of a row that was linked has a key that the row may hold, where it had one
   pub cell_keeps : (a : Activity) → Happens z r r' s choice l l' a → Shape z r → (q c : ℕ) → WasLinked r.ledger.rows q → c < z.cells → HoldsCell (word z r.world) r.ledger.rows q c → HoldsCell (word z r'.world) r'.ledger.rows q c
-  cell_keeps PutKey h i q c k o x = which (cases_eq q l.row) (cases_eq c l.cell)
+  cell_keeps (Activity.Put Put.Key) h i q c k o x = which (cases_eq q l.row) (cases_eq c l.cell)
     where
       which : (q ≡ l.row) ⊎ (q ≡ l.row → ⊥) → (c ≡ l.cell) ⊎ (c ≡ l.cell → ⊥) → HoldsCell (word z r'.world) r'.ledger.rows q c
       which (inl e) (inl f) = subst (λ y. HoldsCell (word z r'.world) r'.ledger.rows y c) (sym e) (subst (HoldsCell (word z r'.world) r'.ledger.rows l.row) (sym f) (put_key_holds h i (subst (WasLinked r.ledger.rows) e k)))
-      which (inl e) (inr d) = same_cell PutKey h i q c k (linked_key PutKey h i q c k o (λ w f g. d g)) x
-      which (inr d) f = same_cell PutKey h i q c k (linked_key PutKey h i q c k o (λ w f g. d f)) x
+      which (inl e) (inr d) = same_cell (Activity.Put Put.Key) h i q c k (linked_key (Activity.Put Put.Key) h i q c k o (λ w f g. d g)) x
+      which (inr d) f = same_cell (Activity.Put Put.Key) h i q c k (linked_key (Activity.Put Put.Key) h i q c k o (λ w f g. d f)) x
   cell_keeps a h i q c k o x = same_cell a h i q c k (linked_key a h i q c k o (λ w f g. w)) x
 
   -- Entries.
@@ -136,10 +140,10 @@ module _ {z : Sizes} {r r' : Run} {s : ℕ} {choice : Choice} {l l' : Local} whe
 
   -- one that names a cell after the event names one whose key the row might hold before it
   named_before : (a : Activity) → Happens z r r' s choice l l' a → Shape z r → (q j c : ℕ) → WasLinked r.ledger.rows q → j < z.seats → IsOfCell c (pend_of (word z r'.world (name.Pend q j))) → HoldsCell (word z r.world) r.ledger.rows q c
-  named_before LookHelp h i q j c k o x = at_entry LookHelp h i q j c l.looked k o x there (λ d. linked_entry LookHelp h i q j k o (λ w e f. w) (λ w e f. d e f) (λ w e. w))
+  named_before (Activity.Look Look.Help) h i q j c k o x = at_entry (Activity.Look Look.Help) h i q j c l.looked k o x there (λ d. linked_entry (Activity.Look Look.Help) h i q j k o (λ w e f. w) (λ w e f. d e f) (λ w e. w))
     where
       known : IsKnown z r.world.rows l
-      known = known_at LookHelp h i
+      known = known_at (Activity.Look Look.Help) h i
 
       there : WasLinked r.ledger.rows l.row → IsOfCell c (pend_of (word z r'.world (name.Pend l.row l.looked))) → HoldsCell (word z r.world) r.ledger.rows l.row c
       there y p = which (entry_exchanged (IsOfCell c) (word z r.world (name.Pend l.row l.looked)) (word z r'.world (name.Pend l.row l.looked)) (pend.Pending l.met) (pend.Stamped l.met l.helping) (omega (arith, known.ranges.met, i.sane.sized.few_cells), known.ranges.helping.0, known.ranges.helping.1) (exchanged _ _ _ _ h.changed.same) (not_exchanged _ _ _ _ h.changed.same) p)
@@ -147,30 +151,30 @@ module _ {z : Sizes} {r r' : Run} {s : ℕ} {choice : Choice} {l l' : Local} whe
           which : IsOfCell c (pend_of (word z r.world (name.Pend l.row l.looked))) ⊎ (word z r.world (name.Pend l.row l.looked) ≡ pend_word (pend.Pending l.met)) × (l.met ≡ c) → HoldsCell (word z r.world) r.ledger.rows l.row c
           which (inl m) = (i.keyed l.row y).named l.looked c known.ranges.looked m
           which (inr m) = (i.keyed l.row y).named l.looked c known.ranges.looked (was_pending c _ l.met m.0 (omega (arith, known.ranges.met, i.sane.sized.few_cells)) m.1)
-  named_before Announce h i q j c k o x = at_entry Announce h i q j c s k o x there (λ d. linked_entry Announce h i q j k o (λ w e f. d e f) (λ w e f. w) (λ w e. w))
+  named_before (Activity.Put Put.Announce) h i q j c k o x = at_entry (Activity.Put Put.Announce) h i q j c s k o x there (λ d. linked_entry (Activity.Put Put.Announce) h i q j k o (λ w e f. d e f) (λ w e f. w) (λ w e. w))
     where
       there : WasLinked r.ledger.rows l.row → IsOfCell c (pend_of (word z r'.world (name.Pend l.row s))) → HoldsCell (word z r.world) r.ledger.rows l.row c
-      there y p = which (entry_exchanged (IsOfCell c) (word z r.world (name.Pend l.row s)) (word z r'.world (name.Pend l.row s)) pend.Idle (pend.Pending l.cell) (omega (arith, (known_at Announce h i).ranges.cell, i.sane.sized.few_cells)) (exchanged _ _ _ _ h.changed.same) (not_exchanged _ _ _ _ h.changed.same) p)
+      there y p = which (entry_exchanged (IsOfCell c) (word z r.world (name.Pend l.row s)) (word z r'.world (name.Pend l.row s)) pend.Idle (pend.Pending l.cell) (omega (arith, (known_at (Activity.Put Put.Announce) h i).ranges.cell, i.sane.sized.few_cells)) (exchanged _ _ _ _ h.changed.same) (not_exchanged _ _ _ _ h.changed.same) p)
         where
           which : IsOfCell c (pend_of (word z r.world (name.Pend l.row s))) ⊎ (word z r.world (name.Pend l.row s) ≡ pend_word pend.Idle) × (l.cell ≡ c) → HoldsCell (word z r.world) r.ledger.rows l.row c
           which (inl m) = (i.keyed l.row y).named s c h.seat m
-          which (inr m) = subst (HoldsCell (word z r.world) r.ledger.rows l.row) m.1 ((keys_at Announce h i).own tt)
-  named_before Stamp h i q j c k o x = at_entry Stamp h i q j c s k o x there (λ d. linked_entry Stamp h i q j k o (λ w e f. d e f) (λ w e f. w) (λ w e. w))
+          which (inr m) = subst (HoldsCell (word z r.world) r.ledger.rows l.row) m.1 ((keys_at (Activity.Put Put.Announce) h i).own tt)
+  named_before (Activity.Put Put.Stamp) h i q j c k o x = at_entry (Activity.Put Put.Stamp) h i q j c s k o x there (λ d. linked_entry (Activity.Put Put.Stamp) h i q j k o (λ w e f. d e f) (λ w e f. w) (λ w e. w))
     where
       known : IsKnown z r.world.rows l
-      known = known_at Stamp h i
+      known = known_at (Activity.Put Put.Stamp) h i
 
       there : WasLinked r.ledger.rows l.row → IsOfCell c (pend_of (word z r'.world (name.Pend l.row s))) → HoldsCell (word z r.world) r.ledger.rows l.row c
       there y p = which (entry_exchanged (IsOfCell c) (word z r.world (name.Pend l.row s)) (word z r'.world (name.Pend l.row s)) (pend.Pending l.cell) (pend.Stamped l.cell l.version) (omega (arith, known.ranges.cell, i.sane.sized.few_cells), known.ranges.version.0, known.ranges.version.1) (exchanged _ _ _ _ h.changed.same) (not_exchanged _ _ _ _ h.changed.same) p)
         where
           which : IsOfCell c (pend_of (word z r.world (name.Pend l.row s))) ⊎ (word z r.world (name.Pend l.row s) ≡ pend_word (pend.Pending l.cell)) × (l.cell ≡ c) → HoldsCell (word z r.world) r.ledger.rows l.row c
           which (inl m) = (i.keyed l.row y).named s c h.seat m
-          which (inr m) = subst (HoldsCell (word z r.world) r.ledger.rows l.row) m.1 ((keys_at Stamp h i).own tt)
-  named_before PutClear h i q j c k o x = at_entry PutClear h i q j c s k o x (λ y p. absurd (subst (IsOfCell c) (ap pend_of h.changed.same ∙ pend_of-pend_word pend.Idle tt) p)) (λ d. linked_entry PutClear h i q j k o (λ w e f. d e f) (λ w e f. w) (λ w e. w))
-  named_before (Freeze n) h i q j c k o x = at_entry (Freeze n) h i q j c n k o x there (λ d. linked_entry (Freeze n) h i q j k o (λ w e f. w) (λ w e f. w) (λ f e. d e f))
+          which (inr m) = subst (HoldsCell (word z r.world) r.ledger.rows l.row) m.1 ((keys_at (Activity.Put Put.Stamp) h i).own tt)
+  named_before (Activity.Put Put.Clear) h i q j c k o x = at_entry (Activity.Put Put.Clear) h i q j c s k o x (λ y p. absurd (subst (IsOfCell c) (ap pend_of h.changed.same ∙ pend_of-pend_word pend.Idle tt) p)) (λ d. linked_entry (Activity.Put Put.Clear) h i q j k o (λ w e f. d e f) (λ w e f. w) (λ w e. w))
+  named_before (Activity.Rebalance (Rebalance.Freeze (Freeze.Entry n))) h i q j c k o x = at_entry (Activity.Rebalance (Rebalance.Freeze (Freeze.Entry n))) h i q j c n k o x there (λ d. linked_entry (Activity.Rebalance (Rebalance.Freeze (Freeze.Entry n))) h i q j k o (λ w e f. w) (λ w e f. w) (λ f e. d e f))
     where
       inside : n < z.seats
-      inside = subst (IsActivity z) h.activity (known_at (Freeze n) h i).ranges.activity
+      inside = subst (IsActivity z) h.activity (known_at (Activity.Rebalance (Rebalance.Freeze (Freeze.Entry n))) h i).ranges.activity
 
       there : WasLinked r.ledger.rows l.row → IsOfCell c (pend_of (word z r'.world (name.Pend l.row n))) → HoldsCell (word z r.world) r.ledger.rows l.row c
       there y p = which (entry_exchanged (IsOfCell c) (word z r.world (name.Pend l.row n)) (word z r'.world (name.Pend l.row n)) l.rebalance.entry pend.Frozen tt (exchanged _ _ _ _ h.changed.same) (not_exchanged _ _ _ _ h.changed.same) p)
@@ -199,12 +203,12 @@ module _ {z : Sizes} {r r' : Run} {s : ℕ} {choice : Choice} {l l' : Local} whe
 
   -- one that leads to a cell after the event leads to one whose key the row might hold before it
   linked_to_before : (a : Activity) → Happens z r r' s choice l l' a → Shape z r → (q : ℕ) (at : Option ℕ) (c : ℕ) → WasLinked r.ledger.rows q → IsLinkOf z at → cell_of_link_word (word z r'.world (link_name q at)) ≡ Some c → HoldsCell (word z r.world) r.ledger.rows q c
-  linked_to_before InsSet h i q at c k o x =
-      at_link InsSet h i q at (Some l.cell) c k o x (λ y p. (keys_at InsSet h i).held tt c (stored_leads z l.held c (cell_fits l.held (known_at InsSet h i).ranges.held i.sane.sized.few_cells) (sym (ap cell_of_link_word h.changed.same) ∙ p))) (λ d. linked_link InsSet h i q at k (of_link z at o) (λ w e f. d e f) (λ w e f. w))
-  linked_to_before Insert h i q at c k o x = at_link Insert h i q at l.link c k o x there (λ d. linked_link Insert h i q at k (of_link z at o) (λ w e f. w) (λ w e f. d e f))
+  linked_to_before (Activity.Insert Insert.Set) h i q at c k o x =
+      at_link (Activity.Insert Insert.Set) h i q at (Some l.cell) c k o x (λ y p. (keys_at (Activity.Insert Insert.Set) h i).held tt c (stored_leads z l.held c (cell_fits l.held (known_at (Activity.Insert Insert.Set) h i).ranges.held i.sane.sized.few_cells) (sym (ap cell_of_link_word h.changed.same) ∙ p))) (λ d. linked_link (Activity.Insert Insert.Set) h i q at k (of_link z at o) (λ w e f. d e f) (λ w e f. w))
+  linked_to_before (Activity.Insert Insert.Exchange) h i q at c k o x = at_link (Activity.Insert Insert.Exchange) h i q at l.link c k o x there (λ d. linked_link (Activity.Insert Insert.Exchange) h i q at k (of_link z at o) (λ w e f. w) (λ w e f. d e f))
     where
       known : IsKnown z r.world.rows l
-      known = known_at Insert h i
+      known = known_at (Activity.Insert Insert.Exchange) h i
 
       there : WasLinked r.ledger.rows l.row → cell_of_link_word (word z r'.world (link_name l.row l.link)) ≡ Some c → HoldsCell (word z r.world) r.ledger.rows l.row c
       there y p = which (cases_eq (word z r.world (link_name l.row l.link)) (cell_link_word l.held))
@@ -212,7 +216,7 @@ module _ {z : Sizes} {r r' : Run} {s : ℕ} {choice : Choice} {l l' : Local} whe
           which : (word z r.world (link_name l.row l.link) ≡ cell_link_word l.held) ⊎ (word z r.world (link_name l.row l.link) ≡ cell_link_word l.held → ⊥) → HoldsCell (word z r.world) r.ledger.rows l.row c
           which (inl e) =
               let f : Some l.cell ≡ Some c = stored_leads z (Some l.cell) c (omega (arith, known.ranges.cell, i.sane.sized.few_cells)) (sym (ap cell_of_link_word (exchanged _ _ _ _ h.changed.same e)) ∙ p) in
-              subst (HoldsCell (word z r.world) r.ledger.rows l.row) (same_Some l.cell c f) ((keys_at Insert h i).own tt)
+              subst (HoldsCell (word z r.world) r.ledger.rows l.row) (same_Some l.cell c f) ((keys_at (Activity.Insert Insert.Exchange) h i).own tt)
           which (inr d) = (i.keyed l.row y).linked l.link c (link_of_row z l.link known.ranges.link) (sym (ap cell_of_link_word (not_exchanged _ _ _ _ h.changed.same d)) ∙ p)
   linked_to_before a h i q at c k o x = (i.keyed q k).linked at c o (ap cell_of_link_word (sym (linked_link a h i q at k (of_link z at o) (λ w e f. w) (λ w e f. w))) ∙ x)
 

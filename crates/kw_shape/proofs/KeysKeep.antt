@@ -15,7 +15,12 @@ use Rattle.kw_rows.specs.Ledger.{Ledger}
 use Rattle.kw_rows.specs.Rows as rows
 use Rattle.kw_rows.specs.Rows.{WasLinked}
 use Rattle.kw_world.specs.declared.activity.Activity.{Activity}
-use Rattle.kw_world.specs.declared.activity.Activity.TheVariants.{PutCount, PutKey, PutValue, InsFrom, InsKey, FreezeLook, TakeFrom, TakeKey, TakeVersion, Again, Leave, BalClock}
+use Rattle.kw_world.specs.declared.activity.rebalance.engage.Engage.TheVariants as Engage
+use Rattle.kw_world.specs.declared.activity.rebalance.freeze.Freeze.TheVariants as Freeze
+use Rattle.kw_world.specs.declared.activity.rebalance.gather.Gather.TheVariants as Gather
+use Rattle.kw_world.specs.declared.activity.insert.Insert.TheVariants as Insert
+use Rattle.kw_world.specs.declared.activity.put.Put.TheVariants as Put
+use Rattle.kw_world.specs.declared.activity.rebalance.Rebalance.TheVariants as Rebalance
 use Rattle.kw_world.specs.declared.answer.Answer.TheVariants.{Done, NoRows}
 use Rattle.kw_world.specs.declared.event.Choice.{Choice}
 use Rattle.kw_world.specs.declared.local.Local.{Local}
@@ -44,56 +49,56 @@ use Rattle.kw_shape.specs.Shape.{Shape}
 -- A seat that knows of keys is at a row that was linked.
 
 own_row : (a : Activity) → HasOwnKey a → IsAtRow a
-own_row PutCount x = tt
+own_row (Activity.Put Put.Count) x = tt
 own_row _ x = assumption (x, tt)
 
 held_row : (a : Activity) → HasHeldCell a → IsAtRow a
-held_row PutCount x = tt
+held_row (Activity.Put Put.Count) x = tt
 held_row _ x = assumption (x, tt)
 
 marks_row : (a : Activity) → HasMarks a → IsBalancing a
-marks_row BalClock x = tt
+marks_row (Activity.Rebalance (Rebalance.Engage Engage.Clock)) x = tt
 marks_row _ x = assumption (x, tt)
 
 met_row : (a : Activity) → HasMetCell a → IsBalancing a
-met_row BalClock x = tt
+met_row (Activity.Rebalance (Rebalance.Engage Engage.Clock)) x = tt
 met_row _ x = assumption (x, tt)
 
 key_row : (a : Activity) → HasKeyInHand a → IsBalancing a
-key_row BalClock x = tt
+key_row (Activity.Rebalance (Rebalance.Engage Engage.Clock)) x = tt
 key_row _ x = assumption (x, tt)
 
 gathered_row : (a : Activity) → HasGathered a → IsBalancing a
-gathered_row BalClock x = tt
+gathered_row (Activity.Rebalance (Rebalance.Engage Engage.Clock)) x = tt
 gathered_row _ x = assumption (x, tt)
 
 -- What follows where new rows are built: the cells that were gathered alone are known.
 
 after_own : (a : Activity) → IsAfterBuilding a → HasOwnKey a → ⊥
-after_own PutValue b x = b
+after_own (Activity.Put Put.Value) b x = b
 after_own _ b x = assumption (b, x)
 
 after_held : (a : Activity) → IsAfterBuilding a → HasHeldCell a → ⊥
-after_held InsKey b x = b
+after_held (Activity.Insert Insert.Key) b x = b
 after_held _ b x = assumption (b, x)
 
 after_marks : (a : Activity) → IsAfterBuilding a → HasMarks a → ⊥
-after_marks TakeFrom b x = b
+after_marks (Activity.Rebalance (Rebalance.Gather Gather.Link)) b x = b
 after_marks _ b x = assumption (b, x)
 
 after_met : (a : Activity) → IsAfterBuilding a → HasMetCell a → ⊥
-after_met TakeKey b x = b
+after_met (Activity.Rebalance (Rebalance.Gather Gather.Key)) b x = b
 after_met _ b x = assumption (b, x)
 
 after_key : (a : Activity) → IsAfterBuilding a → HasKeyInHand a → ⊥
-after_key TakeVersion b x = b
+after_key (Activity.Rebalance (Rebalance.Gather Gather.Version)) b x = b
 after_key _ b x = assumption (b, x)
 
 after_gathered : (a : Activity) → IsAfterBuilding a → HasGathered a → IsBuilding a
-after_gathered Again b x = absurd x
-after_gathered BalClock b x = absurd x
-after_gathered (Leave NoRows) b x = absurd x
-after_gathered (Leave Done) b x = absurd x
+after_gathered Activity.Retry b x = absurd x
+after_gathered (Activity.Rebalance (Rebalance.Engage Engage.Clock)) b x = absurd x
+after_gathered (Activity.Leave NoRows) b x = absurd x
+after_gathered (Activity.Leave Done) b x = absurd x
 after_gathered _ b x = b
 
 -- and they were known before
@@ -190,7 +195,7 @@ module _ {z : Sizes} {r r' : Run} {s : ℕ} {choice : Choice} {l : Local} where
   led : {l' : Local} (a : Activity) → Happens z r r' s choice l l' a → Shape z r → Keyed z (word z r'.world) r'.ledger.rows l.row → (c : ℕ) → ((n : Name) → word z r'.world n ≡ word z r.world n) → cell_of_link_word (word z r.world (link_name l.row l.link)) ≡ Some c → HoldsCell (word z r'.world) r'.ledger.rows l.row c
   led a h i y c same e = y.linked l.link c (link_of_row z l.link (i.sane.locals s l h.knows).ranges.link) (ap cell_of_link_word (same (link_name l.row l.link)) ∙ e)
 
-  named : {l' : Local} (j : ℕ) → Happens z r r' s choice l l' (FreezeLook j) → Shape z r → Keyed z (word z r'.world) r'.ledger.rows l.row → (c version : ℕ) → ((n : Name) → word z r'.world n ≡ word z r.world n) → pend_of (word z r.world (name.Pend l.row j)) ≡ Some (pend.Stamped c version) → HoldsCell (word z r'.world) r'.ledger.rows l.row c
+  named : {l' : Local} (j : ℕ) → Happens z r r' s choice l l' (Activity.Rebalance (Rebalance.Freeze (Freeze.Look j))) → Shape z r → Keyed z (word z r'.world) r'.ledger.rows l.row → (c version : ℕ) → ((n : Name) → word z r'.world n ≡ word z r.world n) → pend_of (word z r.world (name.Pend l.row j)) ≡ Some (pend.Stamped c version) → HoldsCell (word z r'.world) r'.ledger.rows l.row c
   named j h i y c version same e = y.named j c (subst (IsActivity z) h.activity (i.sane.locals s l h.knows).ranges.activity) (subst (IsOfCell c) (sym (ap pend_of (same (name.Pend l.row j)) ∙ e)) refl)
 
   -- by the arrow that the acting seat takes
@@ -201,7 +206,7 @@ module _ {z : Sizes} {r r' : Run} {s : ℕ} {choice : Choice} {l : Local} where
   keys_by a l' (stamps e) h i k y = record { own = λ x. k.own tt; held = λ x. absurd x; marks = λ x. absurd x; met = λ x. absurd x; key = λ x. absurd x; gathered = λ x. absurd x }
   keys_by a l' (is_stamped version e) h i k y = record { own = λ x. k.own tt; held = λ x. absurd x; marks = λ x. absurd x; met = λ x. absurd x; key = λ x. absurd x; gathered = λ x. absurd x }
   keys_by a l' stores_version h i k y = record { own = λ x. k.own tt; held = λ x. absurd x; marks = λ x. absurd x; met = λ x. absurd x; key = λ x. absurd x; gathered = λ x. absurd x }
-  keys_by a l' (meets_cell c e) h i k y = record { own = λ x. k.own tt; held = λ x d f. subst (HoldsCell (word z r'.world) r'.ledger.rows l.row) (same_Some c d f) (led InsFrom h i (y (inl tt)) c (h.changed.loaded refl) e); marks = λ x. absurd x; met = λ x. absurd x; key = λ x. absurd x; gathered = λ x. absurd x }
+  keys_by a l' (meets_cell c e) h i k y = record { own = λ x. k.own tt; held = λ x d f. subst (HoldsCell (word z r'.world) r'.ledger.rows l.row) (same_Some c d f) (led (Activity.Insert Insert.Link) h i (y (inl tt)) c (h.changed.loaded refl) e); marks = λ x. absurd x; met = λ x. absurd x; key = λ x. absurd x; gathered = λ x. absurd x }
   keys_by a l' (meets_none e) h i k y = record { own = λ x. k.own tt; held = λ x d f. let g : None ≡ Some d = f in absurd (cc); marks = λ x. absurd x; met = λ x. absurd x; key = λ x. absurd x; gathered = λ x. absurd x }
   keys_by a l' (key_before e) h i k y = record { own = λ x. k.own tt; held = λ x. absurd x; marks = λ x. absurd x; met = λ x. absurd x; key = λ x. absurd x; gathered = λ x. absurd x }
   keys_by a l' (key_same e) h i k y = record { own = λ x. k.own tt; held = λ x. k.held tt; marks = λ x. absurd x; met = λ x. absurd x; key = λ x. absurd x; gathered = λ x. absurd x }
@@ -232,7 +237,7 @@ module _ {z : Sizes} {r r' : Run} {s : ℕ} {choice : Choice} {l : Local} where
   keys_by a l' (settles_last j e o) h i k y = record { own = λ x. absurd x; held = λ x. absurd x; marks = λ x. k.marks tt; met = λ x. absurd x; key = λ x. absurd x; gathered = λ x. All-nil (λ c. rows.HoldsKey (rows_in (word z r'.world)) r'.ledger.rows l.row c.key) }
   keys_by a l' (finds_drawn_last j version e o) h i k y = record { own = λ x. absurd x; held = λ x. absurd x; marks = λ x. k.marks tt; met = λ x. absurd x; key = λ x. absurd x; gathered = λ x. All-nil (λ c. rows.HoldsKey (rows_in (word z r'.world)) r'.ledger.rows l.row c.key) }
   keys_by a l' (finds_no_scan_last j e o) h i k y = record { own = λ x. absurd x; held = λ x. absurd x; marks = λ x. k.marks tt; met = λ x. absurd x; key = λ x. absurd x; gathered = λ x. All-nil (λ c. rows.HoldsKey (rows_in (word z r'.world)) r'.ledger.rows l.row c.key) }
-  keys_by a l' (take_leads c e) h i k y = record { own = λ x. absurd x; held = λ x. absurd x; marks = λ x. unmarked_in_range (λ m. HoldsCell (word z r'.world) r'.ledger.rows l.row m.cell) c l.rebalance.marks (k.marks tt); met = λ x. led TakeFrom h i (y (inr tt)) c (h.changed.loaded refl) e; key = λ x. absurd x; gathered = λ x. k.gathered tt }
+  keys_by a l' (take_leads c e) h i k y = record { own = λ x. absurd x; held = λ x. absurd x; marks = λ x. unmarked_in_range (λ m. HoldsCell (word z r'.world) r'.ledger.rows l.row m.cell) c l.rebalance.marks (k.marks tt); met = λ x. led (Activity.Rebalance (Rebalance.Gather Gather.Link)) h i (y (inr tt)) c (h.changed.loaded refl) e; key = λ x. absurd x; gathered = λ x. k.gathered tt }
   keys_by a l' (takes_left m e n) h i k y = record { own = λ x. absurd x; held = λ x. absurd x; marks = λ x. unmarked_in_range (λ m. HoldsCell (word z r'.world) r'.ledger.rows l.row m.cell) m.cell l.rebalance.marks (k.marks tt); met = λ x. least_holds (λ m. HoldsCell (word z r'.world) r'.ledger.rows l.row m.cell) l.rebalance.marks m n (k.marks tt); key = λ x. absurd x; gathered = λ x. k.gathered tt }
   keys_by a l' (takes_no_more e n) h i k y = record { own = λ x. absurd x; held = λ x. absurd x; marks = λ x. absurd x; met = λ x. absurd x; key = λ x. absurd x; gathered = λ x. k.gathered tt }
   keys_by a l' takes_key h i k y = record { own = λ x. absurd x; held = λ x. absurd x; marks = λ x. k.marks tt; met = λ x. absurd x; key = λ x. subst (λ w. rows.HoldsKey (rows_in (word z r'.world)) r'.ledger.rows l.row (key_of_word w)) (h.changed.loaded refl (name.Key l.row l.place)) (k.met tt); gathered = λ x. k.gathered tt }
@@ -252,7 +257,7 @@ module _ {z : Sizes} {r r' : Run} {s : ℕ} {choice : Choice} {l : Local} where
   keys_by a l' (key_above next e n) h i k y = cell_keys (word z r'.world) r'.ledger.rows _ next n
   keys_by a l' (rest_passed next e n) h i k y = cell_keys (word z r'.world) r'.ledger.rows _ next n
   keys_by a l' (gathers_rest next n) h i k y = cell_keys (word z r'.world) r'.ledger.rows _ next n
-  keys_by a l' stores_key h i k y = record { own = λ x. put_key_holds h i (row_linked i s l PutKey h.knows h.activity tt); held = λ x. absurd x; marks = λ x. absurd x; met = λ x. absurd x; key = λ x. absurd x; gathered = λ x. absurd x }
+  keys_by a l' stores_key h i k y = record { own = λ x. put_key_holds h i (row_linked i s l (Activity.Put Put.Key) h.knows h.activity tt); held = λ x. absurd x; marks = λ x. absurd x; met = λ x. absurd x; key = λ x. absurd x; gathered = λ x. absurd x }
   keys_by a l' _ h i k y = record { own = λ x. absurd x; held = λ x. absurd x; marks = λ x. absurd x; met = λ x. absurd x; key = λ x. absurd x; gathered = λ x. absurd x }
 
   -- what the acting seat knows

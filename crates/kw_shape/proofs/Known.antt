@@ -1,5 +1,5 @@
 -- What the acting seat knows stays in range, by the arrow that it takes.
-use Rattle.std.proofs.Common.{ℕ, zero, suc, ◌≡◌, ◌⊎◌, inl, inr, ◌+◌, ◌-◌, ◌<◌, ◌≤◌, ◌==◌, nat_le, nat_lt, Bool, true, false, if◌then◌else◌, Option, Some, None, List, [], ◌∷◌, ◌++◌, arith, refl, subst, All, length, length-append}
+use Rattle.std.proofs.Common.{ℕ, ◌≡◌, ◌⊎◌, inl, inr, ◌+◌, ◌-◌, ◌<◌, ◌≤◌, ◌==◌, nat_le, nat_lt, Bool, true, false, if◌then◌else◌, Option, Some, None, List, [], ◌∷◌, ◌++◌, arith, refl, subst, All, length, length-append}
 use Rattle.std.proofs.lemmas.List.Elements.{All-nil, All-append, All-cons}
 use Rattle.std.proofs.Math.Nat.{min-le_right}
 use Rattle.kw_words.specs.declared.layout.Name.{Name}
@@ -27,12 +27,19 @@ use Rattle.kw_world.specs.declared.answer.Answer.{Answer}
 use Rattle.kw_world.specs.declared.answer.Answer.TheVariants.{Done, NoRows, Spent}
 use Rattle.kw_world.specs.EngageTransitions.{followed_by, to_rebalance}
 use Rattle.kw_world.specs.declared.activity.Activity.{Activity}
-use Rattle.kw_world.specs.declared.activity.Activity.TheVariants.{Idle, Walk, WalkMin, Look, PutCount, Again, BalClock, FreezeLook, Freeze, ScanLook, HelpDraw, HelpSettle, TakeFrom, TakeRestKey, SeekFirst}
+use Rattle.kw_world.specs.declared.activity.rebalance.engage.Engage.TheVariants as Engage
+use Rattle.kw_world.specs.declared.activity.rebalance.freeze.Freeze.TheVariants as Freeze
+use Rattle.kw_world.specs.declared.activity.rebalance.gather.Gather.TheVariants as Gather
+use Rattle.kw_world.specs.declared.activity.look.Look.TheVariants as Look
+use Rattle.kw_world.specs.declared.activity.put.Put.TheVariants as Put
+use Rattle.kw_world.specs.declared.activity.rebalance.Rebalance.TheVariants as Rebalance
+use Rattle.kw_world.specs.declared.activity.rebalance.seek.Seek.TheVariants as Seek
+use Rattle.kw_world.specs.declared.activity.walk.Walk.TheVariants as Walk
 use Rattle.kw_world.specs.declared.limits.TheConstants.{NEWEST}
 use Rattle.kw_world.specs.declared.local.Local.{Local}
 use Rattle.kw_world.specs.declared.marks.Mark.{Mark}
 use Rattle.kw_world.specs.declared.rebalance.Afterwards.{Afterwards}
-use Rattle.kw_world.specs.declared.rebalance.Rebalance.{Rebalance}
+use Rattle.kw_world.specs.declared.rebalance.Rebalancing.{Rebalancing}
 use Rattle.kw_world.specs.SeekTransitions.{moved_left, seeking, with_row}
 use Rattle.kw_world.specs.declared.event.Choice.{Choice}
 use Rattle.kw_world.specs.declared.event.Choice.TheVariants.{Guess}
@@ -75,7 +82,7 @@ pub record IsKnownAt (z : Sizes) (rows : ℕ) (a : Activity) (l : Local) : Type 
 
 -- the lists of a rebalance have room at every activity outside of one
 abbrev pub HasLists : Sizes → Local → Type 0
-HasLists z l = HasRebalanceRoom z Idle l.rebalance
+HasLists z l = HasRebalanceRoom z Activity.Idle l.rebalance
 
 -- a seat at its activity
 pub at_activity : (z : Sizes) (rows : ℕ) (a : Activity) (l : Local) → l.activity ≡ a → IsKnown z rows l → IsKnownAt z rows a l
@@ -89,12 +96,12 @@ at_activity z rows a l e k = record {
 }
 
 -- the lists of a rebalance have room at every activity
-lists_of : (z : Sizes) (a : Activity) (b : Rebalance) → IsActivity z a → HasRebalanceRoom z a b → HasRebalanceRoom z Idle b
-lists_of z (FreezeLook i) b y k = record { marks = omega (arith, k.marks, y); needed = k.needed; gathered = k.gathered; taken = λ t. absurd t }
-lists_of z (Freeze i) b y k = record { marks = omega (arith, k.marks, y); needed = k.needed; gathered = k.gathered; taken = λ t. absurd t }
-lists_of z (ScanLook i) b y k = record { marks = k.marks; needed = omega (arith, k.needed, y); gathered = k.gathered; taken = λ t. absurd t }
-lists_of z (HelpDraw i) b y k = record { marks = k.marks; needed = omega (arith, k.needed, y); gathered = k.gathered; taken = λ t. absurd t }
-lists_of z (HelpSettle i) b y k = record { marks = k.marks; needed = omega (arith, k.needed, y); gathered = k.gathered; taken = λ t. absurd t }
+lists_of : (z : Sizes) (a : Activity) (b : Rebalancing) → IsActivity z a → HasRebalanceRoom z a b → HasRebalanceRoom z Activity.Idle b
+lists_of z (Activity.Rebalance (Rebalance.Freeze (Freeze.Look i))) b y k = record { marks = omega (arith, k.marks, y); needed = k.needed; gathered = k.gathered; taken = λ t. absurd t }
+lists_of z (Activity.Rebalance (Rebalance.Freeze (Freeze.Entry i))) b y k = record { marks = omega (arith, k.marks, y); needed = k.needed; gathered = k.gathered; taken = λ t. absurd t }
+lists_of z (Activity.Rebalance (Rebalance.Freeze (Freeze.Scan i))) b y k = record { marks = k.marks; needed = omega (arith, k.needed, y); gathered = k.gathered; taken = λ t. absurd t }
+lists_of z (Activity.Rebalance (Rebalance.Freeze (Freeze.Draw i))) b y k = record { marks = k.marks; needed = omega (arith, k.needed, y); gathered = k.gathered; taken = λ t. absurd t }
+lists_of z (Activity.Rebalance (Rebalance.Freeze (Freeze.Settle i))) b y k = record { marks = k.marks; needed = omega (arith, k.needed, y); gathered = k.gathered; taken = λ t. absurd t }
 lists_of z _ b y k = record { marks = k.marks; needed = k.needed; gathered = k.gathered; taken = λ t. absurd t }
 
 -- the entry that was met
@@ -138,16 +145,16 @@ module _ (z : Sizes) (rows : ℕ) (l : Local) (sized : IsSized z.seats z.cells r
       assumption (k, b, y, m, g, n, o, zero_key)
 
   -- a seat that takes the first row
-  takes_first : (v : Words) → row_or_first (row_linked (link_of (v name.Head))) < rows → IsLocal z l → IsLocalBelow rows l → length l.remembered ≤ z.seats → length l.gathered ≤ z.cells → HasLists z l → IsKnown z rows (record l { row = row_or_first (row_linked (link_of (v name.Head))); lower = 0; activity = Walk })
+  takes_first : (v : Words) → row_or_first (row_linked (link_of (v name.Head))) < rows → IsLocal z l → IsLocalBelow rows l → length l.remembered ≤ z.seats → length l.gathered ≤ z.cells → HasLists z l → IsKnown z rows (record l { row = row_or_first (row_linked (link_of (v name.Head))); lower = 0; activity = Activity.Walk Walk.Next })
   takes_first v o k b m g n =
       let zero_key : 0 < KEY_END = omega arith in
       assumption (k, b, m, g, n, o, zero_key)
 
   -- a put that comes to the last row, and a reader that comes there or to a row before another
-  puts_last : IsKnownAt z rows Walk l → IsKnown z rows (record l { next = None; upper = 0; activity = PutCount })
+  puts_last : IsKnownAt z rows (Activity.Walk Walk.Next) l → IsKnown z rows (record l { next = None; upper = 0; activity = Activity.Put Put.Count })
   puts_last k = let zero_key : 0 < KEY_END = omega arith in assumption (k, zero_key)
 
-  comes_last : IsKnownAt z rows Walk l → IsKnown z rows (record l { next = None; upper = 0; remembered = []; gathered = []; link = None; walked = 0; activity = Look 0 })
+  comes_last : IsKnownAt z rows (Activity.Walk Walk.Next) l → IsKnown z rows (record l { next = None; upper = 0; remembered = []; gathered = []; link = None; walked = 0; activity = Activity.Look (Look.Entry 0) })
   comes_last k =
       let zero_key : 0 < KEY_END = omega arith in
       let o : 0 < z.seats = omega (arith, sized.some_seats) in
@@ -155,7 +162,7 @@ module _ (z : Sizes) (rows : ℕ) (l : Local) (sized : IsSized z.seats z.cells r
       let few : 0 ≤ z.cells = omega arith in
       assumption (k, zero_key, o, none, few, All-nil (IsMark z), All-nil IsCopy)
 
-  comes_before : (upper : ℕ) → upper < KEY_END → IsKnownAt z rows WalkMin l → IsKnown z rows (record l { next = Some l.candidate; upper = upper; remembered = []; gathered = []; link = None; walked = 0; activity = Look 0 })
+  comes_before : (upper : ℕ) → upper < KEY_END → IsKnownAt z rows (Activity.Walk Walk.NextLeast) l → IsKnown z rows (record l { next = Some l.candidate; upper = upper; remembered = []; gathered = []; link = None; walked = 0; activity = Activity.Look (Look.Entry 0) })
   comes_before upper u k =
       let o : 0 < z.seats = omega (arith, sized.some_seats) in
       let none : 0 ≤ 0 = omega arith in
@@ -202,7 +209,7 @@ module _ (z : Sizes) (rows : ℕ) (l : Local) (sized : IsSized z.seats z.cells r
       let zero_key : 0 < KEY_END = omega arith in
       let n = none_ranges z in
       let p = none_below rows o in
-      let q = none_room z Idle (λ t. t) in
+      let q = none_room z Activity.Idle (λ t. t) in
       assumption (k, b, y, m, g, o, zero_key, n, p, q)
 
   tries_anew : IsLocal z l → IsLocalBelow rows l → length l.remembered ≤ z.seats → length l.gathered ≤ z.cells → IsKnown z rows (begun_anew l).local
@@ -211,14 +218,14 @@ module _ (z : Sizes) (rows : ℕ) (l : Local) (sized : IsSized z.seats z.cells r
       let zero_key : 0 < KEY_END = omega arith in
       let n = none_ranges z in
       let p = none_below rows o in
-      let q = none_room z Again (λ t. t) in
+      let q = none_room z Activity.Retry (λ t. t) in
       assumption (k, b, m, g, o, zero_key, n, p, q)
 
   is_balancing : IsLocal z l → IsLocalBelow rows l → length l.remembered ≤ z.seats → length l.gathered ≤ z.cells → IsKnown z rows (to_rebalance l).local
   is_balancing k b m g =
       let n = none_ranges z in
       let p = none_below rows (omega (arith, sized.some_rows)) in
-      let q = none_room z BalClock (λ t. t) in
+      let q = none_room z (Activity.Rebalance (Rebalance.Engage Engage.Clock)) (λ t. t) in
       assumption (k, b, m, g, n, p, q)
 
   -- so it is where the put is done
@@ -226,7 +233,7 @@ module _ (z : Sizes) (rows : ℕ) (l : Local) (sized : IsSized z.seats z.cells r
   is_tidying k b m g =
       let n = none_ranges z in
       let p = none_below rows (omega (arith, sized.some_rows)) in
-      let q = none_room z BalClock (λ t. t) in
+      let q = none_room z (Activity.Rebalance (Rebalance.Engage Engage.Clock)) (λ t. t) in
       assumption (k, b, m, g, n, p, q)
 
 -- What a seat knows that freezes and gathers.
@@ -255,7 +262,7 @@ needs : (z : Sizes) (l : Local) (version : ℕ) → IsLocal z l → IsVersion ve
 needs z l version k u = All-append IsVersion l.rebalance.needed (version ∷ []) k.rebalance.needed (All-cons IsVersion version [] u (All-nil IsVersion))
 
 needs_more : (z : Sizes) (rows : ℕ) (l : Local) (j version : ℕ) → j + 1 < z.seats → IsLocal z l → IsLocalBelow rows l → length l.remembered ≤ z.seats → length l.gathered ≤ z.cells → length l.rebalance.marks ≤ z.seats → length l.rebalance.gathered ≤ z.cells → length l.rebalance.needed ≤ j → IsVersion version →
-    IsKnown z rows (record (needing version l) { activity = ScanLook (j + 1) })
+    IsKnown z rows (record (needing version l) { activity = Activity.Rebalance (Rebalance.Freeze (Freeze.Scan (j + 1))) })
 needs_more z rows l j version o k b m g x y n u =
     let never : ⊥ → length l.rebalance.taken < length l.rebalance.starts = λ t. absurd t in
     let p = needs z l version k u in
@@ -271,8 +278,8 @@ needs_last z rows l j version o k b m g x n u =
     assumption (k, b, m, g, x, p, q, none, never, All-nil IsCopy, All-nil (IsPlaced z))
 
 -- a remembered cell is read
-left_known : (z : Sizes) (rows : ℕ) (l : Local) (m : Mark) → least_mark l.rebalance.marks ≡ Some m → IsLocal z l → IsLocalBelow rows l → length l.remembered ≤ z.seats → length l.gathered ≤ z.cells → HasRebalanceRoom z TakeFrom l.rebalance →
-    IsKnown z rows (record l { place = m.cell; place_version = m.version; rebalance = record l.rebalance { marks = unmarked m.cell l.rebalance.marks }; activity = TakeRestKey })
+left_known : (z : Sizes) (rows : ℕ) (l : Local) (m : Mark) → least_mark l.rebalance.marks ≡ Some m → IsLocal z l → IsLocalBelow rows l → length l.remembered ≤ z.seats → length l.gathered ≤ z.cells → HasRebalanceRoom z (Activity.Rebalance (Rebalance.Gather Gather.Link)) l.rebalance →
+    IsKnown z rows (record l { place = m.cell; place_version = m.version; rebalance = record l.rebalance { marks = unmarked m.cell l.rebalance.marks }; activity = Activity.Rebalance (Rebalance.Gather Gather.LeftOverKey) })
 left_known z rows l m o k b u g x =
     let f = least_holds (IsMark z) l.rebalance.marks m o k.rebalance.marks in
     let marks = unmarked_in_range (IsMark z) m.cell l.rebalance.marks k.rebalance.marks in
@@ -310,7 +317,7 @@ pub record IsSoughtIn (rows : ℕ) (l : Local) : Type 0 where
 
 -- all cells are gathered, and the search for new rows begins
 seeks_rows : (z : Sizes) (rows : ℕ) (l : Local) → IsSized z.seats z.cells rows → IsLocal z l → IsLocalBelow rows l → length l.remembered ≤ z.seats → length l.gathered ≤ z.cells → length l.rebalance.marks ≤ z.seats → length l.rebalance.needed ≤ z.seats → length l.rebalance.gathered ≤ z.cells →
-    IsKnown z rows (record (planned z l) { activity = SeekFirst })
+    IsKnown z rows (record (planned z l) { activity = Activity.Rebalance (Rebalance.Seek Seek.First) })
 seeks_rows z rows l sized k b m g x y n =
     let kept : All IsCopy (kept_of l.rebalance.gathered l.rebalance.needed) = kept_of-all IsCopy l.rebalance.gathered l.rebalance.needed k.rebalance.gathered in
     let places : All (IsPlaced z) (kept_of l.rebalance.gathered l.rebalance.needed) = kept_of-all (IsPlaced z) l.rebalance.gathered l.rebalance.needed k.rebalance.placed in
@@ -327,7 +334,7 @@ before_below rows (Some p) o b = b
 before_below rows None o b = o
 
 -- a seat that may take one more row has lists as another has
-idle_room : (z : Sizes) (b : Rebalance) → length b.marks ≤ z.seats → length b.needed ≤ z.seats → length b.gathered ≤ z.cells → HasRebalanceRoom z Idle b
+idle_room : (z : Sizes) (b : Rebalancing) → length b.marks ≤ z.seats → length b.needed ≤ z.seats → length b.gathered ≤ z.cells → HasRebalanceRoom z Activity.Idle b
 idle_room z b m n g = record { marks = m; needed = n; gathered = g; taken = λ t. absurd t }
 
 -- a row that is guessed, or was asked before

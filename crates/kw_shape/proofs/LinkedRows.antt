@@ -23,7 +23,12 @@ use Rattle.kw_rows.proofs.Chains.{IsLink, leads_live}
 use Rattle.kw_rows.proofs.Framed.{retired_no}
 use Rattle.kw_rows.proofs.Lists.{in_or_not}
 use Rattle.kw_world.specs.declared.activity.Activity.{Activity}
-use Rattle.kw_world.specs.declared.activity.Activity.TheVariants.{PutAdd, FreezeCount, SeekFirst, Seek, SeekPass, Reclaim, TakeRow, GiveBack, WriteCount, WriteMin, WriteNext, WriteFirst, WritePend, WriteKey, WriteValue, WriteVersion, WriteAfter, Before, BeforeGuess, BeforeHead, BeforeLink, BeforeMin, Replace, Normalise, Number, Retire}
+use Rattle.kw_world.specs.declared.activity.rebalance.freeze.Freeze.TheVariants as Freeze
+use Rattle.kw_world.specs.declared.activity.put.Put.TheVariants as Put
+use Rattle.kw_world.specs.declared.activity.rebalance.Rebalance.TheVariants as Rebalance
+use Rattle.kw_world.specs.declared.activity.rebalance.replace.Replace.TheVariants as Replace
+use Rattle.kw_world.specs.declared.activity.rebalance.seek.Seek.TheVariants as Seek
+use Rattle.kw_world.specs.declared.activity.rebalance.write.Write.TheVariants as Write
 use Rattle.kw_world.specs.declared.event.Choice.{Choice}
 use Rattle.kw_world.specs.declared.local.Local.{Local}
 use Rattle.kw_world.specs.ReplaceTransitions.{replaced_link}
@@ -117,7 +122,7 @@ pub record GoesNow (g g' : Ledger) (s now q : ℕ) : Type 0 where
 
 -- the row is one of those that the seat took, and is in the list from this position on
 pub record ComesNow (v : Words) (g g' : Ledger) (s now : ℕ) (l : Local) (a : Activity) (q : ℕ) : Type 0 where
-  pub replaces : a ≡ Replace
+  pub replaces : a ≡ Activity.Rebalance (Rebalance.Replace Replace.Exchange)
   pub won : v (replaced_link l.rebalance.before) ≡ link_word (unmarked_link (Some l.row))
   pub taken : IsIn l.rebalance.taken q
   pub infant : IsInfantOf g s q
@@ -172,30 +177,30 @@ module _ {z : Sizes} {r r' : Run} {s : ℕ} {choice : Choice} {l l' : Local} whe
   not_hand a h i x q k e = linked_not_infant r.ledger.rows s q k (subst (IsInfantOf r.ledger.rows s) (sym e) (hand_infant a h i x))
 
   -- nor is it one of those that the seat links
-  pub not_taken : Happens z r r' s choice l l' Replace → Shape z r → (q : ℕ) → WasLinked r.ledger.rows q → IsIn l.rebalance.taken q → ⊥
-  not_taken h i q k y = let p = place_of_row l.rebalance.taken q y in linked_not_infant r.ledger.rows s q k ((infants_at Replace h i).owned p.0 q tt p.1)
+  pub not_taken : Happens z r r' s choice l l' (Activity.Rebalance (Rebalance.Replace Replace.Exchange)) → Shape z r → (q : ℕ) → WasLinked r.ledger.rows q → IsIn l.rebalance.taken q → ⊥
+  not_taken h i q k y = let p = place_of_row l.rebalance.taken q y in linked_not_infant r.ledger.rows s q k ((infants_at (Activity.Rebalance (Rebalance.Replace Replace.Exchange)) h i).owned p.0 q tt p.1)
 
   -- nor one that is free
-  not_sought : Happens z r r' s choice l l' TakeRow → Shape z r → word z r.world (name.State l.rebalance.sought) ≡ state_word state.Free → (q : ℕ) → WasLinked r.ledger.rows q → q ≢ l.rebalance.sought
+  not_sought : Happens z r r' s choice l l' (Activity.Rebalance (Rebalance.Seek Seek.Take)) → Shape z r → word z r.world (name.State l.rebalance.sought) ≡ state_word state.Free → (q : ℕ) → WasLinked r.ledger.rows q → q ≢ l.rebalance.sought
   not_sought h i e q k f = linked_not_free r.ledger.rows q k (free_by_state (rows_in (word z r.world)) r.ledger.rows q i.rows.states (word_says _ state.Free tt (ap (λ x. word z r.world (name.State x)) f ∙ e)))
 
   -- Where the full row is replaced.
 
   -- the link that is exchanged is found unmarked
-  pub found_open : Happens z r r' s choice l l' Replace → Shape z r → word z r.world (replaced_link l.rebalance.before) ≡ link_word (unmarked_link (Some l.row)) → link_of (word z r.world (replaced_link l.rebalance.before)) ≡ Some (unmarked_link (Some l.row))
+  pub found_open : Happens z r r' s choice l l' (Activity.Rebalance (Rebalance.Replace Replace.Exchange)) → Shape z r → word z r.world (replaced_link l.rebalance.before) ≡ link_word (unmarked_link (Some l.row)) → link_of (word z r.world (replaced_link l.rebalance.before)) ≡ Some (unmarked_link (Some l.row))
   found_open h i e = ap link_of e ∙ link_of-link_word (unmarked_link (Some l.row)) (row_link z r.world s l i.sane h.knows)
 
   -- so it is that of the head, or of a row of the list
-  link_live : Happens z r r' s choice l l' Replace → Shape z r → (b : Option ℕ) → l.rebalance.before ≡ b → link_of (word z r.world (replaced_link b)) ≡ Some (unmarked_link (Some l.row)) → IsLink r.ledger.rows b
+  link_live : Happens z r r' s choice l l' (Activity.Rebalance (Rebalance.Replace Replace.Exchange)) → Shape z r → (b : Option ℕ) → l.rebalance.before ≡ b → link_of (word z r.world (replaced_link b)) ≡ Some (unmarked_link (Some l.row)) → IsLink r.ledger.rows b
   link_live h i None c f = tt
-  link_live h i (Some p) c f = which ((search_at Replace h i).fresh p tt c)
+  link_live h i (Some p) c f = which ((search_at (Activity.Rebalance (Rebalance.Replace Replace.Exchange)) h i).fresh p tt c)
     where
       which : IsFresh r.ledger.rows s p → IsLive r.ledger.rows p
       which (inl a) = a
       which (inr d) = let x : true ≡ false = sym ((i.rows.marks p).buried d.dead).0 ∙ ap has_mark f in absurd (cc)
 
   -- and the full row is one
-  pub full_live : Happens z r r' s choice l l' Replace → Shape z r → word z r.world (replaced_link l.rebalance.before) ≡ link_word (unmarked_link (Some l.row)) → IsLive r.ledger.rows l.row
+  pub full_live : Happens z r r' s choice l l' (Activity.Rebalance (Rebalance.Replace Replace.Exchange)) → Shape z r → word z r.world (replaced_link l.rebalance.before) ≡ link_word (unmarked_link (Some l.row)) → IsLive r.ledger.rows l.row
   full_live h i e =
       let f = found_open h i e in
       leads_live (rows_in (word z r.world)) r.ledger.rows i.rows.chain l.rebalance.before l.row (link_live h i l.rebalance.before refl f) (exchanged_head (word z r.world) l.rebalance.before ∙ ap row_linked f)
@@ -207,19 +212,19 @@ module _ {z : Sizes} {r r' : Run} {s : ℕ} {choice : Choice} {l l' : Local} whe
   sought_at a h i = subst (λ b. Sought z (word z r.world) r.ledger.rows s b l) h.activity (i.sought s l h.knows)
 
   -- each pass that is on, of whatever seat, began after the number was drawn
-  pub all_young : Happens z r r' s choice l l' Reclaim → Shape z r → (t since at : ℕ) → r.ledger.rows.passes t ≡ Some since → r.ledger.rows.numbered l.rebalance.number ≡ Some at → at < since
+  pub all_young : Happens z r r' s choice l l' (Activity.Rebalance (Rebalance.Seek Seek.Reclaim)) → Shape z r → (t since at : ℕ) → r.ledger.rows.passes t ≡ Some since → r.ledger.rows.numbered l.rebalance.number ≡ Some at → at < since
   all_young h i t since at p n = which (cases_lt t z.seats)
     where
       which : (t < z.seats) ⊎ (z.seats ≤ t) → at < since
-      which (inl o) = (sought_at Reclaim h i).young t since at o tt p n
+      which (inl o) = (sought_at (Activity.Rebalance (Rebalance.Seek Seek.Reclaim)) h i).young t since at o tt p n
       which (inr o) = let x : None ≡ Some since = sym (i.outside t (omega (arith, o, i.sane.seats))) ∙ p in absurd (cc)
 
   -- the row is found retired
-  pub found_retired : Happens z r r' s choice l l' Reclaim → Shape z r → word z r.world (name.State l.rebalance.sought) ≡ state_word (state.Retired l.rebalance.number) → (rows_in (word z r.world)).state l.rebalance.sought ≡ row.Retired l.rebalance.number
+  pub found_retired : Happens z r r' s choice l l' (Activity.Rebalance (Rebalance.Seek Seek.Reclaim)) → Shape z r → word z r.world (name.State l.rebalance.sought) ≡ state_word (state.Retired l.rebalance.number) → (rows_in (word z r.world)).state l.rebalance.sought ≡ row.Retired l.rebalance.number
   found_retired h i e = word_says _ (state.Retired l.rebalance.number) (i.sane.locals s l h.knows).ranges.rebalance.number e
 
   -- so it was dead, and nobody may name it
-  pub frees : Happens z r r' s choice l l' Reclaim → Shape z r → word z r.world (name.State l.rebalance.sought) ≡ state_word (state.Retired l.rebalance.number) → FreesNow r.ledger.rows r'.ledger.rows l.rebalance.sought
+  pub frees : Happens z r r' s choice l l' (Activity.Rebalance (Rebalance.Seek Seek.Reclaim)) → Shape z r → word z r.world (name.State l.rebalance.sought) ≡ state_word (state.Retired l.rebalance.number) → FreesNow r.ledger.rows r'.ledger.rows l.rebalance.sought
   frees h i e =
       let f = found_retired h i e in
       let d = dead_by_state (rows_in (word z r.world)) r.ledger.rows l.rebalance.sought l.rebalance.number i.rows.states f in
@@ -228,21 +233,21 @@ module _ {z : Sizes} {r r' : Run} {s : ℕ} {choice : Choice} {l l' : Local} whe
   -- The fate of a row that was linked stays, unless the row is replaced or freed now.
 
   pub linked_fate : (a : Activity) → Happens z r r' s choice l l' a → Shape z r → (q : ℕ) → WasLinked r.ledger.rows q → BecomesNow r.ledger.rows r'.ledger.rows s (length r.history.log) q
-  linked_fate TakeRow h i q k = which (cases_eq (word z r.world (name.State l.rebalance.sought)) (state_word state.Free))
+  linked_fate (Activity.Rebalance (Rebalance.Seek Seek.Take)) h i q k = which (cases_eq (word z r.world (name.State l.rebalance.sought)) (state_word state.Free))
     where
       which : (word z r.world (name.State l.rebalance.sought) ≡ state_word state.Free) ⊎ (word z r.world (name.State l.rebalance.sought) ≡ state_word state.Free → ⊥) →
           BecomesNow r.ledger.rows r'.ledger.rows s (length r.history.log) q
-      which (inl e) = inl (fate_stays TakeRow h q (not_sought h i e q k))
+      which (inl e) = inl (fate_stays (Activity.Rebalance (Rebalance.Seek Seek.Take)) h q (not_sought h i e q k))
       which (inr d) = inl (ap (λ (g : ledger.Ledger). g.rows.fates q) (none_taken h d))
-  linked_fate Reclaim h i q k = which (cases_eq (word z r.world (name.State l.rebalance.sought)) (state_word (state.Retired l.rebalance.number))) (cases_eq q l.rebalance.sought)
+  linked_fate (Activity.Rebalance (Rebalance.Seek Seek.Reclaim)) h i q k = which (cases_eq (word z r.world (name.State l.rebalance.sought)) (state_word (state.Retired l.rebalance.number))) (cases_eq q l.rebalance.sought)
     where
       which : (word z r.world (name.State l.rebalance.sought) ≡ state_word (state.Retired l.rebalance.number)) ⊎ (word z r.world (name.State l.rebalance.sought) ≡ state_word (state.Retired l.rebalance.number) → ⊥) →
           (q ≡ l.rebalance.sought) ⊎ (q ≡ l.rebalance.sought → ⊥) → BecomesNow r.ledger.rows r'.ledger.rows s (length r.history.log) q
       which (inl e) (inl c) = inr (inr (subst (FreesNow r.ledger.rows r'.ledger.rows) (sym c) (frees h i e)))
-      which (inl e) (inr d) = inl (fate_stays Reclaim h q d)
+      which (inl e) (inr d) = inl (fate_stays (Activity.Rebalance (Rebalance.Seek Seek.Reclaim)) h q d)
       which (inr n) c = inl (ap (λ (g : ledger.Ledger). g.rows.fates q) (none_freed h n))
-  linked_fate GiveBack h i q k = inl (fate_stays GiveBack h q (not_hand GiveBack h i tt q k))
-  linked_fate Replace h i q k = which (cases_eq (word z r.world (replaced_link l.rebalance.before)) (link_word (unmarked_link (Some l.row))))
+  linked_fate (Activity.Rebalance (Rebalance.Seek Seek.GiveBack)) h i q k = inl (fate_stays (Activity.Rebalance (Rebalance.Seek Seek.GiveBack)) h q (not_hand (Activity.Rebalance (Rebalance.Seek Seek.GiveBack)) h i tt q k))
+  linked_fate (Activity.Rebalance (Rebalance.Replace Replace.Exchange)) h i q k = which (cases_eq (word z r.world (replaced_link l.rebalance.before)) (link_word (unmarked_link (Some l.row))))
     where
       acts : (q ≡ l.row → ⊥) → (q ≡ l.row) ⊎ IsIn l.rebalance.taken q → ⊥
       acts d (inl c) = d c
@@ -251,7 +256,7 @@ module _ {z : Sizes} {r r' : Run} {s : ℕ} {choice : Choice} {l l' : Local} whe
       here : word z r.world (replaced_link l.rebalance.before) ≡ link_word (unmarked_link (Some l.row)) → (q ≡ l.row) ⊎ (q ≡ l.row → ⊥) →
           BecomesNow r.ledger.rows r'.ledger.rows s (length r.history.log) q
       here e (inl c) = inr (inl (subst (λ x. GoesNow r.ledger.rows r'.ledger.rows s (length r.history.log) x) (sym c) (record { live = full_live h i e; fate = fate_of_full h e })))
-      here e (inr d) = inl (fate_stays Replace h q (acts d))
+      here e (inr d) = inl (fate_stays (Activity.Rebalance (Rebalance.Replace Replace.Exchange)) h q (acts d))
 
       which : (word z r.world (replaced_link l.rebalance.before) ≡ link_word (unmarked_link (Some l.row))) ⊎ (word z r.world (replaced_link l.rebalance.before) ≡ link_word (unmarked_link (Some l.row)) → ⊥) →
           BecomesNow r.ledger.rows r'.ledger.rows s (length r.history.log) q
@@ -261,14 +266,14 @@ module _ {z : Sizes} {r r' : Run} {s : ℕ} {choice : Choice} {l l' : Local} whe
 
   -- its least key stays
   pub linked_least : (a : Activity) → Happens z r r' s choice l l' a → Shape z r → (q : ℕ) → WasLinked r.ledger.rows q → least_in (word z r'.world) q ≡ least_in (word z r.world) q
-  linked_least WriteMin h i q k = ap key_of_word (least_word WriteMin h i.sane q (not_hand WriteMin h i tt q k))
+  linked_least (Activity.Rebalance (Rebalance.Write Write.Least)) h i q k = ap key_of_word (least_word (Activity.Rebalance (Rebalance.Write Write.Least)) h i.sane q (not_hand (Activity.Rebalance (Rebalance.Write Write.Least)) h i tt q k))
   linked_least a h i q k = ap key_of_word (least_word a h i.sane q (λ c. c))
 
   -- what becomes of its count: nobody writes it anew
   pub linked_count : (a : Activity) → Happens z r r' s choice l l' a → Shape z r → (q : ℕ) → WasLinked r.ledger.rows q → CountStep (word z r.world) (word z r'.world) q
-  linked_count PutAdd h i q k = let o = was_below z r i q k in count_asked h q o (i.sane.each (name.Count q) o)
-  linked_count FreezeCount h i q k = let o = was_below z r i q k in count_frozen_now h q o (i.sane.each (name.Count q) o)
-  linked_count WriteCount h i q k = count_same (count_stays WriteCount h q (was_below z r i q k) (not_hand WriteCount h i tt q k))
+  linked_count (Activity.Put Put.Add) h i q k = let o = was_below z r i q k in count_asked h q o (i.sane.each (name.Count q) o)
+  linked_count (Activity.Rebalance (Rebalance.Freeze Freeze.Count)) h i q k = let o = was_below z r i q k in count_frozen_now h q o (i.sane.each (name.Count q) o)
+  linked_count (Activity.Rebalance (Rebalance.Write Write.Count)) h i q k = count_same (count_stays (Activity.Rebalance (Rebalance.Write Write.Count)) h q (was_below z r i q k) (not_hand (Activity.Rebalance (Rebalance.Write Write.Count)) h i tt q k))
   linked_count a h i q k = count_same (count_stays a h q (was_below z r i q k) (λ c. c))
 
   -- all at once
@@ -301,42 +306,42 @@ module _ {z : Sizes} {r r' : Run} {s : ℕ} {choice : Choice} {l l' : Local} whe
   -- A row that was linked after the event was so before, or is one of those that are linked now.
 
   pub linked_before : (a : Activity) → Happens z r r' s choice l l' a → Shape z r → (q : ℕ) → WasLinked r'.ledger.rows q → WasLinked r.ledger.rows q ⊎ ComesNow (word z r.world) r.ledger.rows r'.ledger.rows s (length r.history.log) l a q
-  linked_before TakeRow h i q k = which (cases_eq (word z r.world (name.State l.rebalance.sought)) (state_word state.Free)) (cases_eq q l.rebalance.sought)
+  linked_before (Activity.Rebalance (Rebalance.Seek Seek.Take)) h i q k = which (cases_eq (word z r.world (name.State l.rebalance.sought)) (state_word state.Free)) (cases_eq q l.rebalance.sought)
     where
       which : (word z r.world (name.State l.rebalance.sought) ≡ state_word state.Free) ⊎ (word z r.world (name.State l.rebalance.sought) ≡ state_word state.Free → ⊥) → (q ≡ l.rebalance.sought) ⊎ (q ≡ l.rebalance.sought → ⊥) →
-          WasLinked r.ledger.rows q ⊎ ComesNow (word z r.world) r.ledger.rows r'.ledger.rows s (length r.history.log) l TakeRow q
+          WasLinked r.ledger.rows q ⊎ ComesNow (word z r.world) r.ledger.rows r'.ledger.rows s (length r.history.log) l (Activity.Rebalance (Rebalance.Seek Seek.Take)) q
       which (inl e) (inl c) = linked_not_infant r'.ledger.rows s q k (subst (IsInfantOf r'.ledger.rows s) (sym c) (record { status = ap (λ (f : Fate). f.status) (fate_of_taken h e); owner = ap (λ (f : Fate). f.owner) (fate_of_taken h e) }))
-      which (inl e) (inr d) = inl (linked_same r.ledger.rows r'.ledger.rows q (fate_stays TakeRow h q d) k)
+      which (inl e) (inr d) = inl (linked_same r.ledger.rows r'.ledger.rows q (fate_stays (Activity.Rebalance (Rebalance.Seek Seek.Take)) h q d) k)
       which (inr d) c = inl (linked_same r.ledger.rows r'.ledger.rows q (ap (λ (g : ledger.Ledger). g.rows.fates q) (none_taken h d)) k)
-  linked_before Reclaim h i q k = which (cases_eq (word z r.world (name.State l.rebalance.sought)) (state_word (state.Retired l.rebalance.number))) (cases_eq q l.rebalance.sought)
+  linked_before (Activity.Rebalance (Rebalance.Seek Seek.Reclaim)) h i q k = which (cases_eq (word z r.world (name.State l.rebalance.sought)) (state_word (state.Retired l.rebalance.number))) (cases_eq q l.rebalance.sought)
     where
       which : (word z r.world (name.State l.rebalance.sought) ≡ state_word (state.Retired l.rebalance.number)) ⊎ (word z r.world (name.State l.rebalance.sought) ≡ state_word (state.Retired l.rebalance.number) → ⊥) →
-          (q ≡ l.rebalance.sought) ⊎ (q ≡ l.rebalance.sought → ⊥) → WasLinked r.ledger.rows q ⊎ ComesNow (word z r.world) r.ledger.rows r'.ledger.rows s (length r.history.log) l Reclaim q
+          (q ≡ l.rebalance.sought) ⊎ (q ≡ l.rebalance.sought → ⊥) → WasLinked r.ledger.rows q ⊎ ComesNow (word z r.world) r.ledger.rows r'.ledger.rows s (length r.history.log) l (Activity.Rebalance (Rebalance.Seek Seek.Reclaim)) q
       which (inl e) (inl c) = linked_not_free r'.ledger.rows q k (ap (λ x. (r'.ledger.rows.fates x).status) c ∙ ap (λ (f : Fate). f.status) (fate_of_freed h e))
-      which (inl e) (inr d) = inl (linked_same r.ledger.rows r'.ledger.rows q (fate_stays Reclaim h q d) k)
+      which (inl e) (inr d) = inl (linked_same r.ledger.rows r'.ledger.rows q (fate_stays (Activity.Rebalance (Rebalance.Seek Seek.Reclaim)) h q d) k)
       which (inr n) c = inl (linked_same r.ledger.rows r'.ledger.rows q (ap (λ (g : ledger.Ledger). g.rows.fates q) (none_freed h n)) k)
-  linked_before GiveBack h i q k = which (cases_eq q (infant l))
+  linked_before (Activity.Rebalance (Rebalance.Seek Seek.GiveBack)) h i q k = which (cases_eq q (infant l))
     where
-      which : (q ≡ infant l) ⊎ (q ≡ infant l → ⊥) → WasLinked r.ledger.rows q ⊎ ComesNow (word z r.world) r.ledger.rows r'.ledger.rows s (length r.history.log) l GiveBack q
+      which : (q ≡ infant l) ⊎ (q ≡ infant l → ⊥) → WasLinked r.ledger.rows q ⊎ ComesNow (word z r.world) r.ledger.rows r'.ledger.rows s (length r.history.log) l (Activity.Rebalance (Rebalance.Seek Seek.GiveBack)) q
       which (inl c) = linked_not_free r'.ledger.rows q k (ap (λ x. (r'.ledger.rows.fates x).status) c ∙ ap (λ (f : Fate). f.status) (fate_of_given h))
-      which (inr d) = inl (linked_same r.ledger.rows r'.ledger.rows q (fate_stays GiveBack h q d) k)
-  linked_before Replace h i q k = which (cases_eq (word z r.world (replaced_link l.rebalance.before)) (link_word (unmarked_link (Some l.row))))
+      which (inr d) = inl (linked_same r.ledger.rows r'.ledger.rows q (fate_stays (Activity.Rebalance (Rebalance.Seek Seek.GiveBack)) h q d) k)
+  linked_before (Activity.Rebalance (Rebalance.Replace Replace.Exchange)) h i q k = which (cases_eq (word z r.world (replaced_link l.rebalance.before)) (link_word (unmarked_link (Some l.row))))
     where
       full : WasLinked r.ledger.rows l.row
-      full = fresh_linked r.ledger.rows s l.row ((balance_at Replace h i).fresh tt)
+      full = fresh_linked r.ledger.rows s l.row ((balance_at (Activity.Rebalance (Rebalance.Replace Replace.Exchange)) h i).fresh tt)
 
       acts : (q ≡ l.row → ⊥) → (IsIn l.rebalance.taken q → ⊥) → (q ≡ l.row) ⊎ IsIn l.rebalance.taken q → ⊥
       acts d n (inl c) = d c
       acts d n (inr c) = n c
 
       here : word z r.world (replaced_link l.rebalance.before) ≡ link_word (unmarked_link (Some l.row)) → (q ≡ l.row) ⊎ (q ≡ l.row → ⊥) → IsIn l.rebalance.taken q ⊎ (IsIn l.rebalance.taken q → ⊥) →
-          WasLinked r.ledger.rows q ⊎ ComesNow (word z r.world) r.ledger.rows r'.ledger.rows s (length r.history.log) l Replace q
+          WasLinked r.ledger.rows q ⊎ ComesNow (word z r.world) r.ledger.rows r'.ledger.rows s (length r.history.log) l (Activity.Rebalance (Rebalance.Replace Replace.Exchange)) q
       here e (inl c) y = inl (subst (WasLinked r.ledger.rows) (sym c) full)
-      here e (inr d) (inl y) = let p = place_of_row l.rebalance.taken q y in inr (record { replaces = refl; won = e; taken = y; infant = (infants_at Replace h i).owned p.0 q tt p.1; fate = fate_of_new h e q y d })
-      here e (inr d) (inr n) = inl (linked_same r.ledger.rows r'.ledger.rows q (fate_stays Replace h q (acts d n)) k)
+      here e (inr d) (inl y) = let p = place_of_row l.rebalance.taken q y in inr (record { replaces = refl; won = e; taken = y; infant = (infants_at (Activity.Rebalance (Rebalance.Replace Replace.Exchange)) h i).owned p.0 q tt p.1; fate = fate_of_new h e q y d })
+      here e (inr d) (inr n) = inl (linked_same r.ledger.rows r'.ledger.rows q (fate_stays (Activity.Rebalance (Rebalance.Replace Replace.Exchange)) h q (acts d n)) k)
 
       which : (word z r.world (replaced_link l.rebalance.before) ≡ link_word (unmarked_link (Some l.row))) ⊎ (word z r.world (replaced_link l.rebalance.before) ≡ link_word (unmarked_link (Some l.row)) → ⊥) →
-          WasLinked r.ledger.rows q ⊎ ComesNow (word z r.world) r.ledger.rows r'.ledger.rows s (length r.history.log) l Replace q
+          WasLinked r.ledger.rows q ⊎ ComesNow (word z r.world) r.ledger.rows r'.ledger.rows s (length r.history.log) l (Activity.Rebalance (Rebalance.Replace Replace.Exchange)) q
       which (inl e) = here e (cases_eq q l.row) (in_or_not l.rebalance.taken q)
       which (inr d) = inl (linked_same r.ledger.rows r'.ledger.rows q (ap (λ (g : ledger.Ledger). g.rows.fates q) (none_replaced h d)) k)
   linked_before a h i q k = inl (linked_same r.ledger.rows r'.ledger.rows q (fate_stays a h q (λ c. c)) k)
@@ -358,32 +363,32 @@ module _ {z : Sizes} {r r' : Run} {s : ℕ} {choice : Choice} {l l' : Local} whe
 
   -- an event that takes, writes or links new rows, or retires the full one, writes no word of a row
   -- that was linked but a state, and the link of the row before
-  pub built_leaves : (a : Activity) → IsBuilding a → Happens z r r' s choice l l' a → Shape z r → (n : Name) (q : ℕ) → WasLinked r.ledger.rows q → row_in n ≡ Some q → IsWithin z.seats z.cells r.world.rows n → is_state n ≡ false → (a ≡ Replace → l.rebalance.before ≡ Some q → ⊥) →
+  pub built_leaves : (a : Activity) → IsBuilding a → Happens z r r' s choice l l' a → Shape z r → (n : Name) (q : ℕ) → WasLinked r.ledger.rows q → row_in n ≡ Some q → IsWithin z.seats z.cells r.world.rows n → is_state n ≡ false → (a ≡ Activity.Rebalance (Rebalance.Replace Replace.Exchange) → l.rebalance.before ≡ Some q → ⊥) →
       word z r'.world n ≡ word z r.world n
-  built_leaves TakeRow b h i n q k e o f c = unwritten TakeRow h n o (no_state l.rebalance.sought n f)
-  built_leaves Reclaim b h i n q k e o f c = unwritten Reclaim h n o (no_state l.rebalance.sought n f)
-  built_leaves GiveBack b h i n q k e o f c = unwritten GiveBack h n o (no_state (infant l) n f)
-  built_leaves Normalise b h i n q k e o f c = unwritten Normalise h n o (no_state (infant l) n f)
-  built_leaves Retire b h i n q k e o f c = unwritten Retire h n o (no_state l.row n f)
-  built_leaves Replace b h i n q k e o f c = row_stays Replace h n q e o (c refl)
-  built_leaves WriteCount b h i n q k e o f c = row_stays WriteCount h n q e o (not_hand WriteCount h i tt q k)
-  built_leaves WriteMin b h i n q k e o f c = row_stays WriteMin h n q e o (not_hand WriteMin h i tt q k)
-  built_leaves WriteNext b h i n q k e o f c = row_stays WriteNext h n q e o (not_hand WriteNext h i tt q k)
-  built_leaves WriteFirst b h i n q k e o f c = row_stays WriteFirst h n q e o (not_hand WriteFirst h i tt q k)
-  built_leaves (WritePend j) b h i n q k e o f c = row_stays (WritePend j) h n q e o (not_hand (WritePend j) h i tt q k)
-  built_leaves (WriteKey j) b h i n q k e o f c = row_stays (WriteKey j) h n q e o (not_hand (WriteKey j) h i tt q k)
-  built_leaves (WriteValue j) b h i n q k e o f c = row_stays (WriteValue j) h n q e o (not_hand (WriteValue j) h i tt q k)
-  built_leaves (WriteVersion j) b h i n q k e o f c = row_stays (WriteVersion j) h n q e o (not_hand (WriteVersion j) h i tt q k)
-  built_leaves (WriteAfter j) b h i n q k e o f c = row_stays (WriteAfter j) h n q e o (not_hand (WriteAfter j) h i tt q k)
-  built_leaves SeekFirst b h i n q k e o f c = row_stays SeekFirst h n q e o (λ x. x)
-  built_leaves Seek b h i n q k e o f c = row_stays Seek h n q e o (λ x. x)
-  built_leaves (SeekPass j) b h i n q k e o f c = row_stays (SeekPass j) h n q e o (λ x. x)
-  built_leaves Before b h i n q k e o f c = row_stays Before h n q e o (λ x. x)
-  built_leaves BeforeGuess b h i n q k e o f c = row_stays BeforeGuess h n q e o (λ x. x)
-  built_leaves BeforeHead b h i n q k e o f c = row_stays BeforeHead h n q e o (λ x. x)
-  built_leaves BeforeLink b h i n q k e o f c = row_stays BeforeLink h n q e o (λ x. x)
-  built_leaves BeforeMin b h i n q k e o f c = row_stays BeforeMin h n q e o (λ x. x)
-  built_leaves Number b h i n q k e o f c = row_stays Number h n q e o (λ x. x)
+  built_leaves (Activity.Rebalance (Rebalance.Seek Seek.Take)) b h i n q k e o f c = unwritten (Activity.Rebalance (Rebalance.Seek Seek.Take)) h n o (no_state l.rebalance.sought n f)
+  built_leaves (Activity.Rebalance (Rebalance.Seek Seek.Reclaim)) b h i n q k e o f c = unwritten (Activity.Rebalance (Rebalance.Seek Seek.Reclaim)) h n o (no_state l.rebalance.sought n f)
+  built_leaves (Activity.Rebalance (Rebalance.Seek Seek.GiveBack)) b h i n q k e o f c = unwritten (Activity.Rebalance (Rebalance.Seek Seek.GiveBack)) h n o (no_state (infant l) n f)
+  built_leaves (Activity.Rebalance (Rebalance.Replace Replace.Normalise)) b h i n q k e o f c = unwritten (Activity.Rebalance (Rebalance.Replace Replace.Normalise)) h n o (no_state (infant l) n f)
+  built_leaves (Activity.Rebalance (Rebalance.Replace Replace.Retire)) b h i n q k e o f c = unwritten (Activity.Rebalance (Rebalance.Replace Replace.Retire)) h n o (no_state l.row n f)
+  built_leaves (Activity.Rebalance (Rebalance.Replace Replace.Exchange)) b h i n q k e o f c = row_stays (Activity.Rebalance (Rebalance.Replace Replace.Exchange)) h n q e o (c refl)
+  built_leaves (Activity.Rebalance (Rebalance.Write Write.Count)) b h i n q k e o f c = row_stays (Activity.Rebalance (Rebalance.Write Write.Count)) h n q e o (not_hand (Activity.Rebalance (Rebalance.Write Write.Count)) h i tt q k)
+  built_leaves (Activity.Rebalance (Rebalance.Write Write.Least)) b h i n q k e o f c = row_stays (Activity.Rebalance (Rebalance.Write Write.Least)) h n q e o (not_hand (Activity.Rebalance (Rebalance.Write Write.Least)) h i tt q k)
+  built_leaves (Activity.Rebalance (Rebalance.Write Write.Next)) b h i n q k e o f c = row_stays (Activity.Rebalance (Rebalance.Write Write.Next)) h n q e o (not_hand (Activity.Rebalance (Rebalance.Write Write.Next)) h i tt q k)
+  built_leaves (Activity.Rebalance (Rebalance.Write Write.First)) b h i n q k e o f c = row_stays (Activity.Rebalance (Rebalance.Write Write.First)) h n q e o (not_hand (Activity.Rebalance (Rebalance.Write Write.First)) h i tt q k)
+  built_leaves (Activity.Rebalance (Rebalance.Write (Write.Entry j))) b h i n q k e o f c = row_stays (Activity.Rebalance (Rebalance.Write (Write.Entry j))) h n q e o (not_hand (Activity.Rebalance (Rebalance.Write (Write.Entry j))) h i tt q k)
+  built_leaves (Activity.Rebalance (Rebalance.Write (Write.Key j))) b h i n q k e o f c = row_stays (Activity.Rebalance (Rebalance.Write (Write.Key j))) h n q e o (not_hand (Activity.Rebalance (Rebalance.Write (Write.Key j))) h i tt q k)
+  built_leaves (Activity.Rebalance (Rebalance.Write (Write.Value j))) b h i n q k e o f c = row_stays (Activity.Rebalance (Rebalance.Write (Write.Value j))) h n q e o (not_hand (Activity.Rebalance (Rebalance.Write (Write.Value j))) h i tt q k)
+  built_leaves (Activity.Rebalance (Rebalance.Write (Write.Version j))) b h i n q k e o f c = row_stays (Activity.Rebalance (Rebalance.Write (Write.Version j))) h n q e o (not_hand (Activity.Rebalance (Rebalance.Write (Write.Version j))) h i tt q k)
+  built_leaves (Activity.Rebalance (Rebalance.Write (Write.After j))) b h i n q k e o f c = row_stays (Activity.Rebalance (Rebalance.Write (Write.After j))) h n q e o (not_hand (Activity.Rebalance (Rebalance.Write (Write.After j))) h i tt q k)
+  built_leaves (Activity.Rebalance (Rebalance.Seek Seek.First)) b h i n q k e o f c = row_stays (Activity.Rebalance (Rebalance.Seek Seek.First)) h n q e o (λ x. x)
+  built_leaves (Activity.Rebalance (Rebalance.Seek Seek.Next)) b h i n q k e o f c = row_stays (Activity.Rebalance (Rebalance.Seek Seek.Next)) h n q e o (λ x. x)
+  built_leaves (Activity.Rebalance (Rebalance.Seek (Seek.Pass j))) b h i n q k e o f c = row_stays (Activity.Rebalance (Rebalance.Seek (Seek.Pass j))) h n q e o (λ x. x)
+  built_leaves (Activity.Rebalance (Rebalance.Replace Replace.Start)) b h i n q k e o f c = row_stays (Activity.Rebalance (Rebalance.Replace Replace.Start)) h n q e o (λ x. x)
+  built_leaves (Activity.Rebalance (Rebalance.Replace Replace.GuessedLeast)) b h i n q k e o f c = row_stays (Activity.Rebalance (Rebalance.Replace Replace.GuessedLeast)) h n q e o (λ x. x)
+  built_leaves (Activity.Rebalance (Rebalance.Replace Replace.First)) b h i n q k e o f c = row_stays (Activity.Rebalance (Rebalance.Replace Replace.First)) h n q e o (λ x. x)
+  built_leaves (Activity.Rebalance (Rebalance.Replace Replace.Next)) b h i n q k e o f c = row_stays (Activity.Rebalance (Rebalance.Replace Replace.Next)) h n q e o (λ x. x)
+  built_leaves (Activity.Rebalance (Rebalance.Replace Replace.NextLeast)) b h i n q k e o f c = row_stays (Activity.Rebalance (Rebalance.Replace Replace.NextLeast)) h n q e o (λ x. x)
+  built_leaves (Activity.Rebalance (Rebalance.Replace Replace.Number)) b h i n q k e o f c = row_stays (Activity.Rebalance (Rebalance.Replace Replace.Number)) h n q e o (λ x. x)
   built_leaves _ b h i n q k e o f c = absurd b
 
 -- What an event leaves of a row that was linked, and of the keys that it may hold; a put's row may
@@ -421,8 +426,8 @@ holds_put z r s l a y k e row past put = wanted ((y.walks s l k).at (subst IsAtR
     wanted at (inr x) = put_scans l.call kind x.0
 
 -- so may that of a seat that asks for a cell
-pub holds_first : (z : Sizes) (r : Run) (s : ℕ) (l : Local) → Shape z r → slice_get r.world.locals s ≡ Some l → l.activity ≡ PutAdd → HoldsKey (word z r.world) r.ledger.rows l.row (first_key l.call)
-holds_first z r s l y k e = holds_put z r s l PutAdd y k e tt tt (λ x. x)
+pub holds_first : (z : Sizes) (r : Run) (s : ℕ) (l : Local) → Shape z r → slice_get r.world.locals s ≡ Some l → l.activity ≡ Activity.Put Put.Add → HoldsKey (word z r.world) r.ledger.rows l.row (first_key l.call)
+holds_first z r s l y k e = holds_put z r s l (Activity.Put Put.Add) y k e tt tt (λ x. x)
 
 -- The rows of the list are those that are met from Head along links.
 

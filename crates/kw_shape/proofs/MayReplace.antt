@@ -8,7 +8,9 @@ use Rattle.kw_rows.specs.Events.{IsIn, Rises}
 use Rattle.kw_rows.specs.Ledger.{IsHeld}
 use Rattle.kw_rows.specs.Rows as rows
 use Rattle.kw_rows.proofs.Named.{ends_at, held_by}
-use Rattle.kw_world.specs.declared.activity.Activity.TheVariants.{Replace}
+use Rattle.kw_world.specs.declared.activity.Activity.TheVariants as Activity
+use Rattle.kw_world.specs.declared.activity.rebalance.Rebalance.TheVariants as Rebalance
+use Rattle.kw_world.specs.declared.activity.rebalance.replace.Replace.TheVariants as Replace
 use Rattle.kw_world.specs.declared.event.Choice.{Choice}
 use Rattle.kw_world.specs.declared.local.Local.{Local}
 use Rattle.kw_world.specs.ReplaceTransitions.{first_infant}
@@ -38,21 +40,21 @@ rises_by least x (y ∷ ys) f = (
   rises_by least y ys (λ i p q e d. let n : suc (i + 1) ≡ suc i + 1 = omega arith in f (suc i) p q e (subst (λ k. slice_get (x ∷ y ∷ ys) k ≡ Some q) n d)),
 )
 
-module _ {z : Sizes} {r r' : Run} {s : ℕ} {choice : Choice} {l l' : Local} (h : Happens z r r' s choice l l' Replace) (i : Shape z r) where
+module _ {z : Sizes} {r r' : Run} {s : ℕ} {choice : Choice} {l l' : Local} (h : Happens z r r' s choice l l' (Activity.Rebalance (Rebalance.Replace Replace.Exchange))) (i : Shape z r) where
   -- what the seat knows is in range
   known : IsKnown z r.world.rows l
   known = i.sane.locals s l h.knows
 
   -- what it knows there of its keys, and of the plan
-  keys_there : Keys (word z r.world) r.ledger.rows Replace l
+  keys_there : Keys (word z r.world) r.ledger.rows (Activity.Rebalance (Rebalance.Replace Replace.Exchange)) l
   keys_there = subst (λ a. Keys (word z r.world) r.ledger.rows a l) h.activity (i.keys s l h.knows)
 
-  plans_there : Plans z Replace l
+  plans_there : Plans z (Activity.Rebalance (Rebalance.Replace Replace.Exchange)) l
   plans_there = subst (λ a. Plans z a l) h.activity (i.plans s l h.knows)
 
   -- its plan is one
   pub is_plan : IsPlan z.built l
-  is_plan = plan_of z Replace l plans_there tt i.built (subst (λ a. length l.rebalance.needed ≤ needed_by z a) h.activity known.room.rebalance.needed)
+  is_plan = plan_of z (Activity.Rebalance (Rebalance.Replace Replace.Exchange)) l plans_there tt i.built (subst (λ a. length l.rebalance.needed ≤ needed_by z a) h.activity known.room.rebalance.needed)
 
   -- each row that it took has a start
   pub has_start : (k q : ℕ) → slice_get l.rebalance.taken k ≡ Some q → k < length l.rebalance.starts
@@ -64,15 +66,15 @@ module _ {z : Sizes} {r r' : Run} {s : ℕ} {choice : Choice} {l l' : Local} (h 
 
   -- so they are from its least one on
   pub kept_from : All (λ c. l.lower ≤ c.key) l.rebalance.kept
-  kept_from k d o = omega (arith, (kept_held k d o).from, (balance_at Replace h i).lower tt)
+  kept_from k d o = omega (arith, (kept_held k d o).from, (balance_at (Activity.Rebalance (Rebalance.Replace Replace.Exchange)) h i).lower tt)
 
   -- some seat may name that row: this one
   held_row : IsHeld r.ledger.rows l.row
-  held_row = held_by r.ledger.rows s l.row ((balance_at Replace h i).fresh tt)
+  held_row = held_by r.ledger.rows s l.row ((balance_at (Activity.Rebalance (Rebalance.Replace Replace.Exchange)) h i).fresh tt)
 
   -- the range of the full row ends where the row after it begins
   ends_after : (b : ℕ) → l.rebalance.after ≡ Some b → (r.ledger.rows.fates l.row).upper ≡ Some (least_in (word z r.world) b)
-  ends_after b e = ends_at (rows_in (word z r.world)) r.ledger.rows i.rows.closed l.row b held_row ((balance_at Replace h i).group.0.next ∙ e)
+  ends_after b e = ends_at (rows_in (word z r.world)) r.ledger.rows i.rows.closed l.row b held_row ((balance_at (Activity.Rebalance (Rebalance.Replace Replace.Exchange)) h i).group.0.next ∙ e)
 
   -- so the kept keys are below that one's least key
   pub kept_below : (b : ℕ) → l.rebalance.after ≡ Some b → All (λ c. c.key < least_in (word z r.world) b) l.rebalance.kept
@@ -80,7 +82,7 @@ module _ {z : Sizes} {r r' : Run} {s : ℕ} {choice : Choice} {l l' : Local} (h 
 
   -- and so is the least key of the full row
   lower_below : (b : ℕ) → l.rebalance.after ≡ Some b → l.lower < least_in (word z r.world) b
-  lower_below b e = omega (arith, i.rows.closed.rises l.row b held_row ((balance_at Replace h i).group.0.next ∙ e), (balance_at Replace h i).lower tt)
+  lower_below b e = omega (arith, i.rows.closed.rises l.row b held_row ((balance_at (Activity.Rebalance (Rebalance.Replace Replace.Exchange)) h i).group.0.next ∙ e), (balance_at (Activity.Rebalance (Rebalance.Replace Replace.Exchange)) h i).lower tt)
 
   -- the least key of each new row fits its word
   pub least_fits : (k q : ℕ) → slice_get l.rebalance.taken k ≡ Some q → infant_least (at_infant k l) < KEY_END
@@ -88,23 +90,23 @@ module _ {z : Sizes} {r r' : Run} {s : ℕ} {choice : Choice} {l l' : Local} (h 
 
   -- and stands there
   pub least_of_new : (k q : ℕ) → slice_get l.rebalance.taken k ≡ Some q → least_in (word z r.world) q ≡ infant_least (at_infant k l)
-  least_of_new k q e = whole_least z (word z r.world) (at_infant k l) q (least_fits k q e) ((infants_at Replace h i).whole k q tt e)
+  least_of_new k q e = whole_least z (word z r.world) (at_infant k l) q (least_fits k q e) ((infants_at (Activity.Rebalance (Rebalance.Replace Replace.Exchange)) h i).whole k q tt e)
 
   -- all that its event must know
   pub may_replace : MayReplace z (word z r.world) r.ledger.rows s l
   may_replace = record {
-    own = record { owned = λ k q e. (infants_at Replace h i).owned k q tt e; apart = λ j k q e d. (infants_at Replace h i).apart j k q tt tt e d };
-    some = ((infants_at Replace h i).enough tt).0;
-    whole = λ k q e. (infants_at Replace h i).whole k q tt e;
+    own = record { owned = λ k q e. (infants_at (Activity.Rebalance (Rebalance.Replace Replace.Exchange)) h i).owned k q tt e; apart = λ j k q e d. (infants_at (Activity.Rebalance (Rebalance.Replace Replace.Exchange)) h i).apart j k q tt tt e d };
+    some = ((infants_at (Activity.Rebalance (Rebalance.Replace Replace.Exchange)) h i).enough tt).0;
+    whole = λ k q e. (infants_at (Activity.Rebalance (Rebalance.Replace Replace.Exchange)) h i).whole k q tt e;
     links = infant_links z r.world s l i.sane h.knows;
     counts = infant_counts z r.world s l i.sane h.knows;
     fits = known.ranges.lower;
-    first = omega (arith, taken_below z r.world s l i.sane h.knows 0 (first_infant l) (slice_get-get_or l.rebalance.taken 0 0 ((infants_at Replace h i).enough tt).0), i.sane.sized.few_rows);
-    linked = fresh_linked r.ledger.rows s l.row ((balance_at Replace h i).fresh tt);
-    group = (balance_at Replace h i).group;
-    full = (balance_at Replace h i).frozen tt;
-    lower = (balance_at Replace h i).lower tt;
-    held = λ p e. held_by r.ledger.rows s p ((search_at Replace h i).fresh p tt e);
+    first = omega (arith, taken_below z r.world s l i.sane h.knows 0 (first_infant l) (slice_get-get_or l.rebalance.taken 0 0 ((infants_at (Activity.Rebalance (Rebalance.Replace Replace.Exchange)) h i).enough tt).0), i.sane.sized.few_rows);
+    linked = fresh_linked r.ledger.rows s l.row ((balance_at (Activity.Rebalance (Rebalance.Replace Replace.Exchange)) h i).fresh tt);
+    group = (balance_at (Activity.Rebalance (Rebalance.Replace Replace.Exchange)) h i).group;
+    full = (balance_at (Activity.Rebalance (Rebalance.Replace Replace.Exchange)) h i).frozen tt;
+    lower = (balance_at (Activity.Rebalance (Rebalance.Replace Replace.Exchange)) h i).lower tt;
+    held = λ p e. held_by r.ledger.rows s p ((search_at (Activity.Rebalance (Rebalance.Replace Replace.Exchange)) h i).fresh p tt e);
     rises = rises;
     below = below;
   }

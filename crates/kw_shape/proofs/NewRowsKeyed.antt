@@ -19,7 +19,9 @@ use Rattle.kw_rows.specs.Events.{IsIn}
 use Rattle.kw_rows.specs.Ledger.{Fate, Ledger}
 use Rattle.kw_rows.specs.Rows as rows
 use Rattle.kw_rows.specs.Rows.{WasLinked}
-use Rattle.kw_world.specs.declared.activity.Activity.TheVariants.{Before, Replace}
+use Rattle.kw_world.specs.declared.activity.Activity.TheVariants as Activity
+use Rattle.kw_world.specs.declared.activity.rebalance.Rebalance.TheVariants as Rebalance
+use Rattle.kw_world.specs.declared.activity.rebalance.replace.Replace.TheVariants as Replace
 use Rattle.kw_world.specs.declared.event.Choice.{Choice}
 use Rattle.kw_world.specs.declared.local.Local.{Local}
 use Rattle.kw_world.specs.ListTransitions.{link_name}
@@ -76,7 +78,7 @@ link_fits : (o : Option ℕ) (n : ℕ) → ((c : ℕ) → o ≡ Some c → c < n
 link_fits (Some c) n f m = omega (arith, f c refl, m)
 link_fits None n f m = tt
 
-module _ (z : Sizes) (v : Words) (g : Ledger) (k : Local) (q : ℕ) (w : Written z v Before k q) (fits : All (λ c. c.key < KEY_END) (infant_cells k)) (few : length (infant_cells k) ≤ z.cells) (most : z.cells ≤ MOST_CELLS) (held : All (λ c. rows.HoldsKey (rows_in v) g q c.key) (infant_cells k)) where
+module _ (z : Sizes) (v : Words) (g : Ledger) (k : Local) (q : ℕ) (w : Written z v (Activity.Rebalance (Rebalance.Replace Replace.Start)) k q) (fits : All (λ c. c.key < KEY_END) (infant_cells k)) (few : length (infant_cells k) ≤ z.cells) (most : z.cells ≤ MOST_CELLS) (held : All (λ c. rows.HoldsKey (rows_in v) g q c.key) (infant_cells k)) where
   -- each cell that was written has its key
   holds_cell : (c : ℕ) → c < length (infant_cells k) → HoldsCell v g q c
   holds_cell c o = subst (rows.HoldsKey (rows_in v) g q) (sym key) (held c any_cell o)
@@ -96,10 +98,10 @@ module _ (z : Sizes) (v : Words) (g : Ledger) (k : Local) (q : ℕ) (w : Written
       linked None c o e = holds_cell c (leads_back (first_listed (infant_cells k)) (v (name.First q)) c (w.first tt) (λ d f. last_below (infant_cells k) 0 d f) e)
       linked (Some j) c o e = holds_cell c (leads_back (listed_after (infant_cells k) j) (v (name.After q j)) c (w.afters j o tt) (λ d f. listed_below (infant_cells k) j d f) e)
 
-module _ {z : Sizes} {r r' : Run} {s : ℕ} {choice : Choice} {l l' : Local} (h : Happens z r r' s choice l l' Replace) (i : Shape z r) where
+module _ {z : Sizes} {r r' : Run} {s : ℕ} {choice : Choice} {l l' : Local} (h : Happens z r r' s choice l l' (Activity.Rebalance (Rebalance.Replace Replace.Exchange))) (i : Shape z r) where
   -- the range of a new row ends above its keys
   cells_end : (k q u : ℕ) → slice_get l.rebalance.taken k ≡ Some q → least_of (word z r.world) (next_in (word z r.world) q) ≡ Some u → All (λ c. c.key < u) (infant_cells (at_infant k l))
-  cells_end k q u e f = by (slice_get l.rebalance.taken (k + 1)) refl (sym (ap (least_of (word z r.world)) (ap row_linked (whole_next z (word z r.world) (at_infant k l) q (infant_links z r.world s l i.sane h.knows k) ((infants_at Replace h i).whole k q tt e)))) ∙ f)
+  cells_end k q u e f = by (slice_get l.rebalance.taken (k + 1)) refl (sym (ap (least_of (word z r.world)) (ap row_linked (whole_next z (word z r.world) (at_infant k l) q (infant_links z r.world s l i.sane h.knows k) ((infants_at (Activity.Rebalance (Rebalance.Replace Replace.Exchange)) h i).whole k q tt e)))) ∙ f)
     where
       last : (b : Option ℕ) → l.rebalance.after ≡ b → least_of (word z r.world) b ≡ Some u → All (λ c. c.key < u) (infant_cells (at_infant k l))
       last None m x = let y : None ≡ Some u = x in absurd (cc)
@@ -124,10 +126,10 @@ module _ {z : Sizes} {r r' : Run} {s : ℕ} {choice : Choice} {l l' : Local} (h 
       below = taken_below z r.world s l i.sane h.knows k q e
 
       apart : l.rebalance.before ≡ Some q → ⊥
-      apart b = linked_not_infant r.ledger.rows s q (fresh_linked r.ledger.rows s q ((search_at Replace h i).fresh q tt b)) ((infants_at Replace h i).owned k q tt e)
+      apart b = linked_not_infant r.ledger.rows s q (fresh_linked r.ledger.rows s q ((search_at (Activity.Rebalance (Rebalance.Replace Replace.Exchange)) h i).fresh q tt b)) ((infants_at (Activity.Rebalance (Rebalance.Replace Replace.Exchange)) h i).owned k q tt e)
 
-      written : Written z (word z r'.world) Before (at_infant k l) q
-      written = written_stays z r.world.rows (word z r.world) (word z r'.world) Before (at_infant k l) q below (λ n f b w. row_stays Replace h n q f w apart) ((infants_at Replace h i).whole k q tt e)
+      written : Written z (word z r'.world) (Activity.Rebalance (Rebalance.Replace Replace.Start)) (at_infant k l) q
+      written = written_stays z r.world.rows (word z r.world) (word z r'.world) (Activity.Rebalance (Rebalance.Replace Replace.Start)) (at_infant k l) q below (λ n f b w. row_stays (Activity.Rebalance (Rebalance.Replace Replace.Exchange)) h n q f w apart) ((infants_at (Activity.Rebalance (Rebalance.Replace Replace.Exchange)) h i).whole k q tt e)
 
       fits : All (λ c. c.key < KEY_END) (infant_cells (at_infant k l))
       fits = cells_have z.built l (is_plan h i) (λ c. c.key < KEY_END) (λ j d o. ((i.sane.locals s l h.knows).ranges.rebalance.kept j d o).0) k
@@ -136,10 +138,10 @@ module _ {z : Sizes} {r r' : Run} {s : ℕ} {choice : Choice} {l l' : Local} (h 
       few = omega (arith, part_length (end_of l.rebalance.kept l.rebalance.starts k - slice_index l.rebalance.starts k) (slice_index l.rebalance.starts k) l.rebalance.kept, (i.sane.locals s l h.knows).ranges.rebalance.few)
 
       least : least_in (word z r'.world) q ≡ least_in (word z r.world) q
-      least = ap key_of_word (row_stays Replace h (name.Min q) q refl below apart)
+      least = ap key_of_word (row_stays (Activity.Rebalance (Rebalance.Replace Replace.Exchange)) h (name.Min q) q refl below apart)
 
       fate : r'.ledger.rows.fates q ≡ fate_live (word z r.world) (length r.history.log) q (r.ledger.rows.fates q)
-      fate = fate_of_new h won q m (λ c. linked_not_infant r.ledger.rows s q (subst (WasLinked r.ledger.rows) (sym c) (may_replace h i).linked) ((infants_at Replace h i).owned k q tt e))
+      fate = fate_of_new h won q m (λ c. linked_not_infant r.ledger.rows s q (subst (WasLinked r.ledger.rows) (sym c) (may_replace h i).linked) ((infants_at (Activity.Rebalance (Rebalance.Replace Replace.Exchange)) h i).owned k q tt e))
 
       held : All (λ c. rows.HoldsKey (rows_in (word z r'.world)) r'.ledger.rows q c.key) (infant_cells (at_infant k l))
       held j d o = record {

@@ -5,7 +5,7 @@ use Rattle.kw_world.specs.declared.answer.Answer.{Answer}
 use Rattle.kw_world.specs.Answers.{answer_found}
 use Rattle.kw_world.specs.declared.answer.Answer.TheVariants.{Done, Value, Absent, Pairs, NoRows, Spent, Stopped}
 use Rattle.kw_world.specs.declared.activity.Activity.{Activity}
-use Rattle.kw_world.specs.declared.activity.Activity.TheVariants.{Stamp, Leave}
+use Rattle.kw_world.specs.declared.activity.put.Put.TheVariants as Put
 use Rattle.kw_world.specs.declared.local.Local.{Local}
 use Rattle.kw_world.specs.declared.event.Choice.{Choice}
 use Rattle.kw_world.specs.declared.event.Choice.TheVariants.{Begin, Go, Guess, Stop}
@@ -15,7 +15,7 @@ use Rattle.kw_core.specs.Stages.{IsBalancing, IsPublished, IsDone, IsPutClear, I
 use Rattle.kw_core.specs.Words.{Words}
 use Rattle.kw_shape.specs.Shape.{IsPairs, IsKind}
 use Rattle.kw_core.proofs.Arrows.{IsNotOwn, NextLook, looks, lists, NextRest, rests, answers, ends_scan, scans_on, Arrow, begins, list_ends, key_above, rest_passed, gathers_rest, meets_stamped, meets_neither, is_passed, helps, finds_stamped, finds_other, clears_scan, loads_clock, stamps, is_stamped, stamps_full, stores_version, meets_cell, meets_none, key_before, key_same, key_after, version_before, version_after, stores_after, inserts, loses, clears, leaves, builds, clock_serves, epoch_serves, finds_infant, finds_normal, finds_leader, normalises, engages, is_engaged, marks_link, marks_led, decides, freezes_count, meets_idle, meets_unstamped, remembers, remembers_last, meets_frozen, meets_frozen_last, freezes_entry, freezes_last, looks_again, meets_quiet, meets_quiet_last, helps_scan, meets_drawn, meets_drawn_last, draws_for, settles_scan, settles_last, finds_drawn, finds_drawn_last, finds_no_scan, finds_no_scan_last, take_leads, takes_left, takes_no_more, takes_key, takes_version, keeps_taken, takes_left_key, keeps_left, keeps_no_more, tidies, clock_is_spent, ends_at_clock, epoch_is_spent, ends_at_epoch, finds_other_state, ends_at_state, decides_not, ends_undecided}
-use Rattle.kw_core.proofs.BuiltNext.{built_goes, built_next}
+use Rattle.kw_core.proofs.BuiltNext.{built_goes}
 use Rattle.kw_shape.proofs.AfterBuilding.{built_unpublished}
 
 -- the next cell is one of the same call
@@ -46,7 +46,7 @@ arrow_number z v s choice l a k (gathers_rest next n) = let x = cell_call _ _ n 
 arrow_number z v s choice l a k _ = omega arith
 
 -- a put that has announced its cell goes on to its end, where the entry is its own
-pub arrow_published : (z : Sizes) (v : Words) (s : ℕ) (choice : Choice) (l : Local) (a : Activity) (k : Local) → Arrow z v s choice l a k → (IsNotOwn l.cell (v (name.Pend l.row s)) → a ≡ Stamp → ⊥) → IsPublished a → IsPublished k.activity ⊎ IsDone k.activity ⊎ IsBalancing k.activity × (k.tidies ≡ true)
+pub arrow_published : (z : Sizes) (v : Words) (s : ℕ) (choice : Choice) (l : Local) (a : Activity) (k : Local) → Arrow z v s choice l a k → (IsNotOwn l.cell (v (name.Pend l.row s)) → a ≡ Activity.Put Put.Stamp → ⊥) → IsPublished a → IsPublished k.activity ⊎ IsDone k.activity ⊎ IsBalancing k.activity × (k.tidies ≡ true)
 arrow_published z v s choice l a k (builds b next y t) f p = absurd (built_unpublished b y p)
 arrow_published z v s choice l a k loads_clock f p = inl tt
 arrow_published z v s choice l a k (stamps e) f p = inl tt
@@ -68,7 +68,7 @@ arrow_published z v s choice l a k (tidies rows e) f p = inr (inr (tt, refl))
 arrow_published z v s choice l a k _ f p = absurd p
 
 -- what a get found is not the answer of a put
-pub found_not_done : (x : Option ℕ) → IsDone (Leave (answer_found x)) → ⊥
+pub found_not_done : (x : Option ℕ) → IsDone (Activity.Leave (answer_found x)) → ⊥
 found_not_done (Some v) d = d
 found_not_done None d = d
 
@@ -85,7 +85,7 @@ next_cell_done l k (ends_scan w e f) d = d
 next_cell_done l k (scans_on r w e f o) d = d
 
 -- a scan that is over, or stopped, is not done as a put is
-pub cleared_not_done : (answer : Answer) (choice : Choice) → IsPairs answer → IsDone (Leave (answer_or_stopped answer choice)) → ⊥
+pub cleared_not_done : (answer : Answer) (choice : Choice) → IsPairs answer → IsDone (Activity.Leave (answer_or_stopped answer choice)) → ⊥
 cleared_not_done Pairs (Begin call) p d = d
 cleared_not_done Pairs Go p d = d
 cleared_not_done Pairs (Guess q) p d = d

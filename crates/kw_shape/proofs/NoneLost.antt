@@ -17,7 +17,10 @@ use Rattle.kw_words.proofs.LinkWords.{link_word_of}
 use Rattle.kw_rows.specs.Events.{IsIn}
 use Rattle.kw_rows.specs.Ledger.{Dead, Fate, Free, Infant, Ledger, Live}
 use Rattle.kw_world.specs.declared.activity.Activity.{Activity}
-use Rattle.kw_world.specs.declared.activity.Activity.TheVariants.{SeekFirst, Seek, SeekPass, Reclaim, TakeRow, GiveBack, WriteCount, WriteMin, WriteNext, WriteFirst, WritePend, WriteKey, WriteValue, WriteVersion, WriteAfter, Before, BeforeGuess, BeforeHead, BeforeLink, BeforeMin, Replace, Normalise, Number, Retire}
+use Rattle.kw_world.specs.declared.activity.rebalance.Rebalance.TheVariants as Rebalance
+use Rattle.kw_world.specs.declared.activity.rebalance.replace.Replace.TheVariants as Replace
+use Rattle.kw_world.specs.declared.activity.rebalance.seek.Seek.TheVariants as Seek
+use Rattle.kw_world.specs.declared.activity.rebalance.write.Write.TheVariants as Write
 use Rattle.kw_world.specs.declared.event.Choice.{Choice}
 use Rattle.kw_world.specs.declared.local.Local.{Local}
 use Rattle.kw_world.specs.declared.rebalance.Afterwards.{Afterwards}
@@ -117,19 +120,19 @@ module _ {z : Sizes} {r r' : Run} {s : ℕ} {choice : Choice} {l k : Local} wher
   -- Which rows are infants after an event.
 
   -- a row that is given back is nobody's
-  not_given : Happens z r r' s choice l k GiveBack → (t q : ℕ) → IsInfantOf r'.ledger.rows t q → q ≡ infant l → ⊥
+  not_given : Happens z r r' s choice l k (Activity.Rebalance (Rebalance.Seek Seek.GiveBack)) → (t q : ℕ) → IsInfantOf r'.ledger.rows t q → q ≡ infant l → ⊥
   not_given h t q x e =
       let y : Free ≡ Infant = sym (ap (λ (f : Fate). f.status) (ap r'.ledger.rows.fates e ∙ fate_of_given h)) ∙ x.status in
       absurd (cc)
 
   -- nor is one that is freed
-  not_freed_now : Happens z r r' s choice l k Reclaim → word z r.world (name.State l.rebalance.sought) ≡ state_word (state.Retired l.rebalance.number) → (t q : ℕ) → IsInfantOf r'.ledger.rows t q → q ≡ l.rebalance.sought → ⊥
+  not_freed_now : Happens z r r' s choice l k (Activity.Rebalance (Rebalance.Seek Seek.Reclaim)) → word z r.world (name.State l.rebalance.sought) ≡ state_word (state.Retired l.rebalance.number) → (t q : ℕ) → IsInfantOf r'.ledger.rows t q → q ≡ l.rebalance.sought → ⊥
   not_freed_now h e t q x c =
       let y : Free ≡ Infant = sym (ap (λ (f : Fate). f.status) (ap r'.ledger.rows.fates c ∙ fate_of_freed h e)) ∙ x.status in
       absurd (cc)
 
   -- nor is the full row once it is replaced, nor one that is linked in its place
-  not_replaced : Happens z r r' s choice l k Replace → word z r.world (replaced_link l.rebalance.before) ≡ link_word (unmarked_link (Some l.row)) → (t q : ℕ) → IsInfantOf r'.ledger.rows t q → (q ≡ l.row) ⊎ IsIn l.rebalance.taken q → ⊥
+  not_replaced : Happens z r r' s choice l k (Activity.Rebalance (Rebalance.Replace Replace.Exchange)) → word z r.world (replaced_link l.rebalance.before) ≡ link_word (unmarked_link (Some l.row)) → (t q : ℕ) → IsInfantOf r'.ledger.rows t q → (q ≡ l.row) ⊎ IsIn l.rebalance.taken q → ⊥
   not_replaced h e t q x c = which (cases_eq q l.row) c
     where
       which : (q ≡ l.row) ⊎ (q ≡ l.row → ⊥) → (q ≡ l.row) ⊎ IsIn l.rebalance.taken q → ⊥
@@ -138,93 +141,93 @@ module _ {z : Sizes} {r r' : Run} {s : ℕ} {choice : Choice} {l k : Local} wher
       which (inr n) (inr i) = let y : Live ≡ Infant = sym (ap (λ (f : Fate). f.status) (fate_of_new h e q i n)) ∙ x.status in absurd (cc)
 
   -- each infant of a seat was one, unless the seat takes a row now
-  was_infant : (a : Activity) → Happens z r r' s choice l k a → (t q : ℕ) → (a ≡ TakeRow → t ≡ s → ⊥) → IsInfantOf r'.ledger.rows t q → IsInfantOf r.ledger.rows t q
-  was_infant TakeRow h t q d x = which (cases_eq (word z r.world (name.State l.rebalance.sought)) (state_word state.Free)) (cases_eq q l.rebalance.sought)
+  was_infant : (a : Activity) → Happens z r r' s choice l k a → (t q : ℕ) → (a ≡ Activity.Rebalance (Rebalance.Seek Seek.Take) → t ≡ s → ⊥) → IsInfantOf r'.ledger.rows t q → IsInfantOf r.ledger.rows t q
+  was_infant (Activity.Rebalance (Rebalance.Seek Seek.Take)) h t q d x = which (cases_eq (word z r.world (name.State l.rebalance.sought)) (state_word state.Free)) (cases_eq q l.rebalance.sought)
     where
       which : (word z r.world (name.State l.rebalance.sought) ≡ state_word state.Free) ⊎ (word z r.world (name.State l.rebalance.sought) ≡ state_word state.Free → ⊥) → (q ≡ l.rebalance.sought) ⊎ (q ≡ l.rebalance.sought → ⊥) → IsInfantOf r.ledger.rows t q
       which (inl e) (inl c) = absurd (d refl (sym x.owner ∙ ap (λ (f : Fate). f.owner) (ap r'.ledger.rows.fates c ∙ fate_of_taken h e)))
-      which (inl e) (inr n) = was_one r.ledger.rows r'.ledger.rows t q (fate_stays TakeRow h q n) x
+      which (inl e) (inr n) = was_one r.ledger.rows r'.ledger.rows t q (fate_stays (Activity.Rebalance (Rebalance.Seek Seek.Take)) h q n) x
       which (inr n) c = ledger_stays r r' (none_taken h n) t q x
-  was_infant Reclaim h t q d x = which (cases_eq (word z r.world (name.State l.rebalance.sought)) (state_word (state.Retired l.rebalance.number)))
+  was_infant (Activity.Rebalance (Rebalance.Seek Seek.Reclaim)) h t q d x = which (cases_eq (word z r.world (name.State l.rebalance.sought)) (state_word (state.Retired l.rebalance.number)))
     where
       which : (word z r.world (name.State l.rebalance.sought) ≡ state_word (state.Retired l.rebalance.number)) ⊎ (word z r.world (name.State l.rebalance.sought) ≡ state_word (state.Retired l.rebalance.number) → ⊥) → IsInfantOf r.ledger.rows t q
-      which (inl e) = was_one r.ledger.rows r'.ledger.rows t q (fate_stays Reclaim h q (not_freed_now h e t q x)) x
+      which (inl e) = was_one r.ledger.rows r'.ledger.rows t q (fate_stays (Activity.Rebalance (Rebalance.Seek Seek.Reclaim)) h q (not_freed_now h e t q x)) x
       which (inr n) = ledger_stays r r' (none_freed h n) t q x
-  was_infant GiveBack h t q d x = was_one r.ledger.rows r'.ledger.rows t q (fate_stays GiveBack h q (not_given h t q x)) x
-  was_infant Replace h t q d x = which (cases_eq (word z r.world (replaced_link l.rebalance.before)) (link_word (unmarked_link (Some l.row))))
+  was_infant (Activity.Rebalance (Rebalance.Seek Seek.GiveBack)) h t q d x = was_one r.ledger.rows r'.ledger.rows t q (fate_stays (Activity.Rebalance (Rebalance.Seek Seek.GiveBack)) h q (not_given h t q x)) x
+  was_infant (Activity.Rebalance (Rebalance.Replace Replace.Exchange)) h t q d x = which (cases_eq (word z r.world (replaced_link l.rebalance.before)) (link_word (unmarked_link (Some l.row))))
     where
       which : (word z r.world (replaced_link l.rebalance.before) ≡ link_word (unmarked_link (Some l.row))) ⊎ (word z r.world (replaced_link l.rebalance.before) ≡ link_word (unmarked_link (Some l.row)) → ⊥) → IsInfantOf r.ledger.rows t q
-      which (inl e) = was_one r.ledger.rows r'.ledger.rows t q (fate_stays Replace h q (not_replaced h e t q x)) x
+      which (inl e) = was_one r.ledger.rows r'.ledger.rows t q (fate_stays (Activity.Rebalance (Rebalance.Replace Replace.Exchange)) h q (not_replaced h e t q x)) x
       which (inr n) = ledger_stays r r' (none_replaced h n) t q x
   was_infant a h t q d x = was_one r.ledger.rows r'.ledger.rows t q (fate_stays a h q (λ c. c)) x
 
 module _ {z : Sizes} {r r' : Run} {s : ℕ} {choice : Choice} {l : Local} where
   -- an event of the seat that takes no row, and after which it has all rows that it took
-  goes : (a b : Activity) (k : Local) → Happens z r r' s choice l k a → (a ≡ TakeRow → ⊥) → HasLostNone r.ledger.rows s a l → ((q : ℕ) → IsTaken l q → IsNursedRow b k q) → HasLostNone r'.ledger.rows s b k
+  goes : (a b : Activity) (k : Local) → Happens z r r' s choice l k a → (a ≡ Activity.Rebalance (Rebalance.Seek Seek.Take) → ⊥) → HasLostNone r.ledger.rows s a l → ((q : ℕ) → IsTaken l q → IsNursedRow b k q) → HasLostNone r'.ledger.rows s b k
   goes a b k h n x f q o = let y = x q (was_infant a h s q (λ c d. n c) o) in f q (y.0, y.2)
 
   -- where the seat has linked the rows that it took, it has none
-  links : (k : Local) → Happens z r r' s choice l k Replace → link_of (word z r.world (replaced_link l.rebalance.before)) ≡ Some (unmarked_link (Some l.row)) → HasLostNone r.ledger.rows s Replace l → (q : ℕ) → IsInfantOf r'.ledger.rows s q → ⊥
+  links : (k : Local) → Happens z r r' s choice l k (Activity.Rebalance (Rebalance.Replace Replace.Exchange)) → link_of (word z r.world (replaced_link l.rebalance.before)) ≡ Some (unmarked_link (Some l.row)) → HasLostNone r.ledger.rows s (Activity.Rebalance (Rebalance.Replace Replace.Exchange)) l → (q : ℕ) → IsInfantOf r'.ledger.rows s q → ⊥
   links k h e x q o =
-      let y = x q (was_infant Replace h s q (λ c. cc) o) in
+      let y = x q (was_infant (Activity.Rebalance (Rebalance.Replace Replace.Exchange)) h s q (λ c. cc) o) in
       not_replaced h (sym (link_word_of (word z r.world (replaced_link l.rebalance.before)) (unmarked_link (Some l.row)) e)) s q o (inr (in_list l.rebalance.taken y.0 q y.2))
 
   -- each event of the seat by which rows are taken, written, linked or given back
   built_own : (a : Activity) (k : Local) → Building z (word z r.world) choice l a k → Happens z r r' s choice l k a → (HasAtHand (nursing_of a) → l.rebalance.at < length l.rebalance.taken) → HasLostNone r.ledger.rows s a l → HasLostNone r'.ledger.rows s k.activity k
-  built_own a k (first_is_free q c e) h hand x = goes SeekFirst TakeRow _ h (λ c. cc) x (λ p y. (y.0, tt, y.1))
-  built_own a k (first_is_taken q rows next c n y) h hand x = goes SeekFirst next.activity next h (λ c. cc) x (λ p t. on_seek rows _ next p y t)
-  built_own a k (sought_is_free e) h hand x = goes Seek TakeRow _ h (λ c. cc) x (λ p y. (y.0, tt, y.1))
-  built_own a k (sought_is_taken rows next n y) h hand x = goes Seek next.activity next h (λ c. cc) x (λ p t. on_seek rows _ next p y t)
-  built_own a k (first_is_retired q m c e) h hand x = goes SeekFirst (SeekPass 0) _ h (λ c. cc) x (λ p y. (y.0, tt, y.1))
-  built_own a k (sought_is_retired m e) h hand x = goes Seek (SeekPass 0) _ h (λ c. cc) x (λ p y. (y.0, tt, y.1))
-  built_own a k (pass_is_old i epoch rows next e o y) h hand x = goes (SeekPass i) next.activity next h (λ c. cc) x (λ p t. on_seek rows _ next p y t)
-  built_own a k (pass_is_young i next o y) h hand x = goes (SeekPass i) next.activity next h (λ c. cc) x (λ p t. on_pass z _ l next p y t)
-  built_own a k frees_row h hand x = goes Reclaim TakeRow _ h (λ c. cc) x (λ p y. (y.0, tt, y.1))
+  built_own a k (first_is_free q c e) h hand x = goes (Activity.Rebalance (Rebalance.Seek Seek.First)) (Activity.Rebalance (Rebalance.Seek Seek.Take)) _ h (λ c. cc) x (λ p y. (y.0, tt, y.1))
+  built_own a k (first_is_taken q rows next c n y) h hand x = goes (Activity.Rebalance (Rebalance.Seek Seek.First)) next.activity next h (λ c. cc) x (λ p t. on_seek rows _ next p y t)
+  built_own a k (sought_is_free e) h hand x = goes (Activity.Rebalance (Rebalance.Seek Seek.Next)) (Activity.Rebalance (Rebalance.Seek Seek.Take)) _ h (λ c. cc) x (λ p y. (y.0, tt, y.1))
+  built_own a k (sought_is_taken rows next n y) h hand x = goes (Activity.Rebalance (Rebalance.Seek Seek.Next)) next.activity next h (λ c. cc) x (λ p t. on_seek rows _ next p y t)
+  built_own a k (first_is_retired q m c e) h hand x = goes (Activity.Rebalance (Rebalance.Seek Seek.First)) (Activity.Rebalance (Rebalance.Seek (Seek.Pass 0))) _ h (λ c. cc) x (λ p y. (y.0, tt, y.1))
+  built_own a k (sought_is_retired m e) h hand x = goes (Activity.Rebalance (Rebalance.Seek Seek.Next)) (Activity.Rebalance (Rebalance.Seek (Seek.Pass 0))) _ h (λ c. cc) x (λ p y. (y.0, tt, y.1))
+  built_own a k (pass_is_old i epoch rows next e o y) h hand x = goes (Activity.Rebalance (Rebalance.Seek (Seek.Pass i))) next.activity next h (λ c. cc) x (λ p t. on_seek rows _ next p y t)
+  built_own a k (pass_is_young i next o y) h hand x = goes (Activity.Rebalance (Rebalance.Seek (Seek.Pass i))) next.activity next h (λ c. cc) x (λ p t. on_pass z _ l next p y t)
+  built_own a k frees_row h hand x = goes (Activity.Rebalance (Rebalance.Seek Seek.Reclaim)) (Activity.Rebalance (Rebalance.Seek Seek.Take)) _ h (λ c. cc) x (λ p y. (y.0, tt, y.1))
   built_own a k (takes_row rows next e y) h hand x = λ q o. on_taken rows _ next q y (taken q o (cases_eq q l.rebalance.sought))
     where
       taken : (q : ℕ) → IsInfantOf r'.ledger.rows s q → (q ≡ l.rebalance.sought) ⊎ (q ≡ l.rebalance.sought → ⊥) → IsTaken (with_row l) q
       taken q o (inl c) = (length l.rebalance.taken, got_new l.rebalance.taken l.rebalance.sought ∙ ap Some (sym c))
       taken q o (inr n) =
-          let t = x q (was_one r.ledger.rows r'.ledger.rows s q (fate_stays TakeRow h q n) o) in
+          let t = x q (was_one r.ledger.rows r'.ledger.rows s q (fate_stays (Activity.Rebalance (Rebalance.Seek Seek.Take)) h q n) o) in
           (t.0, got_old l.rebalance.taken l.rebalance.sought t.0 q t.2)
   built_own a k (loses_row rows next d y) h hand x = λ q o. let t = x q (ledger_stays r r' (none_taken h d) s q o) in on_seek rows _ next q y (t.0, t.2)
   built_own a k (gives_one_back m) h hand x = λ q o.
-      let t = x q (was_infant GiveBack h s q (λ c. cc) o) in
+      let t = x q (was_infant (Activity.Rebalance (Rebalance.Seek Seek.GiveBack)) h s q (λ c. cc) o) in
       let d : t.0 ≡ l.rebalance.at → ⊥ = λ c. not_given h s q o (is_at_hand l t.0 q (hand tt) c t.2) in
       (t.0, omega (arith, t.1, d), t.2)
   built_own a k (gives_last_back next m y) h hand x = λ q o.
-      let t = x q (was_infant GiveBack h s q (λ c. cc) o) in
+      let t = x q (was_infant (Activity.Rebalance (Rebalance.Seek Seek.GiveBack)) h s q (λ c. cc) o) in
       let c : t.0 ≡ l.rebalance.at = omega (arith, m, t.1, slice_get_within l.rebalance.taken t.0 q t.2) in
       absurd (not_given h s q o (is_at_hand l t.0 q (hand tt) c t.2))
-  built_own a k built.writes_count h hand x = goes WriteCount WriteMin _ h (λ c. cc) x (λ p y. (y.0, tt, y.1))
-  built_own a k built.writes_least h hand x = goes WriteMin WriteNext _ h (λ c. cc) x (λ p y. (y.0, tt, y.1))
-  built_own a k writes_link h hand x = goes WriteNext WriteFirst _ h (λ c. cc) x (λ p y. (y.0, tt, y.1))
-  built_own a k (built.writes_first next y) h hand x = goes WriteFirst next.activity next h (λ c. cc) x (λ p t. on_entry z 0 l next p y t)
-  built_own a k (built.writes_entry j next y) h hand x = goes (WritePend j) next.activity next h (λ c. cc) x (λ p t. on_entry z (j + 1) l next p y t)
-  built_own a k (built.writes_key j) h hand x = goes (WriteKey j) (WriteValue j) _ h (λ c. cc) x (λ p y. (y.0, tt, y.1))
-  built_own a k (built.writes_value j) h hand x = goes (WriteValue j) (WriteVersion j) _ h (λ c. cc) x (λ p y. (y.0, tt, y.1))
-  built_own a k (built.writes_version j) h hand x = goes (WriteVersion j) (WriteAfter j) _ h (λ c. cc) x (λ p y. (y.0, tt, y.1))
-  built_own a k (built.writes_after j next y) h hand x = goes (WriteAfter j) next.activity next h (λ c. cc) x (λ p t. on_cell z (j + 1) l next p y t)
-  built_own a k (begins_before next y) h hand x = goes Before next.activity next h (λ c. cc) x (λ p t. on_before _ l next p y t)
-  built_own a k (guesses_before q c e) h hand x = goes Before BeforeGuess _ h (λ c. cc) x (λ p y. (y.0, tt, y.1))
-  built_own a k guess_before_fails h hand x = goes Before BeforeHead _ h (λ c. cc) x (λ p y. (y.0, tt, y.1))
-  built_own a k (before_serves o) h hand x = goes BeforeGuess BeforeLink _ h (λ c. cc) x (λ p y. (y.0, tt, y.1))
-  built_own a k (before_is_above o) h hand x = goes BeforeGuess BeforeHead _ h (λ c. cc) x (λ p y. (y.0, tt, y.1))
-  built_own a k (takes_head_before next y) h hand x = goes BeforeHead next.activity next h (λ c. cc) x (λ p t. on_before _ l next p y t)
-  built_own a k (leads_to_full e) h hand x = goes BeforeLink Replace _ h (λ c. cc) x (λ p y. (y.0, tt, y.1))
-  built_own a k (leads_on_marked next e y) h hand x = goes BeforeLink next.activity next h (λ c. cc) x (λ p t. on_back _ l next p y t)
-  built_own a k (leads_to_other q e d) h hand x = goes BeforeLink BeforeMin _ h (λ c. cc) x (λ p y. (y.0, tt, y.1))
-  built_own a k (leads_nowhere next e y) h hand x = goes BeforeLink next.activity next h (λ c. cc) x (λ p t. on_back _ l next p y t)
-  built_own a k (walks_before o) h hand x = goes BeforeMin BeforeLink _ h (λ c. cc) x (λ p y. (y.0, tt, y.1))
-  built_own a k (walks_past next o y) h hand x = goes BeforeMin next.activity next h (λ c. cc) x (λ p t. on_back _ l next p y t)
+  built_own a k built.writes_count h hand x = goes (Activity.Rebalance (Rebalance.Write Write.Count)) (Activity.Rebalance (Rebalance.Write Write.Least)) _ h (λ c. cc) x (λ p y. (y.0, tt, y.1))
+  built_own a k built.writes_least h hand x = goes (Activity.Rebalance (Rebalance.Write Write.Least)) (Activity.Rebalance (Rebalance.Write Write.Next)) _ h (λ c. cc) x (λ p y. (y.0, tt, y.1))
+  built_own a k writes_link h hand x = goes (Activity.Rebalance (Rebalance.Write Write.Next)) (Activity.Rebalance (Rebalance.Write Write.First)) _ h (λ c. cc) x (λ p y. (y.0, tt, y.1))
+  built_own a k (built.writes_first next y) h hand x = goes (Activity.Rebalance (Rebalance.Write Write.First)) next.activity next h (λ c. cc) x (λ p t. on_entry z 0 l next p y t)
+  built_own a k (built.writes_entry j next y) h hand x = goes (Activity.Rebalance (Rebalance.Write (Write.Entry j))) next.activity next h (λ c. cc) x (λ p t. on_entry z (j + 1) l next p y t)
+  built_own a k (built.writes_key j) h hand x = goes (Activity.Rebalance (Rebalance.Write (Write.Key j))) (Activity.Rebalance (Rebalance.Write (Write.Value j))) _ h (λ c. cc) x (λ p y. (y.0, tt, y.1))
+  built_own a k (built.writes_value j) h hand x = goes (Activity.Rebalance (Rebalance.Write (Write.Value j))) (Activity.Rebalance (Rebalance.Write (Write.Version j))) _ h (λ c. cc) x (λ p y. (y.0, tt, y.1))
+  built_own a k (built.writes_version j) h hand x = goes (Activity.Rebalance (Rebalance.Write (Write.Version j))) (Activity.Rebalance (Rebalance.Write (Write.After j))) _ h (λ c. cc) x (λ p y. (y.0, tt, y.1))
+  built_own a k (built.writes_after j next y) h hand x = goes (Activity.Rebalance (Rebalance.Write (Write.After j))) next.activity next h (λ c. cc) x (λ p t. on_cell z (j + 1) l next p y t)
+  built_own a k (begins_before next y) h hand x = goes (Activity.Rebalance (Rebalance.Replace Replace.Start)) next.activity next h (λ c. cc) x (λ p t. on_before _ l next p y t)
+  built_own a k (guesses_before q c e) h hand x = goes (Activity.Rebalance (Rebalance.Replace Replace.Start)) (Activity.Rebalance (Rebalance.Replace Replace.GuessedLeast)) _ h (λ c. cc) x (λ p y. (y.0, tt, y.1))
+  built_own a k guess_before_fails h hand x = goes (Activity.Rebalance (Rebalance.Replace Replace.Start)) (Activity.Rebalance (Rebalance.Replace Replace.First)) _ h (λ c. cc) x (λ p y. (y.0, tt, y.1))
+  built_own a k (before_serves o) h hand x = goes (Activity.Rebalance (Rebalance.Replace Replace.GuessedLeast)) (Activity.Rebalance (Rebalance.Replace Replace.Next)) _ h (λ c. cc) x (λ p y. (y.0, tt, y.1))
+  built_own a k (before_is_above o) h hand x = goes (Activity.Rebalance (Rebalance.Replace Replace.GuessedLeast)) (Activity.Rebalance (Rebalance.Replace Replace.First)) _ h (λ c. cc) x (λ p y. (y.0, tt, y.1))
+  built_own a k (takes_head_before next y) h hand x = goes (Activity.Rebalance (Rebalance.Replace Replace.First)) next.activity next h (λ c. cc) x (λ p t. on_before _ l next p y t)
+  built_own a k (leads_to_full e) h hand x = goes (Activity.Rebalance (Rebalance.Replace Replace.Next)) (Activity.Rebalance (Rebalance.Replace Replace.Exchange)) _ h (λ c. cc) x (λ p y. (y.0, tt, y.1))
+  built_own a k (leads_on_marked next e y) h hand x = goes (Activity.Rebalance (Rebalance.Replace Replace.Next)) next.activity next h (λ c. cc) x (λ p t. on_back _ l next p y t)
+  built_own a k (leads_to_other q e d) h hand x = goes (Activity.Rebalance (Rebalance.Replace Replace.Next)) (Activity.Rebalance (Rebalance.Replace Replace.NextLeast)) _ h (λ c. cc) x (λ p y. (y.0, tt, y.1))
+  built_own a k (leads_nowhere next e y) h hand x = goes (Activity.Rebalance (Rebalance.Replace Replace.Next)) next.activity next h (λ c. cc) x (λ p t. on_back _ l next p y t)
+  built_own a k (walks_before o) h hand x = goes (Activity.Rebalance (Rebalance.Replace Replace.NextLeast)) (Activity.Rebalance (Rebalance.Replace Replace.Next)) _ h (λ c. cc) x (λ p y. (y.0, tt, y.1))
+  built_own a k (walks_past next o y) h hand x = goes (Activity.Rebalance (Rebalance.Replace Replace.NextLeast)) next.activity next h (λ c. cc) x (λ p t. on_back _ l next p y t)
   built_own a k (replaces_row e) h hand x = λ q o. absurd (links _ h e x q o)
-  built_own a k (is_marked_before next e y) h hand x = goes Replace next.activity next h (λ c. cc) x (λ p t. on_back _ l next p y t)
-  built_own a k (is_replaced next d y) h hand x = goes Replace next.activity next h (λ c. cc) x (λ p t. on_back _ l next p y t)
-  built_own a k (makes_normal o) h hand x = λ q i. absurd ((x q (was_infant Normalise h s q (λ c. cc) i)).1)
-  built_own a k (makes_last_normal o) h hand x = λ q i. absurd ((x q (was_infant Normalise h s q (λ c. cc) i)).1)
-  built_own a k draws_number h hand x = λ q i. absurd ((x q (was_infant Number h s q (λ c. cc) i)).1)
-  built_own a k (retires_row nd) h hand x = λ q i. absurd ((x q (was_infant Retire h s q (λ c. cc) i)).1)
-  built_own a k (retires_and_leaves dn) h hand x = λ q i. absurd ((x q (was_infant Retire h s q (λ c. cc) i)).1)
+  built_own a k (is_marked_before next e y) h hand x = goes (Activity.Rebalance (Rebalance.Replace Replace.Exchange)) next.activity next h (λ c. cc) x (λ p t. on_back _ l next p y t)
+  built_own a k (is_replaced next d y) h hand x = goes (Activity.Rebalance (Rebalance.Replace Replace.Exchange)) next.activity next h (λ c. cc) x (λ p t. on_back _ l next p y t)
+  built_own a k (makes_normal o) h hand x = λ q i. absurd ((x q (was_infant (Activity.Rebalance (Rebalance.Replace Replace.Normalise)) h s q (λ c. cc) i)).1)
+  built_own a k (makes_last_normal o) h hand x = λ q i. absurd ((x q (was_infant (Activity.Rebalance (Rebalance.Replace Replace.Normalise)) h s q (λ c. cc) i)).1)
+  built_own a k draws_number h hand x = λ q i. absurd ((x q (was_infant (Activity.Rebalance (Rebalance.Replace Replace.Number)) h s q (λ c. cc) i)).1)
+  built_own a k (retires_row nd) h hand x = λ q i. absurd ((x q (was_infant (Activity.Rebalance (Rebalance.Replace Replace.Retire)) h s q (λ c. cc) i)).1)
+  built_own a k (retires_and_leaves dn) h hand x = λ q i. absurd ((x q (was_infant (Activity.Rebalance (Rebalance.Replace Replace.Retire)) h s q (λ c. cc) i)).1)
 
 module _ {z : Sizes} {r r' : Run} {s : ℕ} {choice : Choice} {l : Local} where
   -- what the acting seat has at its activity

@@ -4,7 +4,14 @@ use Rattle.kw_rows.specs.Ledger.{Fate, IsDead, IsHeld, Ledger}
 use Rattle.kw_rows.specs.Rows.{WasLinked}
 use Rattle.kw_rows.proofs.Named.{held_by}
 use Rattle.kw_world.specs.declared.activity.Activity.{Activity}
-use Rattle.kw_world.specs.declared.activity.Activity.TheVariants.{LookHelp, PutAdd, PutKey, PutValue, Announce, Stamp, PutVersion, InsSet, Insert, PutClear, BalNormal, Engage, MarkLink, Decide, FreezeCount, Freeze, SeekFirst, Replace, Retire}
+use Rattle.kw_world.specs.declared.activity.rebalance.engage.Engage.TheVariants as Engage
+use Rattle.kw_world.specs.declared.activity.rebalance.freeze.Freeze.TheVariants as Freeze
+use Rattle.kw_world.specs.declared.activity.insert.Insert.TheVariants as Insert
+use Rattle.kw_world.specs.declared.activity.look.Look.TheVariants as Look
+use Rattle.kw_world.specs.declared.activity.put.Put.TheVariants as Put
+use Rattle.kw_world.specs.declared.activity.rebalance.Rebalance.TheVariants as Rebalance
+use Rattle.kw_world.specs.declared.activity.rebalance.replace.Replace.TheVariants as Replace
+use Rattle.kw_world.specs.declared.activity.rebalance.seek.Seek.TheVariants as Seek
 use Rattle.kw_world.specs.declared.event.Choice.{Choice}
 use Rattle.kw_world.specs.declared.local.Local.{Local}
 use Rattle.kw_world.specs.Sizes.{Sizes}
@@ -48,7 +55,7 @@ module _ {z : Sizes} {r r' : Run} {s : ℕ} {choice : Choice} {l l' : Local} whe
     where
       which : Comes z (word z r.world) choice l a l' → Infants z (word z r'.world) r'.ledger.rows s l'.activity l'
       which (stays_out n) = nowhere z (word z r'.world) r'.ledger.rows s l'.activity l' (unbuilt_nursing l'.activity n)
-      which (seeks e t) = subst (λ c. Infants z (word z r'.world) r'.ledger.rows s c l') (sym e) (seeking z (word z r'.world) r'.ledger.rows s SeekFirst l' refl (none_taken r'.ledger.rows s l'.rebalance.taken t))
+      which (seeks e t) = subst (λ c. Infants z (word z r'.world) r'.ledger.rows s c l') (sym e) (seeking z (word z r'.world) r'.ledger.rows s (Activity.Rebalance (Rebalance.Seek Seek.First)) l' refl (none_taken r'.ledger.rows s l'.rebalance.taken t))
       which (goes_on o t) = infants_own a l' t h i.rows.states (row_link z r.world s l i.sane h.knows, (i.sane.locals s l h.knows).ranges.rebalance.number) (taken_below z r.world s l i.sane h.knows) (infants_at a h i)
 
   -- the row on which a seat acts was linked
@@ -56,28 +63,35 @@ module _ {z : Sizes} {r r' : Run} {s : ℕ} {choice : Choice} {l l' : Local} whe
   at_linked a h i x = fresh_linked r.ledger.rows s l.row ((subst (λ b. Walks (word z r.world) r.ledger.rows s b l) h.activity (i.walks s l h.knows)).at x).fresh
 
   own_linked : (a : Activity) → Happens z r r' s choice l l' a → Shape z r → target_of a ≡ OwnRow → WasLinked r.ledger.rows l.row
-  own_linked LookHelp h i e = at_linked LookHelp h i tt
-  own_linked PutAdd h i e = at_linked PutAdd h i tt
-  own_linked PutKey h i e = at_linked PutKey h i tt
-  own_linked PutValue h i e = at_linked PutValue h i tt
-  own_linked Announce h i e = at_linked Announce h i tt
-  own_linked Stamp h i e = at_linked Stamp h i tt
-  own_linked PutVersion h i e = at_linked PutVersion h i tt
-  own_linked InsSet h i e = at_linked InsSet h i tt
-  own_linked Insert h i e = at_linked Insert h i tt
-  own_linked PutClear h i e = at_linked PutClear h i tt
-  own_linked (BalNormal seat) h i e = fresh_linked r.ledger.rows s l.row ((balance_at (BalNormal seat) h i).fresh tt)
-  own_linked Engage h i e = fresh_linked r.ledger.rows s l.row ((balance_at Engage h i).fresh tt)
-  own_linked (MarkLink count) h i e = fresh_linked r.ledger.rows s l.row ((balance_at (MarkLink count) h i).fresh tt)
-  own_linked (Decide count) h i e = fresh_linked r.ledger.rows s l.row ((balance_at (Decide count) h i).fresh tt)
-  own_linked FreezeCount h i e = fresh_linked r.ledger.rows s l.row ((balance_at FreezeCount h i).fresh tt)
-  own_linked (Freeze j) h i e = fresh_linked r.ledger.rows s l.row ((balance_at (Freeze j) h i).fresh tt)
-  own_linked Retire h i e = fresh_linked r.ledger.rows s l.row ((balance_at Retire h i).fresh tt)
+  own_linked (Activity.Look Look.Help) h i e = at_linked (Activity.Look Look.Help) h i tt
+  own_linked (Activity.Put Put.Add) h i e = at_linked (Activity.Put Put.Add) h i tt
+  own_linked (Activity.Put Put.Key) h i e = at_linked (Activity.Put Put.Key) h i tt
+  own_linked (Activity.Put Put.Value) h i e = at_linked (Activity.Put Put.Value) h i tt
+  own_linked (Activity.Put Put.Announce) h i e = at_linked (Activity.Put Put.Announce) h i tt
+  own_linked (Activity.Put Put.Stamp) h i e = at_linked (Activity.Put Put.Stamp) h i tt
+  own_linked (Activity.Put Put.Version) h i e = at_linked (Activity.Put Put.Version) h i tt
+  own_linked (Activity.Insert Insert.Set) h i e = at_linked (Activity.Insert Insert.Set) h i tt
+  own_linked (Activity.Insert Insert.Exchange) h i e = at_linked (Activity.Insert Insert.Exchange) h i tt
+  own_linked (Activity.Put Put.Clear) h i e = at_linked (Activity.Put Put.Clear) h i tt
+  own_linked (Activity.Rebalance (Rebalance.Engage (Engage.Normal seat))) h i e = fresh_linked r.ledger.rows s l.row ((balance_at (Activity.Rebalance (Rebalance.Engage (Engage.Normal seat))) h i).fresh tt)
+  own_linked (Activity.Rebalance (Rebalance.Engage Engage.Lead)) h i e = fresh_linked r.ledger.rows s l.row ((balance_at (Activity.Rebalance (Rebalance.Engage Engage.Lead)) h i).fresh tt)
+  own_linked (Activity.Rebalance (Rebalance.Engage (Engage.MarkLink count))) h i e = fresh_linked r.ledger.rows s l.row ((balance_at (Activity.Rebalance (Rebalance.Engage (Engage.MarkLink count))) h i).fresh tt)
+  own_linked (Activity.Rebalance (Rebalance.Engage (Engage.Decide count))) h i e = fresh_linked r.ledger.rows s l.row ((balance_at (Activity.Rebalance (Rebalance.Engage (Engage.Decide count))) h i).fresh tt)
+  own_linked (Activity.Rebalance (Rebalance.Freeze Freeze.Count)) h i e = fresh_linked r.ledger.rows s l.row ((balance_at (Activity.Rebalance (Rebalance.Freeze Freeze.Count)) h i).fresh tt)
+  own_linked (Activity.Rebalance (Rebalance.Freeze (Freeze.Entry j))) h i e = fresh_linked r.ledger.rows s l.row ((balance_at (Activity.Rebalance (Rebalance.Freeze (Freeze.Entry j))) h i).fresh tt)
+  own_linked (Activity.Rebalance (Rebalance.Replace Replace.Retire)) h i e = fresh_linked r.ledger.rows s l.row ((balance_at (Activity.Rebalance (Rebalance.Replace Replace.Retire)) h i).fresh tt)
+  own_linked (Activity.Rebalance (Rebalance.Seek Seek.Next)) h i e = absurd (cc)
   own_linked a h i e = absurd (cc)
 
   -- so was the one before its full row
   before_linked : (a : Activity) → Happens z r r' s choice l l' a → Shape z r → target_of a ≡ RowBefore → WasLinked r.ledger.rows l.row × ((p : ℕ) → l.rebalance.before ≡ Some p → WasLinked r.ledger.rows p)
-  before_linked Replace h i e = (fresh_linked r.ledger.rows s l.row ((balance_at Replace h i).fresh tt), λ p f. fresh_linked r.ledger.rows s p ((search_at Replace h i).fresh p tt f))
+  before_linked (Activity.Rebalance (Rebalance.Replace Replace.Exchange)) h i e = (fresh_linked r.ledger.rows s l.row ((balance_at (Activity.Rebalance (Rebalance.Replace Replace.Exchange)) h i).fresh tt), λ p f. fresh_linked r.ledger.rows s p ((search_at (Activity.Rebalance (Rebalance.Replace Replace.Exchange)) h i).fresh p tt f))
+  before_linked (Activity.Look Look.Key) h i e = absurd (cc)
+  before_linked (Activity.Put Put.Count) h i e = absurd (cc)
+  before_linked (Activity.Insert Insert.Link) h i e = absurd (cc)
+  before_linked (Activity.Rebalance (Rebalance.Engage Engage.Clock)) h i e = absurd (cc)
+  before_linked (Activity.Rebalance (Rebalance.Freeze Freeze.Count)) h i e = absurd (cc)
+  before_linked (Activity.Rebalance (Rebalance.Seek Seek.Next)) h i e = absurd (cc)
   before_linked a h i e = absurd (cc)
 
   -- another seat

@@ -3,7 +3,7 @@
 -- change.
 use Rattle.std.proofs.Common.{ℕ, ◌≡◌, ◌⊎◌, inl, inr, ◌*◌, ◌<◌, ◌==◌, ◌&&◌, Bool, true, false, Some, nat_lt, refl, sym, subst, slice_get, if◌then◌else◌}
 use Rattle.kw_world.specs.declared.activity.Activity.{Activity}
-use Rattle.kw_world.specs.declared.activity.Activity.TheVariants.{Leave, PutClear}
+use Rattle.kw_world.specs.declared.activity.put.Put.TheVariants as Put
 use Rattle.kw_world.specs.declared.answer.Answer.TheVariants.{Done}
 use Rattle.kw_world.specs.declared.event.Choice.{Choice}
 use Rattle.kw_world.specs.declared.event.Choice.TheVariants.{Begin, Go, Guess, Stop}
@@ -41,7 +41,7 @@ done_rests : (z : Sizes) (v : Words) (s : ℕ) (choice : Choice) (l : Local) (a 
 done_rests z v s choice l a k (builds b next y t) d e = absurd (no_building b y d)
   where
     no_building : (b : Activity) → IsBuilding b → IsDone b → ⊥
-    no_building (Leave answer) y d = y
+    no_building (Activity.Leave answer) y d = y
     no_building _ y d = d
 done_rests z v s choice l a k (leaves answer) d e = let y : false ≡ true = e in cc
 done_rests z v s choice l a k _ d e = d
@@ -60,7 +60,7 @@ taken_late rows Stop l e = let y : false ≡ true = e in cc
 module _ {z : Sizes} {r r' : Run} {s : ℕ} {choice : Choice} {l l' : Local} where
   -- a seat that clears its entry and does not leave has made such a choice
   offered_now : (a : Activity) → IsPutClear a → Happens z r r' s choice l l' a → Shape z r → l'.tidies ≡ true → r.world.rows < TIDY_SHARE * l'.epoch
-  offered_now PutClear u h i e = subst (λ (k : Local). r.world.rows < TIDY_SHARE * k.epoch) (sym h.next) (met (tidies_row r.world.rows choice l) refl (subst (λ (k : Local). k.tidies ≡ true) h.next e))
+  offered_now (Activity.Put Put.Clear) u h i e = subst (λ (k : Local). r.world.rows < TIDY_SHARE * k.epoch) (sym h.next) (met (tidies_row r.world.rows choice l) refl (subst (λ (k : Local). k.tidies ≡ true) h.next e))
     where
       tidied : IsBalancing l.activity ⊎ IsDone l.activity → ⊥
       tidied (inl y) = subst IsBalancing h.activity y

@@ -7,7 +7,9 @@ use Rattle.kw_words.specs.declared.layout.Name.TheVariants as name
 use Rattle.kw_words.specs.Plain.{pass_word}
 use Rattle.kw_rows.specs.Ledger.{Past}
 use Rattle.kw_world.specs.declared.activity.Activity.{Activity}
-use Rattle.kw_world.specs.declared.activity.Activity.TheVariants.{Idle, Enter, Again, AgainEpoch, Number}
+use Rattle.kw_world.specs.declared.activity.enter.Enter.TheVariants as Enter
+use Rattle.kw_world.specs.declared.activity.rebalance.Rebalance.TheVariants as Rebalance
+use Rattle.kw_world.specs.declared.activity.rebalance.replace.Replace.TheVariants as Replace
 use Rattle.kw_world.specs.declared.event.Choice.{Choice}
 use Rattle.kw_world.specs.declared.local.Local.{Local}
 use Rattle.kw_world.specs.Sizes.{Sizes}
@@ -45,7 +47,7 @@ rest_passes l k (scans_on q o y n u) = (tt, tt, refl)
 
 -- a seat that is in a pass makes a call
 pub passing_busy : (a : Activity) → IsPassing a → IsBusy a
-passing_busy Idle x = absurd x
+passing_busy Activity.Idle x = absurd x
 passing_busy _ x = tt
 
 arrow_passes : (z : Sizes) (v : Words) (s : ℕ) (choice : Choice) (l : Local) (a : Activity) (k : Local) → Arrow z v s choice l a k → IsPassing a → (WritesPass a → ⊥) → StaysIn l k
@@ -71,17 +73,17 @@ arrow_passes z v s choice l a k _ p n = (tt, tt, refl)
 module _ {z : Sizes} {r r' : Run} {s : ℕ} {choice : Choice} {l l' : Local} where
   -- the epoch does not fall
   epoch_rises : (a : Activity) → Happens z r r' s choice l l' a → word z r.world name.Epoch ≤ word z r'.world name.Epoch
-  epoch_rises Number h = omega (arith, number_drawn h)
+  epoch_rises (Activity.Rebalance (Rebalance.Replace Replace.Number)) h = omega (arith, number_drawn h)
   epoch_rises a h = omega (arith, epoch_stays a h (λ x. x))
 
   -- a number below it stays drawn where it was, or undrawn
   pub old_number : (a : Activity) → Happens z r r' s choice l l' a → (m : ℕ) → m < word z r.world name.Epoch → r'.ledger.rows.numbered m ≡ r.ledger.rows.numbered m
-  old_number Number h m o = other_numbers h m (λ e. omega (arith, o, e))
+  old_number (Activity.Rebalance (Rebalance.Replace Replace.Number)) h m o = other_numbers h m (λ e. omega (arith, o, e))
   old_number a h m o = numbers_stay a h (λ x. x) m
 
   -- the numbers are as they were, or one more is drawn
   numbers_by : (a : Activity) → Happens z r r' s choice l l' a → Past r.ledger.rows (length r.history.log) → Numbers (word z r.world) r.ledger.rows → Numbers (word z r'.world) r'.ledger.rows
-  numbers_by Number h past n = record { below = λ m at e. below m at e (cases_eq m (word z r.world name.Epoch)); rises = λ m k x y e f o. rises m k x y e f o (cases_eq m (word z r.world name.Epoch)) (cases_eq k (word z r.world name.Epoch)) }
+  numbers_by (Activity.Rebalance (Rebalance.Replace Replace.Number)) h past n = record { below = λ m at e. below m at e (cases_eq m (word z r.world name.Epoch)); rises = λ m k x y e f o. rises m k x y e f o (cases_eq m (word z r.world name.Epoch)) (cases_eq k (word z r.world name.Epoch)) }
     where
       below : (m at : ℕ) → r'.ledger.rows.numbered m ≡ Some at → (m ≡ word z r.world name.Epoch) ⊎ (m ≡ word z r.world name.Epoch → ⊥) → m < word z r'.world name.Epoch
       below m at e (inl c) = omega (arith, c, number_drawn h)
@@ -139,15 +141,15 @@ module _ (z : Sizes) (r r' : Run) (s : ℕ) (choice : Choice) (l : Local) (a : A
       }
 
 -- a seat that enters begins its pass: every number that is drawn was drawn before
-entered : (z : Sizes) (r r' : Run) (s : ℕ) (choice : Choice) (l l' : Local) → Happens z r r' s choice l l' Enter → Shape z r → StaysIn l l' → Passes (word z r'.world) r'.ledger.rows s l'.activity l'
+entered : (z : Sizes) (r r' : Run) (s : ℕ) (choice : Choice) (l l' : Local) → Happens z r r' s choice l l' (Activity.Enter Enter.Announce) → Shape z r → StaysIn l l' → Passes (word z r'.world) r'.ledger.rows s l'.activity l'
 entered z r r' s choice l l' h i g =
     let p = subst (λ q. Passes (word z r.world) r.ledger.rows s q l) h.activity (i.passes s l h.knows) in
     let c = p.epoch tt in
     record {
       in_pass = λ x. record { since = length r.history.log; passes = pass_begins h; word = h.changed.same ∙ ap (λ n. pass_word (Some n)) (sym g.2) };
       in_none = λ x. absurd (x g.0);
-      epoch = λ x. (omega (arith, c.0, g.2), omega (arith, c.1, g.2, epoch_rises Enter h));
-      before = λ m at since o u y. omega (arith, i.rows.past.drawn m at (sym (numbers_stay Enter h (λ x. x) m) ∙ u), same_Some (length r.history.log) since (sym (pass_begins h) ∙ y));
+      epoch = λ x. (omega (arith, c.0, g.2), omega (arith, c.1, g.2, epoch_rises (Activity.Enter Enter.Announce) h));
+      before = λ m at since o u y. omega (arith, i.rows.past.drawn m at (sym (numbers_stay (Activity.Enter Enter.Announce) h (λ x. x) m) ∙ u), same_Some (length r.history.log) since (sym (pass_begins h) ∙ y));
     }
 
 -- the acting seat is in its pass, or in none
@@ -156,11 +158,11 @@ passes_own z r r' s choice l a l' (builds b next y t) h i = let x = built_passes
 passes_own z r r' s choice l a l' (begins call e b) h i =
     let p = subst (λ q. Passes (word z r.world) r.ledger.rows s q l) h.activity (i.passes s l h.knows) in
     let q = p.in_none (λ x. x) in
-    let e = others_stay Idle h s (λ x e. x) in
+    let e = others_stay Activity.Idle h s (λ x e. x) in
     record {
       in_pass = λ x. absurd x;
-      in_none = λ x. record { passes = e ∙ q.passes; word = pass_kept Idle h s h.seat (λ x e. x) ∙ q.word };
-      epoch = λ x. ((i.sane.each name.Epoch tt).0, omega (arith, epoch_rises Idle h));
+      in_none = λ x. record { passes = e ∙ q.passes; word = pass_kept Activity.Idle h s h.seat (λ x e. x) ∙ q.word };
+      epoch = λ x. ((i.sane.each name.Epoch tt).0, omega (arith, epoch_rises Activity.Idle h));
       before = λ m at since o u y. let x : None ≡ Some since = sym (e ∙ q.passes) ∙ y in absurd (cc);
     }
 passes_own z r r' s choice l a l' (enters e) h i = entered z r r' s choice l l' h i (tt, tt, refl)
@@ -177,17 +179,17 @@ passes_own z r r' s choice l a l' retries h i =
     record {
       in_pass = λ x. absurd x;
       in_none = λ x. record { passes = pass_taken_back h; word = h.changed.same };
-      epoch = λ x. (c.0, omega (arith, c.1, epoch_rises Again h));
+      epoch = λ x. (c.0, omega (arith, c.1, epoch_rises Activity.Retry h));
       before = λ m at since o u y. let x : None ≡ Some since = sym (pass_taken_back h) ∙ y in absurd (cc);
     }
 passes_own z r r' s choice l a l' enters_again h i =
     let p = subst (λ q. Passes (word z r.world) r.ledger.rows s q l) h.activity (i.passes s l h.knows) in
     let q = p.in_none (λ x. x) in
-    let e = others_stay AgainEpoch h s (λ x e. x) in
+    let e = others_stay (Activity.Enter Enter.LoadEpoch) h s (λ x e. x) in
     record {
       in_pass = λ x. absurd x;
-      in_none = λ x. record { passes = e ∙ q.passes; word = pass_kept AgainEpoch h s h.seat (λ x e. x) ∙ q.word };
-      epoch = λ x. ((i.sane.each name.Epoch tt).0, omega (arith, epoch_rises AgainEpoch h));
+      in_none = λ x. record { passes = e ∙ q.passes; word = pass_kept (Activity.Enter Enter.LoadEpoch) h s h.seat (λ x e. x) ∙ q.word };
+      epoch = λ x. ((i.sane.each name.Epoch tt).0, omega (arith, epoch_rises (Activity.Enter Enter.LoadEpoch) h));
       before = λ m at since o u y. let x : None ≡ Some since = sym (e ∙ q.passes) ∙ y in absurd (cc);
     }
 passes_own z r r' s choice l a l' b h i = goes_on z r r' s choice l _ l' h i (subst (λ q. Passes (word z r.world) r.ledger.rows s q l) h.activity (i.passes s l h.knows)) tt tt (λ x. x) (arrow_passes z (word z r.world) s choice l _ l' b tt (λ x. x))

@@ -3,7 +3,7 @@
 use Rattle.std.proofs.Common.{ℕ, ◌≡◌, ◌⊎◌, inl, inr, true, Some, arith, sym, ◌∙◌, ap}
 use Rattle.kw_rows.specs.Ledger.{Ledger, IsFresh}
 use Rattle.kw_world.specs.declared.activity.Activity.{Activity}
-use Rattle.kw_world.specs.declared.activity.Activity.TheVariants.{Idle, Enter, GuessMin, Walk, WalkMin, AgainEpoch}
+use Rattle.kw_world.specs.declared.activity.walk.Walk.TheVariants as Walk
 use Rattle.kw_world.specs.declared.local.Local.{Local}
 use Rattle.kw_world.specs.Calls.{first_key, is_scan}
 use Rattle.kw_core.specs.Stages.{IsPassing, IsPastStart}
@@ -19,22 +19,20 @@ pub record RelyRows (v v' : Words) (g g' : Ledger) (t : ℕ) : Type 0 where
 
 -- a seat past the start of its walk may name its row
 pub fresh_past : (v : Words) (g : Ledger) (t : ℕ) (a : Activity) (l : Local) → Walks v g t a l → IsPastStart a → IsFresh g t l.row
-fresh_past v g t Walk l w x = w.on.0
-fresh_past v g t WalkMin l w x = w.on.0
+fresh_past v g t (Activity.Walk Walk.Next) l w x = w.on.0
+fresh_past v g t (Activity.Walk Walk.NextLeast) l w x = w.on.0
 fresh_past v g t _ l w x = (w.at x).fresh
 
 -- a seat is in a pass or in none
 pub is_passing : (a : Activity) → IsPassing a ⊎ (IsPassing a → ⊥)
-is_passing Idle = inr (λ x. x)
-is_passing Enter = inr (λ x. x)
-is_passing AgainEpoch = inr (λ x. x)
+is_passing Activity.Idle = inr (λ x. x)
+is_passing (Activity.Enter _) = inr (λ x. x)
 is_passing _ = inl tt
 
 -- a seat that is in no pass is nowhere along the rows
 pub walks_outside : (v : Words) (g : Ledger) (t : ℕ) (a : Activity) (l : Local) → (IsPassing a → ⊥) → Walks v g t a l
-walks_outside v g t Idle l n = record { on = tt; lower = λ x. absurd x; at = λ x. absurd x; begins = λ x. absurd x; wants = λ x. absurd x }
-walks_outside v g t Enter l n = record { on = tt; lower = λ x. absurd x; at = λ x. absurd x; begins = λ x. absurd x; wants = λ x. absurd x }
-walks_outside v g t AgainEpoch l n = record { on = tt; lower = λ x. absurd x; at = λ x. absurd x; begins = λ x. absurd x; wants = λ x. absurd x }
+walks_outside v g t Activity.Idle l n = record { on = tt; lower = λ x. absurd x; at = λ x. absurd x; begins = λ x. absurd x; wants = λ x. absurd x }
+walks_outside v g t (Activity.Enter _) l n = record { on = tt; lower = λ x. absurd x; at = λ x. absurd x; begins = λ x. absurd x; wants = λ x. absurd x }
 walks_outside v g t _ l n = absurd (n tt)
 
 module _ (v v' : Words) (g g' : Ledger) (t : ℕ) (y : RelyRows v v' g g' t) where
@@ -50,9 +48,9 @@ module _ (v v' : Words) (g g' : Ledger) (t : ℕ) (y : RelyRows v v' g g' t) whe
   }
 
   on_stable : (a : Activity) (l : Local) → IsOnWalk a v g t l → IsOnWalk a v' g' t l
-  on_stable GuessMin l x = y.fresh l.row x
-  on_stable Walk l x = (y.fresh l.row x.0, omega (arith, x.1, y.least l.row x.0))
-  on_stable WalkMin l x = (y.fresh l.row x.0, omega (arith, x.1, y.least l.row x.0), y.fresh l.candidate x.2, y.upper l.row x.0 ∙ x.3 ∙ ap Some (sym (y.least l.candidate x.2)))
+  on_stable (Activity.Walk Walk.GuessedLeast) l x = y.fresh l.row x
+  on_stable (Activity.Walk Walk.Next) l x = (y.fresh l.row x.0, omega (arith, x.1, y.least l.row x.0))
+  on_stable (Activity.Walk Walk.NextLeast) l x = (y.fresh l.row x.0, omega (arith, x.1, y.least l.row x.0), y.fresh l.candidate x.2, y.upper l.row x.0 ∙ x.3 ∙ ap Some (sym (y.least l.candidate x.2)))
   on_stable _ l x = tt
 
   -- where a seat is

@@ -19,7 +19,9 @@ use Rattle.kw_rows.specs.Events.{Event, IsIn, IsOpenLink, Links, Rises, replaces
 use Rattle.kw_rows.specs.Group.{Alone, Group}
 use Rattle.kw_rows.specs.Ledger.{Fate, Ledger, IsHeld}
 use Rattle.kw_rows.specs.Rows.{WasLinked, bound, leads}
-use Rattle.kw_world.specs.declared.activity.Activity.TheVariants.{Before, Replace}
+use Rattle.kw_world.specs.declared.activity.Activity.TheVariants as Activity
+use Rattle.kw_world.specs.declared.activity.rebalance.Rebalance.TheVariants as Rebalance
+use Rattle.kw_world.specs.declared.activity.rebalance.replace.Replace.TheVariants as Replace
 use Rattle.kw_world.specs.declared.event.Choice.{Choice}
 use Rattle.kw_world.specs.declared.local.Local.{Local}
 use Rattle.kw_world.specs.ReplaceTransitions.{first_infant, replaced_link}
@@ -44,13 +46,13 @@ use Rattle.kw_shape.specs.RowsIn.{has_frozen, has_mark, rows_in}
 
 -- What is read of a row that is written whole.
 
-pub whole_next : (z : Sizes) (v : Words) (k : Local) (q : ℕ) → IsLink (infant_link k) → Written z v Before k q → link_of (v (name.Next q)) ≡ Some (infant_link k)
+pub whole_next : (z : Sizes) (v : Words) (k : Local) (q : ℕ) → IsLink (infant_link k) → Written z v (Activity.Rebalance (Rebalance.Replace Replace.Start)) k q → link_of (v (name.Next q)) ≡ Some (infant_link k)
 whole_next z v k q i w = ap link_of (w.next tt) ∙ link_of-link_word (infant_link k) i
 
-whole_count : (z : Sizes) (v : Words) (k : Local) (q : ℕ) → IsCount (infant_count k) → Written z v Before k q → count_of (v (name.Count q)) ≡ Some (infant_count k)
+whole_count : (z : Sizes) (v : Words) (k : Local) (q : ℕ) → IsCount (infant_count k) → Written z v (Activity.Rebalance (Rebalance.Replace Replace.Start)) k q → count_of (v (name.Count q)) ≡ Some (infant_count k)
 whole_count z v k q i w = ap count_of (w.count tt) ∙ count_of-count_word (infant_count k) i
 
-pub whole_least : (z : Sizes) (v : Words) (k : Local) (q : ℕ) → infant_least k < KEY_END → Written z v Before k q → least_in v q ≡ infant_least k
+pub whole_least : (z : Sizes) (v : Words) (k : Local) (q : ℕ) → infant_least k < KEY_END → Written z v (Activity.Rebalance (Rebalance.Replace Replace.Start)) k q → least_in v q ≡ infant_least k
 whole_least z v k q i w = ap key_of_word (w.least tt) ∙ key_of_word-key_word (infant_least k) i
 
 -- rows of which each leads to the next one of a list, and the last one there, are so linked
@@ -68,7 +70,7 @@ pub record MayReplace (z : Sizes) (v : Words) (g : Ledger) (s : ℕ) (l : Local)
   -- its infants, written whole, whose words fit
   pub own : Own g s l.rebalance.taken
   pub some : 0 < length l.rebalance.taken
-  pub whole : (i q : ℕ) → slice_get l.rebalance.taken i ≡ Some q → Written z v Before (at_infant i l) q
+  pub whole : (i q : ℕ) → slice_get l.rebalance.taken i ≡ Some q → Written z v (Activity.Rebalance (Rebalance.Replace Replace.Start)) (at_infant i l) q
   pub links : (i : ℕ) → IsLink (infant_link (at_infant i l))
   pub counts : (i : ℕ) → IsCount (infant_count (at_infant i l))
   pub fits : l.lower < KEY_END
@@ -105,7 +107,7 @@ exchanged_head v (Some p) = refl
 
 module _ {z : Sizes} {r r' : Run} {s : ℕ} {choice : Choice} {l l' : Local} where
   -- the event
-  pub replacing : Happens z r r' s choice l l' Replace → IsSane z r.world → MayReplace z (word z r.world) r.ledger.rows s l → link_of (word z r.world (replaced_link l.rebalance.before)) ≡ Some (unmarked_link (Some l.row)) →
+  pub replacing : Happens z r r' s choice l l' (Activity.Rebalance (Rebalance.Replace Replace.Exchange)) → IsSane z r.world → MayReplace z (word z r.world) r.ledger.rows s l → link_of (word z r.world (replaced_link l.rebalance.before)) ≡ Some (unmarked_link (Some l.row)) →
       (n : ℕ) (more : List ℕ) → l.rebalance.taken ≡ n ∷ more → Event (rows_in (word z r.world)) (rows_in (word z r'.world)) r.ledger.rows r'.ledger.rows (length r.history.log)
   replacing h sane m e n more t = replaces l.rebalance.before l.row None l.rebalance.after n more (record {
     link = opened l.rebalance.before refl e;
@@ -122,9 +124,9 @@ module _ {z : Sizes} {r r' : Run} {s : ℕ} {choice : Choice} {l l' : Local} whe
     leads_on = exchanged_head (word z r'.world) l.rebalance.before ∙ ap (λ w. row_linked (link_of w)) (replaced_won h e) ∙ ap row_linked (link_of-link_word (unmarked_link (Some (first_infant l))) m.first) ∙ ap Some first;
     others = λ q d. other q d;
     marked = λ x. marked x (is_before l.rebalance.before x);
-    frozen = λ x. ap (λ w. has_frozen (count_of w)) (count_word Replace h sane x (λ c. c));
-    leasts = λ x. ap key_of_word (least_word Replace h sane x (λ c. c));
-    states = λ x. state_kept Replace h sane x (λ c. c);
+    frozen = λ x. ap (λ w. has_frozen (count_of w)) (count_word (Activity.Rebalance (Rebalance.Replace Replace.Exchange)) h sane x (λ c. c));
+    leasts = λ x. ap key_of_word (least_word (Activity.Rebalance (Rebalance.Replace Replace.Exchange)) h sane x (λ c. c));
+    states = λ x. state_kept (Activity.Rebalance (Rebalance.Replace Replace.Exchange)) h sane x (λ c. c);
     gone_dead = λ x i. ap (λ (f : Fate). f.status) (dead x i);
     gone_now = λ x i. ap (λ (f : Fate). f.gone) (dead x i);
     gone_born = λ x i. ap (λ (f : Fate). f.born) (dead x i);
@@ -133,8 +135,8 @@ module _ {z : Sizes} {r r' : Run} {s : ℕ} {choice : Choice} {l l' : Local} whe
     come_born = λ x i. omega (arith, ap (λ (f : Fate). f.born) (live x i));
     come_owner = λ x i. ap (λ (f : Fate). f.owner) (live x i);
     come_upper = λ x i. ap (λ (f : Fate). f.upper) (live x i) ∙ bound_is (word z r.world) (next_in (word z r.world) x);
-    fates = λ x a b. fate_stays Replace h x (λ c. stays x a b c);
-    passes = passes_stay Replace h (λ c. c) (λ c. c);
+    fates = λ x a b. fate_stays (Activity.Rebalance (Rebalance.Replace Replace.Exchange)) h x (λ c. stays x a b c);
+    passes = passes_stay (Activity.Rebalance (Rebalance.Replace Replace.Exchange)) h (λ c. c) (λ c. c);
   })
     where
       won : word z r.world (replaced_link l.rebalance.before) ≡ link_word (unmarked_link (Some l.row))
@@ -166,11 +168,11 @@ module _ {z : Sizes} {r r' : Run} {s : ℕ} {choice : Choice} {l l' : Local} whe
       first = ap (λ xs. slice_index xs 0) t
 
       other : (q : Option ℕ) → q ≢ l.rebalance.before → leads (rows_in (word z r'.world)) q ≡ leads (rows_in (word z r.world)) q
-      other None d = ap (λ w. row_linked (link_of w)) (head_stays Replace h (λ c. d (sym c)))
-      other (Some x) d = ap (λ w. row_linked (link_of w)) (next_word Replace h sane x (λ c. d (sym c)))
+      other None d = ap (λ w. row_linked (link_of w)) (head_stays (Activity.Rebalance (Rebalance.Replace Replace.Exchange)) h (λ c. d (sym c)))
+      other (Some x) d = ap (λ w. row_linked (link_of w)) (next_word (Activity.Rebalance (Rebalance.Replace Replace.Exchange)) h sane x (λ c. d (sym c)))
 
       marked : (x : ℕ) → (l.rebalance.before ≡ Some x) ⊎ (l.rebalance.before ≡ Some x → ⊥) → (rows_in (word z r'.world)).marked x ≡ (rows_in (word z r.world)).marked x
-      marked x (inr d) = ap (λ w. has_mark (link_of w)) (next_word Replace h sane x d)
+      marked x (inr d) = ap (λ w. has_mark (link_of w)) (next_word (Activity.Rebalance (Rebalance.Replace Replace.Exchange)) h sane x d)
       marked x (inl c) =
           let after : word z r'.world (name.Next x) ≡ link_word (unmarked_link (Some (first_infant l))) = subst (λ b. word z r'.world (replaced_link b) ≡ link_word (unmarked_link (Some (first_infant l)))) c (replaced_won h e) in
           let before : link_of (word z r.world (name.Next x)) ≡ Some (unmarked_link (Some l.row)) = subst (λ b. link_of (word z r.world (replaced_link b)) ≡ Some (unmarked_link (Some l.row))) c e in
@@ -188,17 +190,17 @@ module _ {z : Sizes} {r r' : Run} {s : ℕ} {choice : Choice} {l l' : Local} whe
       stays x a b (inr c) = b (subst (λ xs. IsIn xs x) t c)
 
   -- a lost exchange leaves all
-  pub not_replacing : Happens z r r' s choice l l' Replace → IsSane z r.world → word z r.world (replaced_link l.rebalance.before) ≢ link_word (unmarked_link (Some l.row)) → Event (rows_in (word z r.world)) (rows_in (word z r'.world)) r.ledger.rows r'.ledger.rows (length r.history.log)
+  pub not_replacing : Happens z r r' s choice l l' (Activity.Rebalance (Rebalance.Replace Replace.Exchange)) → IsSane z r.world → word z r.world (replaced_link l.rebalance.before) ≢ link_word (unmarked_link (Some l.row)) → Event (rows_in (word z r.world)) (rows_in (word z r'.world)) r.ledger.rows r'.ledger.rows (length r.history.log)
   not_replacing h sane d = rests (record {
     links = record {
       head = ap (λ w. row_linked (link_of w)) (head l.rebalance.before refl);
       next = λ x. ap (λ w. row_linked (link_of w)) (next x (is_before l.rebalance.before x));
       marked = λ x. ap (λ w. has_mark (link_of w)) (next x (is_before l.rebalance.before x));
-      frozen = λ x. ap (λ w. has_frozen (count_of w)) (count_word Replace h sane x (λ c. c));
-      least = λ x. ap key_of_word (least_word Replace h sane x (λ c. c));
+      frozen = λ x. ap (λ w. has_frozen (count_of w)) (count_word (Activity.Rebalance (Rebalance.Replace Replace.Exchange)) h sane x (λ c. c));
+      least = λ x. ap key_of_word (least_word (Activity.Rebalance (Rebalance.Replace Replace.Exchange)) h sane x (λ c. c));
     };
-    states = λ x. state_kept Replace h sane x (λ c. c);
-    ledger = record { fates = λ x. ap (λ (g : ledger.Ledger). g.rows.fates x) (none_replaced h d); others = passes_stay Replace h (λ c. c) (λ c. c) };
+    states = λ x. state_kept (Activity.Rebalance (Rebalance.Replace Replace.Exchange)) h sane x (λ c. c);
+    ledger = record { fates = λ x. ap (λ (g : ledger.Ledger). g.rows.fates x) (none_replaced h d); others = passes_stay (Activity.Rebalance (Rebalance.Replace Replace.Exchange)) h (λ c. c) (λ c. c) };
   })
     where
       still : word z r'.world (replaced_link l.rebalance.before) ≡ word z r.world (replaced_link l.rebalance.before)
@@ -206,14 +208,14 @@ module _ {z : Sizes} {r r' : Run} {s : ℕ} {choice : Choice} {l l' : Local} whe
 
       head : (b : Option ℕ) → l.rebalance.before ≡ b → word z r'.world name.Head ≡ word z r.world name.Head
       head None c = subst (λ b. word z r'.world (replaced_link b) ≡ word z r.world (replaced_link b)) c still
-      head (Some p) c = head_stays Replace h (λ f. let g : Some p ≡ None = sym c ∙ f in cc)
+      head (Some p) c = head_stays (Activity.Rebalance (Rebalance.Replace Replace.Exchange)) h (λ f. let g : Some p ≡ None = sym c ∙ f in cc)
 
       next : (x : ℕ) → (l.rebalance.before ≡ Some x) ⊎ (l.rebalance.before ≡ Some x → ⊥) → word z r'.world (name.Next x) ≡ word z r.world (name.Next x)
       next x (inl c) = subst (λ b. word z r'.world (replaced_link b) ≡ word z r.world (replaced_link b)) c still
-      next x (inr n) = next_word Replace h sane x n
+      next x (inr n) = next_word (Activity.Rebalance (Rebalance.Replace Replace.Exchange)) h sane x n
 
   -- so an exchange is one of these two, and what the seat must know is asked for where it is won
-  pub replace_event : Happens z r r' s choice l l' Replace → IsSane z r.world → IsLink (unmarked_link (Some l.row)) → (word z r.world (replaced_link l.rebalance.before) ≡ link_word (unmarked_link (Some l.row)) → MayReplace z (word z r.world) r.ledger.rows s l) →
+  pub replace_event : Happens z r r' s choice l l' (Activity.Rebalance (Rebalance.Replace Replace.Exchange)) → IsSane z r.world → IsLink (unmarked_link (Some l.row)) → (word z r.world (replaced_link l.rebalance.before) ≡ link_word (unmarked_link (Some l.row)) → MayReplace z (word z r.world) r.ledger.rows s l) →
       Event (rows_in (word z r.world)) (rows_in (word z r'.world)) r.ledger.rows r'.ledger.rows (length r.history.log)
   replace_event h sane small may = which (cases_eq (word z r.world (replaced_link l.rebalance.before)) (link_word (unmarked_link (Some l.row))))
     where

@@ -27,7 +27,14 @@ use Rattle.kw_rows.proofs.Kept.{kept}
 use Rattle.kw_rows.proofs.Named.{held_by}
 use Rattle.kw_rows.proofs.Views.{may_freeze, may_mark}
 use Rattle.kw_world.specs.declared.activity.Activity.{Activity}
-use Rattle.kw_world.specs.declared.activity.Activity.TheVariants.{Enter, PutAdd, Leave, Again, BalNormal, Engage, MarkLink, Decide, FreezeCount, Reclaim, TakeRow, GiveBack, WriteCount, WriteMin, WriteNext, WriteFirst, WritePend, WriteKey, WriteValue, WriteVersion, WriteAfter, Replace, Normalise, Number, Retire}
+use Rattle.kw_world.specs.declared.activity.rebalance.engage.Engage.TheVariants as Engage
+use Rattle.kw_world.specs.declared.activity.enter.Enter.TheVariants as Enter
+use Rattle.kw_world.specs.declared.activity.rebalance.freeze.Freeze.TheVariants as Freeze
+use Rattle.kw_world.specs.declared.activity.put.Put.TheVariants as Put
+use Rattle.kw_world.specs.declared.activity.rebalance.Rebalance.TheVariants as Rebalance
+use Rattle.kw_world.specs.declared.activity.rebalance.replace.Replace.TheVariants as Replace
+use Rattle.kw_world.specs.declared.activity.rebalance.seek.Seek.TheVariants as Seek
+use Rattle.kw_world.specs.declared.activity.rebalance.write.Write.TheVariants as Write
 use Rattle.kw_world.specs.declared.answer.Answer.{Answer}
 use Rattle.kw_world.specs.declared.event.Choice.{Choice}
 use Rattle.kw_world.specs.declared.local.Local.{Local}
@@ -74,13 +81,13 @@ module _ {z : Sizes} {r r' : Run} {s : ℕ} {choice : Choice} {l l' : Local} whe
 
   -- the head, the links and the least keys are as they were where a cell is asked for, and no count
   -- thaws or freezes
-  more_given : Happens z r r' s choice l l' PutAdd → IsSane z r.world → SameLinks (rows_in (word z r.world)) (rows_in (word z r'.world))
+  more_given : Happens z r r' s choice l l' (Activity.Put Put.Add) → IsSane z r.world → SameLinks (rows_in (word z r.world)) (rows_in (word z r'.world))
   more_given h sane = record {
-    head = ap (λ w. row_linked (link_of w)) (head_stays PutAdd h (λ c. c));
-    next = λ q. ap (λ w. row_linked (link_of w)) (next_word PutAdd h sane q (λ c. c));
-    marked = λ q. ap (λ w. has_mark (link_of w)) (next_word PutAdd h sane q (λ c. c));
+    head = ap (λ w. row_linked (link_of w)) (head_stays (Activity.Put Put.Add) h (λ c. c));
+    next = λ q. ap (λ w. row_linked (link_of w)) (next_word (Activity.Put Put.Add) h sane q (λ c. c));
+    marked = λ q. ap (λ w. has_mark (link_of w)) (next_word (Activity.Put Put.Add) h sane q (λ c. c));
     frozen = λ q. which q (cases_eq q l.row);
-    least = λ q. ap key_of_word (least_word PutAdd h sane q (λ c. c));
+    least = λ q. ap key_of_word (least_word (Activity.Put Put.Add) h sane q (λ c. c));
   }
     where
       here : has_frozen (count_of (word z r'.world (name.Count l.row))) ≡ has_frozen (count_of (word z r.world (name.Count l.row)))
@@ -88,7 +95,7 @@ module _ {z : Sizes} {r r' : Run} {s : ℕ} {choice : Choice} {l l' : Local} whe
 
       which : (q : ℕ) → (q ≡ l.row) ⊎ (q ≡ l.row → ⊥) → has_frozen (count_of (word z r'.world (name.Count q))) ≡ has_frozen (count_of (word z r.world (name.Count q)))
       which q (inl e) = subst (λ x. has_frozen (count_of (word z r'.world (name.Count x))) ≡ has_frozen (count_of (word z r.world (name.Count x)))) (sym e) here
-      which q (inr d) = ap (λ w. has_frozen (count_of w)) (count_word PutAdd h sane q d)
+      which q (inr d) = ap (λ w. has_frozen (count_of w)) (count_word (Activity.Put Put.Add) h sane q d)
 
   -- The ledger.
 
@@ -97,13 +104,13 @@ module _ {z : Sizes} {r r' : Run} {s : ℕ} {choice : Choice} {l l' : Local} whe
   others_kept a h t d = others_stay a h t (λ x e. d e)
 
   -- a seat that enters is in a pass, and one that leaves or tries again is in none
-  pub pass_begins : Happens z r r' s choice l l' Enter → r'.ledger.rows.passes s ≡ Some (length r.history.log)
+  pub pass_begins : Happens z r r' s choice l l' (Activity.Enter Enter.Announce) → r'.ledger.rows.passes s ≡ Some (length r.history.log)
   pass_begins h = ap (λ (g : Ledger). g.rows.passes s) h.ledger ∙ chosen s s (Some (length r.history.log)) (r.ledger.rows.passes s) refl
 
-  pub pass_ends : (answer : Answer) → Happens z r r' s choice l l' (Leave answer) → r'.ledger.rows.passes s ≡ None
+  pub pass_ends : (answer : Answer) → Happens z r r' s choice l l' (Activity.Leave answer) → r'.ledger.rows.passes s ≡ None
   pass_ends answer h = ap (λ (g : Ledger). g.rows.passes s) h.ledger ∙ chosen s s None (r.ledger.rows.passes s) refl
 
-  pub pass_taken_back : Happens z r r' s choice l l' Again → r'.ledger.rows.passes s ≡ None
+  pub pass_taken_back : Happens z r r' s choice l l' Activity.Retry → r'.ledger.rows.passes s ≡ None
   pass_taken_back h = ap (λ (g : Ledger). g.rows.passes s) h.ledger ∙ chosen s s None (r.ledger.rows.passes s) refl
 
   -- The event.
@@ -127,11 +134,11 @@ module _ {z : Sizes} {r r' : Run} {s : ℕ} {choice : Choice} {l l' : Local} whe
   }
 
   -- a row that is engaged has a leader that has not decided
-  pub engaged_state : Happens z r r' s choice l l' Engage → word z r.world (name.State l.row) ≡ state_word state.Normal → (rows_in (word z r'.world)).state l.row ≡ row.Leader 0
+  pub engaged_state : Happens z r r' s choice l l' (Activity.Rebalance (Rebalance.Engage Engage.Lead)) → word z r.world (name.State l.row) ≡ state_word state.Normal → (rows_in (word z r'.world)).state l.row ≡ row.Leader 0
   engaged_state h e = word_says _ (state.Leader 0) (omega arith) (exchanged _ _ _ _ h.changed.same e)
 
   -- a seat that makes its row normal
-  normalising : (seat : ℕ) → Happens z r r' s choice l l' (BalNormal seat) → Shape z r → Event (rows_in (word z r.world)) (rows_in (word z r'.world)) r.ledger.rows r'.ledger.rows (length r.history.log)
+  normalising : (seat : ℕ) → Happens z r r' s choice l l' (Activity.Rebalance (Rebalance.Engage (Engage.Normal seat))) → Shape z r → Event (rows_in (word z r.world)) (rows_in (word z r'.world)) r.ledger.rows r'.ledger.rows (length r.history.log)
   normalising seat h i = which (cases_eq (word z r.world (name.State l.row)) (state_word (state.Infant seat)))
     where
       small : IsState (state.Infant seat)
@@ -139,42 +146,42 @@ module _ {z : Sizes} {r r' : Run} {s : ℕ} {choice : Choice} {l l' : Local} whe
 
       which : (word z r.world (name.State l.row) ≡ state_word (state.Infant seat)) ⊎ (word z r.world (name.State l.row) ≡ state_word (state.Infant seat) → ⊥) → Event (rows_in (word z r.world)) (rows_in (word z r'.world)) r.ledger.rows r'.ledger.rows (length r.history.log)
       which (inl e) = normalises l.row seat (record {
-        held = held_by r.ledger.rows s l.row ((balance_at (BalNormal seat) h i).fresh tt);
+        held = held_by r.ledger.rows s l.row ((balance_at (Activity.Rebalance (Rebalance.Engage (Engage.Normal seat))) h i).fresh tt);
         infant = word_says _ (state.Infant seat) small e;
-        sets = sets_state (BalNormal seat) h i.sane (λ c. c) (λ q c. c) (λ q c. c) (λ q c. c) l.row (λ q d c. d c) row.Normal (word_says _ state.Normal tt (exchanged _ _ _ _ h.changed.same e));
-        ledger = ledger_kept (BalNormal seat) h (λ q c. c) (λ c. c) (λ c. c);
+        sets = sets_state (Activity.Rebalance (Rebalance.Engage (Engage.Normal seat))) h i.sane (λ c. c) (λ q c. c) (λ q c. c) (λ q c. c) l.row (λ q d c. d c) row.Normal (word_says _ state.Normal tt (exchanged _ _ _ _ h.changed.same e));
+        ledger = ledger_kept (Activity.Rebalance (Rebalance.Engage (Engage.Normal seat))) h (λ q c. c) (λ c. c) (λ c. c);
       })
-      which (inr d) = rests (record { links = links_kept (BalNormal seat) h i.sane (λ c. c) (λ q c. c) (λ q c. c) (λ q c. c); states = states_still (BalNormal seat) h i.sane l.row (λ q n c. n c) (not_exchanged _ _ _ _ h.changed.same d); ledger = ledger_kept (BalNormal seat) h (λ q c. c) (λ c. c) (λ c. c) })
+      which (inr d) = rests (record { links = links_kept (Activity.Rebalance (Rebalance.Engage (Engage.Normal seat))) h i.sane (λ c. c) (λ q c. c) (λ q c. c) (λ q c. c); states = states_still (Activity.Rebalance (Rebalance.Engage (Engage.Normal seat))) h i.sane l.row (λ q n c. n c) (not_exchanged _ _ _ _ h.changed.same d); ledger = ledger_kept (Activity.Rebalance (Rebalance.Engage (Engage.Normal seat))) h (λ q c. c) (λ c. c) (λ c. c) })
 
   -- one that engages it
-  engaging : Happens z r r' s choice l l' Engage → Shape z r → Event (rows_in (word z r.world)) (rows_in (word z r'.world)) r.ledger.rows r'.ledger.rows (length r.history.log)
+  engaging : Happens z r r' s choice l l' (Activity.Rebalance (Rebalance.Engage Engage.Lead)) → Shape z r → Event (rows_in (word z r.world)) (rows_in (word z r'.world)) r.ledger.rows r'.ledger.rows (length r.history.log)
   engaging h i = which (cases_eq (word z r.world (name.State l.row)) (state_word state.Normal))
     where
       which : (word z r.world (name.State l.row) ≡ state_word state.Normal) ⊎ (word z r.world (name.State l.row) ≡ state_word state.Normal → ⊥) → Event (rows_in (word z r.world)) (rows_in (word z r'.world)) r.ledger.rows r'.ledger.rows (length r.history.log)
       which (inl e) = engages l.row (record {
-        held = held_by r.ledger.rows s l.row ((balance_at Engage h i).fresh tt);
+        held = held_by r.ledger.rows s l.row ((balance_at (Activity.Rebalance (Rebalance.Engage Engage.Lead)) h i).fresh tt);
         normal = word_says _ state.Normal tt e;
-        sets = sets_state Engage h i.sane (λ c. c) (λ q c. c) (λ q c. c) (λ q c. c) l.row (λ q d c. d c) (row.Leader 0) (engaged_state h e);
-        ledger = ledger_kept Engage h (λ q c. c) (λ c. c) (λ c. c);
+        sets = sets_state (Activity.Rebalance (Rebalance.Engage Engage.Lead)) h i.sane (λ c. c) (λ q c. c) (λ q c. c) (λ q c. c) l.row (λ q d c. d c) (row.Leader 0) (engaged_state h e);
+        ledger = ledger_kept (Activity.Rebalance (Rebalance.Engage Engage.Lead)) h (λ q c. c) (λ c. c) (λ c. c);
       })
-      which (inr d) = rests (record { links = links_kept Engage h i.sane (λ c. c) (λ q c. c) (λ q c. c) (λ q c. c); states = states_still Engage h i.sane l.row (λ q n c. n c) (not_exchanged _ _ _ _ h.changed.same d); ledger = ledger_kept Engage h (λ q c. c) (λ c. c) (λ c. c) })
+      which (inr d) = rests (record { links = links_kept (Activity.Rebalance (Rebalance.Engage Engage.Lead)) h i.sane (λ c. c) (λ q c. c) (λ q c. c) (λ q c. c); states = states_still (Activity.Rebalance (Rebalance.Engage Engage.Lead)) h i.sane l.row (λ q n c. n c) (not_exchanged _ _ _ _ h.changed.same d); ledger = ledger_kept (Activity.Rebalance (Rebalance.Engage Engage.Lead)) h (λ q c. c) (λ c. c) (λ c. c) })
 
   -- a state that is read stands there still
   pub read_state : (a : Activity) → Happens z r r' s choice l l' a → Shape z r → (t : State) → state_of (word z r.world (name.State l.row)) ≡ Some t → (ChangesState a s l l.row → ⊥) → (rows_in (word z r'.world)).state l.row ≡ state_met (Some t)
   read_state a h i t e n = state_kept a h i.sane l.row n ∙ ap state_met e
 
   -- one that marks its link
-  marking : (count : ℕ) → Happens z r r' s choice l l' (MarkLink count) → Shape z r → MarksLink (rows_in (word z r.world)) (rows_in (word z r'.world)) r.ledger.rows r'.ledger.rows l.row
+  marking : (count : ℕ) → Happens z r r' s choice l l' (Activity.Rebalance (Rebalance.Engage (Engage.MarkLink count))) → Shape z r → MarksLink (rows_in (word z r.world)) (rows_in (word z r'.world)) r.ledger.rows r'.ledger.rows l.row
   marking count h i = record {
-    engaged = may_mark (rows_in (word z r.world)) r.ledger.rows (length r.history.log) i.rows l.row count (balance_at (MarkLink count) h i).group;
-    head = ap (λ w. row_linked (link_of w)) (head_stays (MarkLink count) h (λ c. c));
+    engaged = may_mark (rows_in (word z r.world)) r.ledger.rows (length r.history.log) i.rows l.row count (balance_at (Activity.Rebalance (Rebalance.Engage (Engage.MarkLink count))) h i).group;
+    head = ap (λ w. row_linked (link_of w)) (head_stays (Activity.Rebalance (Rebalance.Engage (Engage.MarkLink count))) h (λ c. c));
     next = λ q. which q (cases_eq q l.row);
     marked = ap (λ w. has_mark (link_of w)) h.changed.same ∙ link.1;
-    others = λ q d. ap (λ w. has_mark (link_of w)) (next_word (MarkLink count) h i.sane q d);
-    frozen = λ q. ap (λ w. has_frozen (count_of w)) (count_word (MarkLink count) h i.sane q (λ c. c));
-    least = λ q. ap key_of_word (least_word (MarkLink count) h i.sane q (λ c. c));
-    states = λ q. state_kept (MarkLink count) h i.sane q (λ c. c);
-    ledger = ledger_kept (MarkLink count) h (λ q c. c) (λ c. c) (λ c. c);
+    others = λ q d. ap (λ w. has_mark (link_of w)) (next_word (Activity.Rebalance (Rebalance.Engage (Engage.MarkLink count))) h i.sane q d);
+    frozen = λ q. ap (λ w. has_frozen (count_of w)) (count_word (Activity.Rebalance (Rebalance.Engage (Engage.MarkLink count))) h i.sane q (λ c. c));
+    least = λ q. ap key_of_word (least_word (Activity.Rebalance (Rebalance.Engage (Engage.MarkLink count))) h i.sane q (λ c. c));
+    states = λ q. state_kept (Activity.Rebalance (Rebalance.Engage (Engage.MarkLink count))) h i.sane q (λ c. c);
+    ledger = ledger_kept (Activity.Rebalance (Rebalance.Engage (Engage.MarkLink count))) h (λ q c. c) (λ c. c) (λ c. c);
   }
     where
       link : (row_linked (link_of (bit_or (word z r.world (name.Next l.row)) MARK_BIT)) ≡ row_linked (link_of (word z r.world (name.Next l.row)))) × (has_mark (link_of (bit_or (word z r.world (name.Next l.row)) MARK_BIT)) ≡ true)
@@ -182,40 +189,40 @@ module _ {z : Sizes} {r r' : Run} {s : ℕ} {choice : Choice} {l l' : Local} whe
 
       which : (q : ℕ) → (q ≡ l.row) ⊎ (q ≡ l.row → ⊥) → next_in (word z r'.world) q ≡ next_in (word z r.world) q
       which q (inl e) = subst (λ x. next_in (word z r'.world) x ≡ next_in (word z r.world) x) (sym e) (ap (λ w. row_linked (link_of w)) h.changed.same ∙ link.0)
-      which q (inr d) = ap (λ w. row_linked (link_of w)) (next_word (MarkLink count) h i.sane q d)
+      which q (inr d) = ap (λ w. row_linked (link_of w)) (next_word (Activity.Rebalance (Rebalance.Engage (Engage.MarkLink count))) h i.sane q d)
 
   -- so the link is marked from now on, and leads where it led
-  pub row_marked : (count : ℕ) → Happens z r r' s choice l l' (MarkLink count) → Shape z r → (rows_in (word z r'.world)).marked l.row ≡ true
+  pub row_marked : (count : ℕ) → Happens z r r' s choice l l' (Activity.Rebalance (Rebalance.Engage (Engage.MarkLink count))) → Shape z r → (rows_in (word z r'.world)).marked l.row ≡ true
   row_marked count h i = (marking count h i).marked
 
-  pub row_next : (count : ℕ) → Happens z r r' s choice l l' (MarkLink count) → Shape z r → next_in (word z r'.world) l.row ≡ next_in (word z r.world) l.row
+  pub row_next : (count : ℕ) → Happens z r r' s choice l l' (Activity.Rebalance (Rebalance.Engage (Engage.MarkLink count))) → Shape z r → next_in (word z r'.world) l.row ≡ next_in (word z r.world) l.row
   row_next count h i = (marking count h i).next l.row
 
   -- one that decides how many rows go
-  deciding : (count : ℕ) → Happens z r r' s choice l l' (Decide count) → Shape z r → Event (rows_in (word z r.world)) (rows_in (word z r'.world)) r.ledger.rows r'.ledger.rows (length r.history.log)
+  deciding : (count : ℕ) → Happens z r r' s choice l l' (Activity.Rebalance (Rebalance.Engage (Engage.Decide count))) → Shape z r → Event (rows_in (word z r.world)) (rows_in (word z r'.world)) r.ledger.rows r'.ledger.rows (length r.history.log)
   deciding count h i = which (cases_eq (word z r.world (name.State l.row)) (state_word (state.Leader 0)))
     where
       one : count ≡ 1
-      one = (kinds_at (Decide count) h i).kind.1
+      one = (kinds_at (Activity.Rebalance (Rebalance.Engage (Engage.Decide count))) h i).kind.1
 
       which : (word z r.world (name.State l.row) ≡ state_word (state.Leader 0)) ⊎ (word z r.world (name.State l.row) ≡ state_word (state.Leader 0) → ⊥) → Event (rows_in (word z r.world)) (rows_in (word z r'.world)) r.ledger.rows r'.ledger.rows (length r.history.log)
       which (inl e) = decides l.row count (record {
-        held = held_by r.ledger.rows s l.row ((balance_at (Decide count) h i).fresh tt);
+        held = held_by r.ledger.rows s l.row ((balance_at (Activity.Rebalance (Rebalance.Engage (Engage.Decide count))) h i).fresh tt);
         undecided = word_says _ (state.Leader 0) (omega arith) e;
-        marked = (balance_at (Decide count) h i).group.0.marked;
+        marked = (balance_at (Activity.Rebalance (Rebalance.Engage (Engage.Decide count))) h i).group.0.marked;
         some = omega (arith, one);
         followed = λ two. absurd (omega (arith, one, two));
-        sets = sets_state (Decide count) h i.sane (λ c. c) (λ q c. c) (λ q c. c) (λ q c. c) l.row (λ q d c. d c) (row.Leader count) (word_says _ (state.Leader count) (omega (arith, one)) (exchanged _ _ _ _ h.changed.same e));
-        ledger = ledger_kept (Decide count) h (λ q c. c) (λ c. c) (λ c. c);
+        sets = sets_state (Activity.Rebalance (Rebalance.Engage (Engage.Decide count))) h i.sane (λ c. c) (λ q c. c) (λ q c. c) (λ q c. c) l.row (λ q d c. d c) (row.Leader count) (word_says _ (state.Leader count) (omega (arith, one)) (exchanged _ _ _ _ h.changed.same e));
+        ledger = ledger_kept (Activity.Rebalance (Rebalance.Engage (Engage.Decide count))) h (λ q c. c) (λ c. c) (λ c. c);
       })
-      which (inr d) = rests (record { links = links_kept (Decide count) h i.sane (λ c. c) (λ q c. c) (λ q c. c) (λ q c. c); states = states_still (Decide count) h i.sane l.row (λ q n c. n c) (not_exchanged _ _ _ _ h.changed.same d); ledger = ledger_kept (Decide count) h (λ q c. c) (λ c. c) (λ c. c) })
+      which (inr d) = rests (record { links = links_kept (Activity.Rebalance (Rebalance.Engage (Engage.Decide count))) h i.sane (λ c. c) (λ q c. c) (λ q c. c) (λ q c. c); states = states_still (Activity.Rebalance (Rebalance.Engage (Engage.Decide count))) h i.sane l.row (λ q n c. n c) (not_exchanged _ _ _ _ h.changed.same d); ledger = ledger_kept (Activity.Rebalance (Rebalance.Engage (Engage.Decide count))) h (λ q c. c) (λ c. c) (λ c. c) })
 
   -- a row that was found led alone, or undecided, is led alone from now on
-  pub decided_state : (count : ℕ) → Happens z r r' s choice l l' (Decide count) → Shape z r → (n : ℕ) → state_of (word z r.world (name.State l.row)) ≡ Some (state.Leader n) → n ≤ 1 → (rows_in (word z r'.world)).state l.row ≡ row.Leader 1
+  pub decided_state : (count : ℕ) → Happens z r r' s choice l l' (Activity.Rebalance (Rebalance.Engage (Engage.Decide count))) → Shape z r → (n : ℕ) → state_of (word z r.world (name.State l.row)) ≡ Some (state.Leader n) → n ≤ 1 → (rows_in (word z r'.world)).state l.row ≡ row.Leader 1
   decided_state count h i n e o = which (cases_eq (word z r.world (name.State l.row)) (state_word (state.Leader 0)))
     where
       one : count ≡ 1
-      one = (kinds_at (Decide count) h i).kind.1
+      one = (kinds_at (Activity.Rebalance (Rebalance.Engage (Engage.Decide count))) h i).kind.1
 
       undecided : n ≡ 0 → word z r.world (name.State l.row) ≡ state_word (state.Leader 0)
       undecided f = sym (state_word_of _ (state.Leader n) e) ∙ ap (λ x. state_word (state.Leader x)) f
@@ -228,52 +235,52 @@ module _ {z : Sizes} {r r' : Run} {s : ℕ} {choice : Choice} {l l' : Local} whe
           alone m u v = omega (arith, u, v)
 
   -- one that freezes it
-  pub freezing : Happens z r r' s choice l l' FreezeCount → Shape z r → Freezes (rows_in (word z r.world)) (rows_in (word z r'.world)) r.ledger.rows r'.ledger.rows l.row
+  pub freezing : Happens z r r' s choice l l' (Activity.Rebalance (Rebalance.Freeze Freeze.Count)) → Shape z r → Freezes (rows_in (word z r.world)) (rows_in (word z r'.world)) r.ledger.rows r'.ledger.rows l.row
   freezing h i = record {
     decided = λ a. may_freeze (rows_in (word z r.world)) r.ledger.rows (length r.history.log) i.rows l.row None l.rebalance.after (held_by r.ledger.rows s l.row (b.fresh tt)) b.group l.row (inl refl) a;
-    head = ap (λ w. row_linked (link_of w)) (head_stays FreezeCount h (λ c. c));
-    next = λ q. ap (λ w. row_linked (link_of w)) (next_word FreezeCount h i.sane q (λ c. c));
-    marked = λ q. ap (λ w. has_mark (link_of w)) (next_word FreezeCount h i.sane q (λ c. c));
+    head = ap (λ w. row_linked (link_of w)) (head_stays (Activity.Rebalance (Rebalance.Freeze Freeze.Count)) h (λ c. c));
+    next = λ q. ap (λ w. row_linked (link_of w)) (next_word (Activity.Rebalance (Rebalance.Freeze Freeze.Count)) h i.sane q (λ c. c));
+    marked = λ q. ap (λ w. has_mark (link_of w)) (next_word (Activity.Rebalance (Rebalance.Freeze Freeze.Count)) h i.sane q (λ c. c));
     frozen = is_frozen _ refl (i.sane.each (name.Count l.row) (i.sane.locals s l h.knows).below.row);
-    others = λ q d. ap (λ w. has_frozen (count_of w)) (count_word FreezeCount h i.sane q d);
-    least = λ q. ap key_of_word (least_word FreezeCount h i.sane q (λ c. c));
-    states = λ q. state_kept FreezeCount h i.sane q (λ c. c);
-    ledger = ledger_kept FreezeCount h (λ q c. c) (λ c. c) (λ c. c);
+    others = λ q d. ap (λ w. has_frozen (count_of w)) (count_word (Activity.Rebalance (Rebalance.Freeze Freeze.Count)) h i.sane q d);
+    least = λ q. ap key_of_word (least_word (Activity.Rebalance (Rebalance.Freeze Freeze.Count)) h i.sane q (λ c. c));
+    states = λ q. state_kept (Activity.Rebalance (Rebalance.Freeze Freeze.Count)) h i.sane q (λ c. c);
+    ledger = ledger_kept (Activity.Rebalance (Rebalance.Freeze Freeze.Count)) h (λ q c. c) (λ c. c) (λ c. c);
   }
     where
-      b : Balances (word z r.world) r.ledger.rows s FreezeCount l
-      b = balance_at FreezeCount h i
+      b : Balances (word z r.world) r.ledger.rows s (Activity.Rebalance (Rebalance.Freeze Freeze.Count)) l
+      b = balance_at (Activity.Rebalance (Rebalance.Freeze Freeze.Count)) h i
 
       is_frozen : (c : Option Counted) → count_of (word z r.world (name.Count l.row)) ≡ c → IsGiven c → (rows_in (word z r'.world)).frozen l.row ≡ true
       is_frozen (Some c) e g = ap has_frozen (freezes_given h c e)
       is_frozen None e g = absurd g
 
   pub row_event : (a : Activity) → Happens z r r' s choice l l' a → Shape z r → Event (rows_in (word z r.world)) (rows_in (word z r'.world)) r.ledger.rows r'.ledger.rows (length r.history.log)
-  row_event Enter h i = begins s (passes_set Enter _ h i.sane (λ c. c) (λ q c. c) (λ q c. c) (λ q c. c) (λ q c. c) (λ q c. c) (λ c. c) (pass_begins h))
-  row_event (Leave answer) h i = ends s (passes_set (Leave answer) _ h i.sane (λ c. c) (λ q c. c) (λ q c. c) (λ q c. c) (λ q c. c) (λ q c. c) (λ c. c) (pass_ends answer h))
-  row_event Again h i = ends s (passes_set Again _ h i.sane (λ c. c) (λ q c. c) (λ q c. c) (λ q c. c) (λ q c. c) (λ q c. c) (λ c. c) (pass_taken_back h))
-  row_event PutAdd h i = rests (record { links = more_given h i.sane; states = λ q. state_kept PutAdd h i.sane q (λ c. c); ledger = ledger_kept PutAdd h (λ q c. c) (λ c. c) (λ c. c) })
-  row_event (BalNormal seat) h i = normalising seat h i
-  row_event Engage h i = engaging h i
-  row_event (MarkLink count) h i = marks l.row (marking count h i)
-  row_event (Decide count) h i = deciding count h i
-  row_event FreezeCount h i = freezes l.row (freezing h i)
-  row_event TakeRow h i = taking h i.sane i.rows.states
-  row_event Reclaim h i = freeing h i.sane i.rows.states (i.sane.locals s l h.knows).ranges.rebalance.number (all_young h i)
-  row_event GiveBack h i = giving_back h i.sane (hand_infant GiveBack h i tt)
-  row_event WriteCount h i = writing WriteCount tt h i.sane (hand_infant WriteCount h i tt)
-  row_event WriteMin h i = writing WriteMin tt h i.sane (hand_infant WriteMin h i tt)
-  row_event WriteNext h i = writing WriteNext tt h i.sane (hand_infant WriteNext h i tt)
-  row_event WriteFirst h i = writing WriteFirst tt h i.sane (hand_infant WriteFirst h i tt)
-  row_event (WritePend j) h i = writing (WritePend j) tt h i.sane (hand_infant (WritePend j) h i tt)
-  row_event (WriteKey j) h i = writing (WriteKey j) tt h i.sane (hand_infant (WriteKey j) h i tt)
-  row_event (WriteValue j) h i = writing (WriteValue j) tt h i.sane (hand_infant (WriteValue j) h i tt)
-  row_event (WriteVersion j) h i = writing (WriteVersion j) tt h i.sane (hand_infant (WriteVersion j) h i tt)
-  row_event (WriteAfter j) h i = writing (WriteAfter j) tt h i.sane (hand_infant (WriteAfter j) h i tt)
-  row_event Replace h i = replace_event h i.sane (row_link z r.world s l i.sane h.knows) (λ e. may_replace h i)
-  row_event Normalise h i = let w = won_at Normalise h i in making_normal h i.sane (held_by r.ledger.rows s (infant l) (w.fresh tt l.rebalance.at (infant l) (infant_at l (w.hand tt))))
-  row_event Number h i = numbering h i.sane i.numbers
-  row_event Retire h i = let w = won_at Retire h i in retiring h i.sane (i.sane.locals s l h.knows).ranges.rebalance.number (w.dead tt) (w.number tt)
+  row_event (Activity.Enter Enter.Announce) h i = begins s (passes_set (Activity.Enter Enter.Announce) _ h i.sane (λ c. c) (λ q c. c) (λ q c. c) (λ q c. c) (λ q c. c) (λ q c. c) (λ c. c) (pass_begins h))
+  row_event (Activity.Leave answer) h i = ends s (passes_set (Activity.Leave answer) _ h i.sane (λ c. c) (λ q c. c) (λ q c. c) (λ q c. c) (λ q c. c) (λ q c. c) (λ c. c) (pass_ends answer h))
+  row_event Activity.Retry h i = ends s (passes_set Activity.Retry _ h i.sane (λ c. c) (λ q c. c) (λ q c. c) (λ q c. c) (λ q c. c) (λ q c. c) (λ c. c) (pass_taken_back h))
+  row_event (Activity.Put Put.Add) h i = rests (record { links = more_given h i.sane; states = λ q. state_kept (Activity.Put Put.Add) h i.sane q (λ c. c); ledger = ledger_kept (Activity.Put Put.Add) h (λ q c. c) (λ c. c) (λ c. c) })
+  row_event (Activity.Rebalance (Rebalance.Engage (Engage.Normal seat))) h i = normalising seat h i
+  row_event (Activity.Rebalance (Rebalance.Engage Engage.Lead)) h i = engaging h i
+  row_event (Activity.Rebalance (Rebalance.Engage (Engage.MarkLink count))) h i = marks l.row (marking count h i)
+  row_event (Activity.Rebalance (Rebalance.Engage (Engage.Decide count))) h i = deciding count h i
+  row_event (Activity.Rebalance (Rebalance.Freeze Freeze.Count)) h i = freezes l.row (freezing h i)
+  row_event (Activity.Rebalance (Rebalance.Seek Seek.Take)) h i = taking h i.sane i.rows.states
+  row_event (Activity.Rebalance (Rebalance.Seek Seek.Reclaim)) h i = freeing h i.sane i.rows.states (i.sane.locals s l h.knows).ranges.rebalance.number (all_young h i)
+  row_event (Activity.Rebalance (Rebalance.Seek Seek.GiveBack)) h i = giving_back h i.sane (hand_infant (Activity.Rebalance (Rebalance.Seek Seek.GiveBack)) h i tt)
+  row_event (Activity.Rebalance (Rebalance.Write Write.Count)) h i = writing (Activity.Rebalance (Rebalance.Write Write.Count)) tt h i.sane (hand_infant (Activity.Rebalance (Rebalance.Write Write.Count)) h i tt)
+  row_event (Activity.Rebalance (Rebalance.Write Write.Least)) h i = writing (Activity.Rebalance (Rebalance.Write Write.Least)) tt h i.sane (hand_infant (Activity.Rebalance (Rebalance.Write Write.Least)) h i tt)
+  row_event (Activity.Rebalance (Rebalance.Write Write.Next)) h i = writing (Activity.Rebalance (Rebalance.Write Write.Next)) tt h i.sane (hand_infant (Activity.Rebalance (Rebalance.Write Write.Next)) h i tt)
+  row_event (Activity.Rebalance (Rebalance.Write Write.First)) h i = writing (Activity.Rebalance (Rebalance.Write Write.First)) tt h i.sane (hand_infant (Activity.Rebalance (Rebalance.Write Write.First)) h i tt)
+  row_event (Activity.Rebalance (Rebalance.Write (Write.Entry j))) h i = writing (Activity.Rebalance (Rebalance.Write (Write.Entry j))) tt h i.sane (hand_infant (Activity.Rebalance (Rebalance.Write (Write.Entry j))) h i tt)
+  row_event (Activity.Rebalance (Rebalance.Write (Write.Key j))) h i = writing (Activity.Rebalance (Rebalance.Write (Write.Key j))) tt h i.sane (hand_infant (Activity.Rebalance (Rebalance.Write (Write.Key j))) h i tt)
+  row_event (Activity.Rebalance (Rebalance.Write (Write.Value j))) h i = writing (Activity.Rebalance (Rebalance.Write (Write.Value j))) tt h i.sane (hand_infant (Activity.Rebalance (Rebalance.Write (Write.Value j))) h i tt)
+  row_event (Activity.Rebalance (Rebalance.Write (Write.Version j))) h i = writing (Activity.Rebalance (Rebalance.Write (Write.Version j))) tt h i.sane (hand_infant (Activity.Rebalance (Rebalance.Write (Write.Version j))) h i tt)
+  row_event (Activity.Rebalance (Rebalance.Write (Write.After j))) h i = writing (Activity.Rebalance (Rebalance.Write (Write.After j))) tt h i.sane (hand_infant (Activity.Rebalance (Rebalance.Write (Write.After j))) h i tt)
+  row_event (Activity.Rebalance (Rebalance.Replace Replace.Exchange)) h i = replace_event h i.sane (row_link z r.world s l i.sane h.knows) (λ e. may_replace h i)
+  row_event (Activity.Rebalance (Rebalance.Replace Replace.Normalise)) h i = let w = won_at (Activity.Rebalance (Rebalance.Replace Replace.Normalise)) h i in making_normal h i.sane (held_by r.ledger.rows s (infant l) (w.fresh tt l.rebalance.at (infant l) (infant_at l (w.hand tt))))
+  row_event (Activity.Rebalance (Rebalance.Replace Replace.Number)) h i = numbering h i.sane i.numbers
+  row_event (Activity.Rebalance (Rebalance.Replace Replace.Retire)) h i = let w = won_at (Activity.Rebalance (Rebalance.Replace Replace.Retire)) h i in retiring h i.sane (i.sane.locals s l h.knows).ranges.rebalance.number (w.dead tt) (w.number tt)
   row_event a h i = rests (record { links = links_kept a h i.sane (λ c. c) (λ q c. c) (λ q c. c) (λ q c. c); states = λ q. state_kept a h i.sane q (λ c. c); ledger = ledger_kept a h (λ q c. c) (λ c. c) (λ c. c) })
 
   -- one event more is in the log

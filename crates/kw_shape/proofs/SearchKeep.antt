@@ -10,7 +10,9 @@ use Rattle.kw_rows.specs.Rows.{IsBefore}
 use Rattle.kw_rows.specs.Structure.{Structure}
 use Rattle.kw_rows.proofs.Named.{fresh_next, normal_live}
 use Rattle.kw_world.specs.declared.activity.Activity.{Activity}
-use Rattle.kw_world.specs.declared.activity.Activity.TheVariants.{GiveBack, Replace}
+use Rattle.kw_world.specs.declared.activity.rebalance.Rebalance.TheVariants as Rebalance
+use Rattle.kw_world.specs.declared.activity.rebalance.replace.Replace.TheVariants as Replace
+use Rattle.kw_world.specs.declared.activity.rebalance.seek.Seek.TheVariants as Seek
 use Rattle.kw_world.specs.declared.event.Choice.{Choice}
 use Rattle.kw_world.specs.declared.local.Local.{Local}
 use Rattle.kw_world.specs.declared.rebalance.Afterwards.{Afterwards}
@@ -30,8 +32,8 @@ module _ (v : Words) (g : Ledger) (t : ℕ) where
   elsewhere a k n m b c = record { some = λ x. absurd (b x); fresh = λ p x e. absurd (n x); least = λ p x e. absurd (m x); left = λ p x e. absurd (m x); met = λ x. absurd (c x) }
 
   -- one that gives its rows back, and does not move then
-  stays_back : (k : Local) (c : Afterwards) → k.rebalance.afterwards ≡ c → (c ≡ MoveLeft → ⊥) → Search v g t GiveBack k
-  stays_back k c e n = elsewhere GiveBack k (λ x. n (sym e ∙ x)) (λ x. n (sym e ∙ x)) (λ x. n (sym e ∙ x)) (λ x. x)
+  stays_back : (k : Local) (c : Afterwards) → k.rebalance.afterwards ≡ c → (c ≡ MoveLeft → ⊥) → Search v g t (Activity.Rebalance (Rebalance.Seek Seek.GiveBack)) k
+  stays_back k c e n = elsewhere (Activity.Rebalance (Rebalance.Seek Seek.GiveBack)) k (λ x. n (sym e ∙ x)) (λ x. n (sym e ∙ x)) (λ x. n (sym e ∙ x)) (λ x. x)
 
   given_on : (c : Afterwards) (k next : Local) → GivenBack k c next → Search v g t next.activity next
   given_on c k next (tries_again nd) = elsewhere _ _ (λ x. x) (λ x. x) (λ x. x) (λ x. x)
@@ -109,7 +111,7 @@ module _ (v : Words) (g : Ledger) (t now : ℕ) (i : Structure (rows_in v) g now
       first = sym (ap row_or_first i.chain.leads)
 
   -- a seat moves to the row in which the full one's link is marked, which is not that of the head
-  moves_on : (next : Local) (b : Option ℕ) → l.rebalance.before ≡ b → link_of (v (replaced_link b)) ≡ Some (marked_link (Some l.row)) → (link_of (v name.Head) ≡ Some (marked_link (Some l.row)) → ⊥) → NextBack MoveLeft l next → Search v g t Replace l → Search v g t next.activity next
+  moves_on : (next : Local) (b : Option ℕ) → l.rebalance.before ≡ b → link_of (v (replaced_link b)) ≡ Some (marked_link (Some l.row)) → (link_of (v name.Head) ≡ Some (marked_link (Some l.row)) → ⊥) → NextBack MoveLeft l next → Search v g t (Activity.Rebalance (Rebalance.Replace Replace.Exchange)) l → Search v g t next.activity next
   moves_on next (Some p) e k head y x = left_on v g t l next y (p, e) (λ q f. x.fresh q tt f) (λ q f. x.least q tt f) (λ q f. x.left q tt f)
   moves_on next None e k head y x = absurd (head k)
 

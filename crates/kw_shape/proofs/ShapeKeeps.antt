@@ -2,7 +2,15 @@
 use Rattle.std.proofs.Common.{ℕ, ◌≡◌, ◌≢◌, ◌⊎◌, inl, inr, ◌+◌, ◌*◌, ◌<◌, ◌≤◌, true, false, Option, Some, None, arith, refl, sym, ◌∙◌, ap, subst, length, slice_get}
 use Rattle.kw_words.specs.declared.layout.Name.TheVariants as name
 use Rattle.kw_world.specs.declared.activity.Activity.{Activity}
-use Rattle.kw_world.specs.declared.activity.Activity.TheVariants.{Idle, Enter, ScanClock, PutCount, PutAdd, AgainEpoch, BalClock, FreezeCount, HelpDraw, ScanDraw, WriteCount, Reclaim, TakeRow, GiveBack, Replace}
+use Rattle.kw_world.specs.declared.activity.draw.Draw.TheVariants as Draw
+use Rattle.kw_world.specs.declared.activity.rebalance.engage.Engage.TheVariants as Engage
+use Rattle.kw_world.specs.declared.activity.enter.Enter.TheVariants as Enter
+use Rattle.kw_world.specs.declared.activity.rebalance.freeze.Freeze.TheVariants as Freeze
+use Rattle.kw_world.specs.declared.activity.put.Put.TheVariants as Put
+use Rattle.kw_world.specs.declared.activity.rebalance.Rebalance.TheVariants as Rebalance
+use Rattle.kw_world.specs.declared.activity.rebalance.replace.Replace.TheVariants as Replace
+use Rattle.kw_world.specs.declared.activity.rebalance.seek.Seek.TheVariants as Seek
+use Rattle.kw_world.specs.declared.activity.rebalance.write.Write.TheVariants as Write
 use Rattle.kw_world.specs.declared.local.Local.{Local}
 use Rattle.kw_world.specs.declared.event.Choice.{Choice}
 use Rattle.kw_world.specs.SeekTransitions.{infant}
@@ -132,10 +140,10 @@ room_plain : (z : Sizes) (r r' : Run) (s : ℕ) (choice : Choice) (l : Local) (a
 room_plain z r r' s choice l a l' h i q e f o = omega (arith, i.room q o, e, f, adders-set q r.world.locals s l l' h.knows, ap (adders q) h.locals)
 
 -- an event that asks for a cell
-room_add : (z : Sizes) (r r' : Run) (s : ℕ) (choice : Choice) (l : Local) (l' : Local) → Happens z r r' s choice l l' PutAdd → Shape z r → (q : ℕ) → adding l'.activity l'.row q ≡ 0 → q < r.world.rows → given_in (word z r'.world) q + adders q r'.world.locals < z.cells + z.seats
+room_add : (z : Sizes) (r r' : Run) (s : ℕ) (choice : Choice) (l : Local) (l' : Local) → Happens z r r' s choice l l' (Activity.Put Put.Add) → Shape z r → (q : ℕ) → adding l'.activity l'.row q ≡ 0 → q < r.world.rows → given_in (word z r'.world) q + adders q r'.world.locals < z.cells + z.seats
 room_add z r r' s choice l l' h i q f o = which (cases_eq q l.row)
   where
-    part : adding l.activity l.row q ≡ adding PutAdd l.row q
+    part : adding l.activity l.row q ≡ adding (Activity.Put Put.Add) l.row q
     part = ap (λ x. adding x l.row q) h.activity
 
     which : (q ≡ l.row) ⊎ (q ≡ l.row → ⊥) → given_in (word z r'.world) q + adders q r'.world.locals < z.cells + z.seats
@@ -143,14 +151,14 @@ room_add z r r' s choice l l' h i q f o = which (cases_eq q l.row)
         let x : given_in (word z r'.world) l.row ≡ given_in (word z r.world) l.row + 1 = ap (λ w. given_of (count_of w)) h.changed.same ∙ given-next (word z r.world (name.Count l.row)) _ refl (i.sane.each (name.Count l.row) (subst (λ y. y < r.world.rows) u o)) in
         let y : given_in (word z r'.world) q ≡ given_in (word z r.world) q + 1 = subst (λ t. given_in (word z r'.world) t ≡ given_in (word z r.world) t + 1) (sym u) x in
         omega (arith, i.room q o, y, f, part, chosen {A = ℕ} l.row q 1 0 (sym u), adders-set q r.world.locals s l l' h.knows, ap (adders q) h.locals)
-    which (inr d) = room_plain z r r' s choice l PutAdd l' h i q (ap (λ w. given_of (count_of w)) (count_stays PutAdd h q o d)) f o
+    which (inr d) = room_plain z r r' s choice l (Activity.Put Put.Add) l' h i q (ap (λ w. given_of (count_of w)) (count_stays (Activity.Put Put.Add) h q o d)) f o
 
 -- an event that writes or links new rows: a new row has no more cells than a row has, and the seat
 -- asks for none
 room_built : (z : Sizes) (r r' : Run) (s : ℕ) (choice : Choice) (l : Local) (a : Activity) (l' : Local) → IsBuilding a → {q : ℕ} → adding l'.activity l'.row q ≡ 0 → Happens z r r' s choice l l' a → Shape z r → q < r.world.rows → given_in (word z r'.world) q + adders q r'.world.locals < z.cells + z.seats
-room_built z r r' s choice l PutAdd l' b {q} f h i o = absurd b
-room_built z r r' s choice l FreezeCount l' b {q} f h i o = absurd b
-room_built z r r' s choice l WriteCount l' b {q} f h i o = which (cases_eq q (infant l))
+room_built z r r' s choice l (Activity.Put Put.Add) l' b {q} f h i o = absurd b
+room_built z r r' s choice l (Activity.Rebalance (Rebalance.Freeze Freeze.Count)) l' b {q} f h i o = absurd b
+room_built z r r' s choice l (Activity.Rebalance (Rebalance.Write Write.Count)) l' b {q} f h i o = which (cases_eq q (infant l))
   where
     k : IsKnown z r.world.rows l
     k = i.sane.locals s l h.knows
@@ -163,7 +171,7 @@ room_built z r r' s choice l WriteCount l' b {q} f h i o = which (cases_eq q (in
 
     which : (q ≡ infant l) ⊎ (q ≡ infant l → ⊥) → given_in (word z r'.world) q + adders q r'.world.locals < z.cells + z.seats
     which (inl e) = omega (arith, few, ap (given_in (word z r'.world)) e ∙ given, adders_but_one q r'.world.locals s l' (knows_next h) f, ap length h.locals, length-set r.world.locals s l', i.sane.seats)
-    which (inr d) = room_plain z r r' s choice l WriteCount l' h i q (ap (λ w. given_of (count_of w)) (count_stays WriteCount h q o d)) f o
+    which (inr d) = room_plain z r r' s choice l (Activity.Rebalance (Rebalance.Write Write.Count)) l' h i q (ap (λ w. given_of (count_of w)) (count_stays (Activity.Rebalance (Rebalance.Write Write.Count)) h q o d)) f o
 room_built z r r' s choice l a l' b {q} f h i o = room_plain z r r' s choice l a l' h i q (ap (λ w. given_of (count_of w)) (count_stays a h q o (λ c. c))) f o
 
 -- each row has room for the cells that are asked for
@@ -175,17 +183,17 @@ room_keeps z r r' s choice l a l' (finds_room e) h i q o = which (cases_eq l.row
     seats = length-set r.world.locals s l'
 
     same : given_in (word z r'.world) q ≡ given_in (word z r.world) q
-    same = ap (λ w. given_of (count_of w)) (count_stays PutCount h q o (λ c. c))
+    same = ap (λ w. given_of (count_of w)) (count_stays (Activity.Put Put.Count) h q o (λ c. c))
 
     which : (l.row ≡ q) ⊎ (l.row ≡ q → ⊥) → given_in (word z r'.world) q + adders q r'.world.locals < z.cells + z.seats
     which (inl u) =
         let x : given_in (word z r.world) q < z.cells = subst (λ y. given_in (word z r.world) y < z.cells) u (room_below z (count_of (word z r.world (name.Count l.row))) e) in
         omega (arith, same, x, adders_at_most q r'.world.locals, ap length h.locals, seats, i.sane.seats)
-    which (inr d) = room_plain z r r' s choice l PutCount _ h i q same (not_chosen {A = ℕ} l.row q 1 0 d) o
-room_keeps z r r' s choice l a l' (finds_full e) h i q o = room_plain z r r' s choice l PutCount _ h i q (ap (λ w. given_of (count_of w)) (count_stays PutCount h q o (λ c. c))) refl o
+    which (inr d) = room_plain z r r' s choice l (Activity.Put Put.Count) _ h i q same (not_chosen {A = ℕ} l.row q 1 0 d) o
+room_keeps z r r' s choice l a l' (finds_full e) h i q o = room_plain z r r' s choice l (Activity.Put Put.Count) _ h i q (ap (λ w. given_of (count_of w)) (count_stays (Activity.Put Put.Count) h q o (λ c. c))) refl o
 room_keeps z r r' s choice l a l' (takes_cell e) h i q o = room_add z r r' s choice l _ h i q refl o
 room_keeps z r r' s choice l a l' (takes_full e) h i q o = room_add z r r' s choice l _ h i q refl o
-room_keeps z r r' s choice l a l' freezes_count h i q o = room_plain z r r' s choice l FreezeCount _ h i q (frozen_given (cases_eq q l.row)) refl o
+room_keeps z r r' s choice l a l' freezes_count h i q o = room_plain z r r' s choice l (Activity.Rebalance (Rebalance.Freeze Freeze.Count)) _ h i q (frozen_given (cases_eq q l.row)) refl o
   where
     at_row : (c : Option Counted) → count_of (word z r.world (name.Count l.row)) ≡ c → IsGiven c → given_in (word z r'.world) l.row ≡ given_in (word z r.world) l.row
     at_row (Some c) e g = ap given_of (freezes_given h c e) ∙ ap given_of (sym e)
@@ -193,23 +201,23 @@ room_keeps z r r' s choice l a l' freezes_count h i q o = room_plain z r r' s ch
 
     frozen_given : (q ≡ l.row) ⊎ (q ≡ l.row → ⊥) → given_in (word z r'.world) q ≡ given_in (word z r.world) q
     frozen_given (inl e) = subst (λ x. given_in (word z r'.world) x ≡ given_in (word z r.world) x) (sym e) (at_row _ refl (i.sane.each (name.Count l.row) (i.sane.locals s l h.knows).below.row))
-    frozen_given (inr d) = ap (λ w. given_of (count_of w)) (count_stays FreezeCount h q o d)
+    frozen_given (inr d) = ap (λ w. given_of (count_of w)) (count_stays (Activity.Rebalance (Rebalance.Freeze Freeze.Count)) h q o d)
 room_keeps z r r' s choice l a l' b h i q o = room_plain z r r' s choice l _ l' h i q (ap (λ w. given_of (count_of w)) (count_stays _ h q o (λ c. c))) (adding_next z (word z r.world) s choice l _ l' q b (λ x. x)) o
 
 -- an event that takes, writes or links new rows draws no version
 built_draws_none : (a : Activity) → IsBuilding a → DrawsVersion a → ⊥
-built_draws_none ScanDraw b d = b
-built_draws_none (HelpDraw j) b d = b
+built_draws_none (Activity.Draw Draw.Version) b d = b
+built_draws_none (Activity.Rebalance (Rebalance.Freeze (Freeze.Draw j))) b d = b
 built_draws_none _ b d = d
 
 -- the clock has room for the versions that are drawn
 pub clock_keeps : (z : Sizes) (r r' : Run) (s : ℕ) (choice : Choice) (l : Local) (a : Activity) (l' : Local) → Arrow z (word z r.world) s choice l a l' → Happens z r r' s choice l l' a → Shape z r → word z r'.world name.Clock + drawers z.seats r'.world.locals ≤ SPENT + z.seats * z.seats
 clock_keeps z r r' s choice l a l' (builds b next y t) h i = omega (arith, i.clock, clock_stays b h (built_draws_none b y), built_draws z.seats next.activity (built_next z (word z r.world) choice l b next t), drawers-set z.seats r.world.locals s l l' h.knows, ap (drawers z.seats) h.locals)
-clock_keeps z r r' s choice l a l' (waits e) h i = omega (arith, e, clock_stays ScanClock h (λ x. x), drawers_few z.seats r'.world.locals i.sane.sized.some_seats (omega (arith, ap length h.locals, length-set r.world.locals s l', i.sane.seats)))
-clock_keeps z r r' s choice l a l' (clock_serves e) h i = omega (arith, e, clock_stays BalClock h (λ x. x), drawers_few z.seats r'.world.locals i.sane.sized.some_seats (omega (arith, ap length h.locals, length-set r.world.locals s l', i.sane.seats)))
-clock_keeps z r r' s choice l a l' (is_spent e) h i = omega (arith, i.clock, clock_stays ScanClock h (λ x. x), drawers-set z.seats r.world.locals s l l' h.knows, ap (drawers z.seats) h.locals)
-clock_keeps z r r' s choice l a l' (clock_is_spent e nd) h i = omega (arith, i.clock, clock_stays BalClock h (λ x. x), drawers-set z.seats r.world.locals s l l' h.knows, ap (drawers z.seats) h.locals)
-clock_keeps z r r' s choice l a l' (ends_at_clock dn) h i = omega (arith, i.clock, clock_stays BalClock h (λ x. x), drawers-set z.seats r.world.locals s l l' h.knows, ap (drawers z.seats) h.locals)
+clock_keeps z r r' s choice l a l' (waits e) h i = omega (arith, e, clock_stays (Activity.Draw Draw.Clock) h (λ x. x), drawers_few z.seats r'.world.locals i.sane.sized.some_seats (omega (arith, ap length h.locals, length-set r.world.locals s l', i.sane.seats)))
+clock_keeps z r r' s choice l a l' (clock_serves e) h i = omega (arith, e, clock_stays (Activity.Rebalance (Rebalance.Engage Engage.Clock)) h (λ x. x), drawers_few z.seats r'.world.locals i.sane.sized.some_seats (omega (arith, ap length h.locals, length-set r.world.locals s l', i.sane.seats)))
+clock_keeps z r r' s choice l a l' (is_spent e) h i = omega (arith, i.clock, clock_stays (Activity.Draw Draw.Clock) h (λ x. x), drawers-set z.seats r.world.locals s l l' h.knows, ap (drawers z.seats) h.locals)
+clock_keeps z r r' s choice l a l' (clock_is_spent e nd) h i = omega (arith, i.clock, clock_stays (Activity.Rebalance (Rebalance.Engage Engage.Clock)) h (λ x. x), drawers-set z.seats r.world.locals s l l' h.knows, ap (drawers z.seats) h.locals)
+clock_keeps z r r' s choice l a l' (ends_at_clock dn) h i = omega (arith, i.clock, clock_stays (Activity.Rebalance (Rebalance.Engage Engage.Clock)) h (λ x. x), drawers-set z.seats r.world.locals s l l' h.knows, ap (drawers z.seats) h.locals)
 clock_keeps z r r' s choice l a l' draws h i = omega (arith, i.clock, h.changed.same, ap (drawing z.seats) h.activity, drawers-set z.seats r.world.locals s l l' h.knows, ap (drawers z.seats) h.locals)
 clock_keeps z r r' s choice l a l' (draws_for j) h i =
     let o : j < z.seats = subst (IsActivity z) h.activity (i.sane.locals s l h.knows).ranges.activity in
@@ -450,12 +458,12 @@ walks_in_pass z r r' s choice l a l' b h i x n =
 -- and else it goes on in its pass
 pub walks_own : (z : Sizes) (r r' : Run) (s : ℕ) (choice : Choice) (l : Local) (a : Activity) (l' : Local) → Arrow z (word z r.world) s choice l a l' → Happens z r r' s choice l l' a → Shape z r → Walks (word z r'.world) r'.ledger.rows s l'.activity l'
 walks_own z r r' s choice l a l' (builds b next y t) h i = walks_in_pass z r r' s choice l b l' (builds b next y t) h i (built_passes b y).0 (built_pass b y)
-walks_own z r r' s choice l a l' (begins call e b) h i = walks_outside _ _ s Enter l' (λ x. x)
+walks_own z r r' s choice l a l' (begins call e b) h i = walks_outside _ _ s (Activity.Enter Enter.Announce) l' (λ x. x)
 walks_own z r r' s choice l a l' (enters e) h i = record { on = tt; lower = λ q. absurd q; at = λ q. absurd q; begins = λ q. refl; wants = λ q. absurd q }
 walks_own z r r' s choice l a l' (enters_scan e) h i = record { on = tt; lower = λ q. absurd q; at = λ q. absurd q; begins = λ q. absurd q; wants = λ q. absurd q }
-walks_own z r r' s choice l a l' (leaves answer) h i = walks_outside _ _ s Idle l' (λ x. x)
-walks_own z r r' s choice l a l' retries h i = walks_outside _ _ s AgainEpoch l' (λ x. x)
-walks_own z r r' s choice l a l' enters_again h i = walks_outside _ _ s Enter l' (λ x. x)
+walks_own z r r' s choice l a l' (leaves answer) h i = walks_outside _ _ s Activity.Idle l' (λ x. x)
+walks_own z r r' s choice l a l' retries h i = walks_outside _ _ s (Activity.Enter Enter.LoadEpoch) l' (λ x. x)
+walks_own z r r' s choice l a l' enters_again h i = walks_outside _ _ s (Activity.Enter Enter.Announce) l' (λ x. x)
 walks_own z r r' s choice l a l' b h i = walks_in_pass z r r' s choice l _ l' b h i tt (λ x. x)
 
 -- Another seat.
@@ -475,10 +483,10 @@ walks_other z r r' s choice l a l' h i t k d g = which (is_passing k.activity)
 module _ {z : Sizes} {r r' : Run} {s : ℕ} {choice : Choice} {l l' : Local} where
   -- no event acts on a row that the table does not have
   beyond_stays : (a : Activity) → Happens z r r' s choice l l' a → Shape z r → (q : ℕ) → r.world.rows ≤ q → r'.ledger.rows.fates q ≡ r.ledger.rows.fates q
-  beyond_stays Reclaim h i q o = fate_stays Reclaim h q (λ c. absurd (omega (arith, o, c, (i.sane.locals s l h.knows).below.rebalance.sought)))
-  beyond_stays TakeRow h i q o = fate_stays TakeRow h q (λ c. absurd (omega (arith, o, c, (i.sane.locals s l h.knows).below.rebalance.sought)))
-  beyond_stays GiveBack h i q o = fate_stays GiveBack h q (λ c. absurd (omega (arith, o, c, taken_below z r.world s l i.sane h.knows l.rebalance.at (infant l) (infant_at l ((infants_at GiveBack h i).hand tt)))))
-  beyond_stays Replace h i q o = fate_stays Replace h q acts
+  beyond_stays (Activity.Rebalance (Rebalance.Seek Seek.Reclaim)) h i q o = fate_stays (Activity.Rebalance (Rebalance.Seek Seek.Reclaim)) h q (λ c. absurd (omega (arith, o, c, (i.sane.locals s l h.knows).below.rebalance.sought)))
+  beyond_stays (Activity.Rebalance (Rebalance.Seek Seek.Take)) h i q o = fate_stays (Activity.Rebalance (Rebalance.Seek Seek.Take)) h q (λ c. absurd (omega (arith, o, c, (i.sane.locals s l h.knows).below.rebalance.sought)))
+  beyond_stays (Activity.Rebalance (Rebalance.Seek Seek.GiveBack)) h i q o = fate_stays (Activity.Rebalance (Rebalance.Seek Seek.GiveBack)) h q (λ c. absurd (omega (arith, o, c, taken_below z r.world s l i.sane h.knows l.rebalance.at (infant l) (infant_at l ((infants_at (Activity.Rebalance (Rebalance.Seek Seek.GiveBack)) h i).hand tt)))))
+  beyond_stays (Activity.Rebalance (Rebalance.Replace Replace.Exchange)) h i q o = fate_stays (Activity.Rebalance (Rebalance.Replace Replace.Exchange)) h q acts
     where
       acts : (q ≡ l.row) ⊎ IsIn l.rebalance.taken q → ⊥
       acts (inl c) = absurd (omega (arith, o, c, (i.sane.locals s l h.knows).below.row))

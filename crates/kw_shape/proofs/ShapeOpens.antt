@@ -3,7 +3,7 @@ use Rattle.std.proofs.Common.{ℕ, zero, suc, ◌≡◌, ◌⊎◌, inl, inr, �
 use Rattle.kw_core.specs.Stages.{IsBalancing, IsDone}
 use Rattle.std.proofs.lemmas.Bool.{cases_lt}
 use Rattle.std.proofs.lemmas.Option.{slice_get_within}
-use Rattle.kw_world.specs.declared.activity.Activity.TheVariants.{Idle}
+use Rattle.kw_world.specs.declared.activity.Activity.TheVariants as Activity
 use Rattle.kw_world.specs.declared.limits.TheConstants.{TIDY_SHARE}
 use Rattle.kw_words.specs.declared.layout.Name.{Name}
 use Rattle.kw_words.specs.declared.layout.Name.TheVariants as name
@@ -205,7 +205,7 @@ module _ (z : Sizes) (o : Opening) (i : IsOpening z o) where
   beyond_starts zero w = absurd (omega (arith, w, i.sized.some_rows))
   beyond_starts (suc q) w = refl
 
-  passes_start : (t : ℕ) → t < z.seats → Passes (word z (opened z o)) (ledger_at_first o).rows t Idle (resting 0)
+  passes_start : (t : ℕ) → t < z.seats → Passes (word z (opened z o)) (ledger_at_first o).rows t Activity.Idle (resting 0)
   passes_start t w = record {
     in_pass = λ x. absurd x;
     in_none = λ x. record { passes = refl; word = opens (name.Pass t) w };
@@ -235,19 +235,19 @@ module _ (z : Sizes) (o : Opening) (i : IsOpening z o) where
     keyed = λ q k. keyed_starts q;
     epoch = omega (arith, opens name.Epoch tt, no_numberers o.seats, i.epoch);
     keys = each_rests z o (λ t l. Keys (word z (opened z o)) (ledger_at_first o).rows l.activity l) (λ t. record { own = λ x. absurd x; held = λ x. absurd x; marks = λ x. absurd x; met = λ x. absurd x; key = λ x. absurd x; gathered = λ x. absurd x });
-    plans = each_rests z o (λ t l. Plans z l.activity l) (λ t. unplanned z Idle (resting 0) refl);
-    infants = each_rests z o (λ t l. Infants z (word z (opened z o)) (ledger_at_first o).rows t l.activity l) (λ t. nowhere z (word z (opened z o)) (ledger_at_first o).rows t Idle (resting 0) refl);
+    plans = each_rests z o (λ t l. Plans z l.activity l) (λ t. unplanned z Activity.Idle (resting 0) refl);
+    infants = each_rests z o (λ t l. Infants z (word z (opened z o)) (ledger_at_first o).rows t l.activity l) (λ t. nowhere z (word z (opened z o)) (ledger_at_first o).rows t Activity.Idle (resting 0) refl);
     none_lost = each_rests z o (λ t l. HasLostNone (ledger_at_first o).rows t l.activity l) (λ t q x. none_infant q x.status);
-    search = each_rests z o (λ t l. Search (word z (opened z o)) (ledger_at_first o).rows t l.activity l) (λ t. unbuilt_search (word z (opened z o)) (ledger_at_first o).rows t Idle (resting 0) (λ x. x));
-    won = each_rests z o (λ t l. Won (ledger_at_first o).rows t l.activity l) (λ t. unwon (ledger_at_first o).rows t Idle (resting 0) (λ x. x));
+    search = each_rests z o (λ t l. Search (word z (opened z o)) (ledger_at_first o).rows t l.activity l) (λ t. unbuilt_search (word z (opened z o)) (ledger_at_first o).rows t Activity.Idle (resting 0) (λ x. x));
+    won = each_rests z o (λ t l. Won (ledger_at_first o).rows t l.activity l) (λ t. unwon (ledger_at_first o).rows t Activity.Idle (resting 0) (λ x. x));
     numbers = record { below = λ m at e. let x : None ≡ Some at = e in absurd (cc); rises = λ m n x y e f. let u : None ≡ Some x = e in absurd (cc) };
     tidies = each_rests z o (λ t l. l.tidies ≡ true → IsBalancing l.activity ⊎ IsDone l.activity) (λ t e. let y : false ≡ true = e in cc);
     offered = each_rests z o (λ t l. l.tidies ≡ true → o.rows < TIDY_SHARE * l.epoch) (λ t e. let y : false ≡ true = e in cc);
     kinds = each_rests z o (λ t l. Kinds l.activity l) (λ t. record { kind = tt; range = λ x. absurd x });
     passes = λ t l g. each_rests z o (λ t l. t < z.seats → Passes (word z (opened z o)) (ledger_at_first o).rows t l.activity l) passes_start t l g (omega (arith, slice_get_within (opened z o).locals t l g, (opened-sane z o i).seats));
     outside = λ t w. refl;
-    sought = each_rests z o (λ t l. Sought z (word z (opened z o)) (ledger_at_first o).rows t l.activity l) (λ t. unsought z (word z (opened z o)) (ledger_at_first o).rows t Idle (resting 0) (λ x. x, λ x. x));
+    sought = each_rests z o (λ t l. Sought z (word z (opened z o)) (ledger_at_first o).rows t l.activity l) (λ t. unsought z (word z (opened z o)) (ledger_at_first o).rows t Activity.Idle (resting 0) (λ x. x, λ x. x));
     unretired = each_rests z o (λ t l. HasWon l.activity → IsEngaged ((rows_in (word z (opened z o))).state l.row)) (λ t x. absurd x);
-    walks = each_rests z o (λ t l. Walks (word z (opened z o)) (ledger_at_first o).rows t l.activity l) (λ t. walks_outside (word z (opened z o)) (ledger_at_first o).rows t Idle (resting 0) (λ x. x));
-    balances = each_rests z o (λ t l. Balances (word z (opened z o)) (ledger_at_first o).rows t l.activity l) (λ t. outside (word z (opened z o)) (ledger_at_first o).rows t Idle (resting 0) (λ x. x) tt);
+    walks = each_rests z o (λ t l. Walks (word z (opened z o)) (ledger_at_first o).rows t l.activity l) (λ t. walks_outside (word z (opened z o)) (ledger_at_first o).rows t Activity.Idle (resting 0) (λ x. x));
+    balances = each_rests z o (λ t l. Balances (word z (opened z o)) (ledger_at_first o).rows t l.activity l) (λ t. outside (word z (opened z o)) (ledger_at_first o).rows t Activity.Idle (resting 0) (λ x. x) tt);
   }

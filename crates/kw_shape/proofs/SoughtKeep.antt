@@ -24,7 +24,13 @@ use Rattle.kw_rows.specs.States.{IsDeadState, IsNumbered, States}
 use Rattle.kw_rows.proofs.Framed as framed
 use Rattle.kw_rows.proofs.Named.{held_by}
 use Rattle.kw_world.specs.declared.activity.Activity.{Activity}
-use Rattle.kw_world.specs.declared.activity.Activity.TheVariants.{Enter, Leave, Again, BalNormal, Engage, Decide, SeekFirst, Seek, SeekPass, Reclaim, TakeRow, GiveBack, Replace, Normalise, Retire}
+use Rattle.kw_world.specs.declared.activity.rebalance.engage.Engage.TheVariants as Engage
+use Rattle.kw_world.specs.declared.activity.enter.Enter.TheVariants as Enter
+use Rattle.kw_world.specs.declared.activity.rebalance.Rebalance.TheVariants as Rebalance
+use Rattle.kw_world.specs.declared.activity.rebalance.replace.Replace.TheVariants as Replace
+use Rattle.kw_world.specs.declared.activity.rebalance.seek.Seek.TheVariants as Seek
+use Rattle.kw_world.specs.declared.activity.draw.Draw.TheVariants as Draw
+use Rattle.kw_world.specs.declared.activity.look.Look.TheVariants as Look
 use Rattle.kw_world.specs.declared.event.Choice.{Choice}
 use Rattle.kw_world.specs.declared.local.Local.{Local}
 use Rattle.kw_world.specs.declared.rebalance.Afterwards.{Afterwards}
@@ -78,26 +84,31 @@ retired_met None m e = absurd (cc)
 -- Where a seat asks for a row.
 
 looking_asks : (a : Activity) (j : ℕ) → HasLooked a j → IsAsking a
-looking_asks (SeekPass i) j x = tt
-looking_asks Reclaim j x = tt
+looking_asks (Activity.Rebalance (Rebalance.Seek (Seek.Pass i))) j x = tt
+looking_asks (Activity.Rebalance (Rebalance.Seek Seek.Reclaim)) j x = tt
+looking_asks (Activity.Look Look.Key) j x = absurd x
 looking_asks _ j x = absurd x
 
 asking_passes : (a : Activity) → IsAsking a → IsPassing a
-asking_passes (SeekPass i) x = tt
-asking_passes Reclaim x = tt
+asking_passes (Activity.Rebalance (Rebalance.Seek (Seek.Pass i))) x = tt
+asking_passes (Activity.Rebalance (Rebalance.Seek Seek.Reclaim)) x = tt
+asking_passes (Activity.Draw Draw.Clock) x = absurd x
+asking_passes (Activity.Rebalance (Rebalance.Engage Engage.Clock)) x = absurd x
 asking_passes _ x = absurd x
 
 taking_passes : (a : Activity) → IsTaking a → IsPassing a
-taking_passes TakeRow x = tt
+taking_passes (Activity.Rebalance (Rebalance.Seek Seek.Take)) x = tt
 taking_passes _ x = absurd x
 
 asking_builds : (a : Activity) → IsAsking a → IsBuilding a
-asking_builds (SeekPass i) x = tt
-asking_builds Reclaim x = tt
+asking_builds (Activity.Rebalance (Rebalance.Seek (Seek.Pass i))) x = tt
+asking_builds (Activity.Rebalance (Rebalance.Seek Seek.Reclaim)) x = tt
+asking_builds (Activity.Draw Draw.Clock) x = absurd x
+asking_builds (Activity.Rebalance (Rebalance.Engage Engage.Clock)) x = absurd x
 asking_builds _ x = absurd x
 
 taking_builds : (a : Activity) → IsTaking a → IsBuilding a
-taking_builds TakeRow x = tt
+taking_builds (Activity.Rebalance (Rebalance.Seek Seek.Take)) x = tt
 taking_builds _ x = absurd x
 
 -- Elsewhere it knows nothing.
@@ -163,32 +174,32 @@ module _ {z : Sizes} {r r' : Run} {s : ℕ} {choice : Choice} {l l' : Local} whe
       which (inr f) = states_still a h i.sane x others (lost f) q
 
   -- the state of a row that is dead before and after the event stays, unless the event retires it
-  pub dead_state : (a : Activity) → Happens z r r' s choice l l' a → Shape z r → (q : ℕ) → IsDead r.ledger.rows q → IsDead r'.ledger.rows q → (a ≡ Retire → q ≡ l.row → ⊥) → (rows_in (word z r'.world)).state q ≡ (rows_in (word z r.world)).state q
-  dead_state (BalNormal seat) h i q d o n = exchange_leaves (BalNormal seat) h i l.row q (state.Infant seat) small (λ c. c) (λ y e c. e c) (λ y c. c) (λ f. not_exchanged _ _ _ _ h.changed.same f) d
+  pub dead_state : (a : Activity) → Happens z r r' s choice l l' a → Shape z r → (q : ℕ) → IsDead r.ledger.rows q → IsDead r'.ledger.rows q → (a ≡ Activity.Rebalance (Rebalance.Replace Replace.Retire) → q ≡ l.row → ⊥) → (rows_in (word z r'.world)).state q ≡ (rows_in (word z r.world)).state q
+  dead_state (Activity.Rebalance (Rebalance.Engage (Engage.Normal seat))) h i q d o n = exchange_leaves (Activity.Rebalance (Rebalance.Engage (Engage.Normal seat))) h i l.row q (state.Infant seat) small (λ c. c) (λ y e c. e c) (λ y c. c) (λ f. not_exchanged _ _ _ _ h.changed.same f) d
     where
       small : IsState (state.Infant seat)
       small = let k = subst (λ b. IsActivity z b) h.activity (i.sane.locals s l h.knows).ranges.activity in omega (arith, k, i.sane.sized.few_seats)
-  dead_state Engage h i q d o n = exchange_leaves Engage h i l.row q state.Normal tt (λ c. c) (λ y e c. e c) (λ y c. c) (λ f. not_exchanged _ _ _ _ h.changed.same f) d
-  dead_state (Decide count) h i q d o n = exchange_leaves (Decide count) h i l.row q (state.Leader 0) (omega arith) (λ c. absurd (omega (arith, c))) (λ y e c. e c) (λ y c. c) (λ f. not_exchanged _ _ _ _ h.changed.same f) d
-  dead_state TakeRow h i q d o n = exchange_leaves TakeRow h i l.rebalance.sought q state.Free tt (λ c. c) (λ y e c. e c) (λ y c. c) (λ f. taken_lost h f) d
-  dead_state Reclaim h i q d o n = which (cases_eq (word z r.world (name.State l.rebalance.sought)) (state_word (state.Retired l.rebalance.number)))
+  dead_state (Activity.Rebalance (Rebalance.Engage Engage.Lead)) h i q d o n = exchange_leaves (Activity.Rebalance (Rebalance.Engage Engage.Lead)) h i l.row q state.Normal tt (λ c. c) (λ y e c. e c) (λ y c. c) (λ f. not_exchanged _ _ _ _ h.changed.same f) d
+  dead_state (Activity.Rebalance (Rebalance.Engage (Engage.Decide count))) h i q d o n = exchange_leaves (Activity.Rebalance (Rebalance.Engage (Engage.Decide count))) h i l.row q (state.Leader 0) (omega arith) (λ c. absurd (omega (arith, c))) (λ y e c. e c) (λ y c. c) (λ f. not_exchanged _ _ _ _ h.changed.same f) d
+  dead_state (Activity.Rebalance (Rebalance.Seek Seek.Take)) h i q d o n = exchange_leaves (Activity.Rebalance (Rebalance.Seek Seek.Take)) h i l.rebalance.sought q state.Free tt (λ c. c) (λ y e c. e c) (λ y c. c) (λ f. taken_lost h f) d
+  dead_state (Activity.Rebalance (Rebalance.Seek Seek.Reclaim)) h i q d o n = which (cases_eq (word z r.world (name.State l.rebalance.sought)) (state_word (state.Retired l.rebalance.number)))
     where
       -- a row that is freed is dead no more
       free : word z r.world (name.State l.rebalance.sought) ≡ state_word (state.Retired l.rebalance.number) → q ≡ l.rebalance.sought → ⊥
       free e c = linked_not_free r'.ledger.rows q (inr o) (ap (λ y. (r'.ledger.rows.fates y).status) c ∙ ap (λ (f : Fate). f.status) (fate_of_freed h e))
 
       which : (word z r.world (name.State l.rebalance.sought) ≡ state_word (state.Retired l.rebalance.number)) ⊎ (word z r.world (name.State l.rebalance.sought) ≡ state_word (state.Retired l.rebalance.number) → ⊥) → (rows_in (word z r'.world)).state q ≡ (rows_in (word z r.world)).state q
-      which (inl e) = state_kept Reclaim h i.sane q (free e)
-      which (inr f) = states_still Reclaim h i.sane l.rebalance.sought (λ y d c. d c) (not_freed h f) q
-  dead_state Normalise h i q d o n = exchange_leaves Normalise h i (infant l) q (state.Infant s) (seat_fits Normalise h i.sane) (λ c. c) (λ y e c. e c) (λ y c. c) (λ f. normal_lost h f) d
-  dead_state GiveBack h i q d o n = state_kept GiveBack h i.sane q (λ c. linked_not_infant r.ledger.rows s q (inr d) (subst (IsInfantOf r.ledger.rows s) (sym c) (hand_infant GiveBack h i tt)))
-  dead_state Retire h i q d o n = state_kept Retire h i.sane q (λ c. n refl c)
+      which (inl e) = state_kept (Activity.Rebalance (Rebalance.Seek Seek.Reclaim)) h i.sane q (free e)
+      which (inr f) = states_still (Activity.Rebalance (Rebalance.Seek Seek.Reclaim)) h i.sane l.rebalance.sought (λ y d c. d c) (not_freed h f) q
+  dead_state (Activity.Rebalance (Rebalance.Replace Replace.Normalise)) h i q d o n = exchange_leaves (Activity.Rebalance (Rebalance.Replace Replace.Normalise)) h i (infant l) q (state.Infant s) (seat_fits (Activity.Rebalance (Rebalance.Replace Replace.Normalise)) h i.sane) (λ c. c) (λ y e c. e c) (λ y c. c) (λ f. normal_lost h f) d
+  dead_state (Activity.Rebalance (Rebalance.Seek Seek.GiveBack)) h i q d o n = state_kept (Activity.Rebalance (Rebalance.Seek Seek.GiveBack)) h i.sane q (λ c. linked_not_infant r.ledger.rows s q (inr d) (subst (IsInfantOf r.ledger.rows s) (sym c) (hand_infant (Activity.Rebalance (Rebalance.Seek Seek.GiveBack)) h i tt)))
+  dead_state (Activity.Rebalance (Rebalance.Replace Replace.Retire)) h i q d o n = state_kept (Activity.Rebalance (Rebalance.Replace Replace.Retire)) h i.sane q (λ c. n refl c)
   dead_state a h i q d o n = state_kept a h i.sane q (λ c. c)
 
   -- The full row that a seat has replaced.
 
   -- one that is dead and held stays engaged, where the event does not retire it
-  stays_engaged : (a : Activity) → Happens z r r' s choice l l' a → Shape z r → (q : ℕ) → IsHeld r.ledger.rows q → IsDead r.ledger.rows q → (a ≡ Retire → q ≡ l.row → ⊥) → IsEngaged ((rows_in (word z r.world)).state q) → IsEngaged ((rows_in (word z r'.world)).state q)
+  stays_engaged : (a : Activity) → Happens z r r' s choice l l' a → Shape z r → (q : ℕ) → IsHeld r.ledger.rows q → IsDead r.ledger.rows q → (a ≡ Activity.Rebalance (Rebalance.Replace Replace.Retire) → q ≡ l.row → ⊥) → IsEngaged ((rows_in (word z r.world)).state q) → IsEngaged ((rows_in (word z r'.world)).state q)
   stays_engaged a h i q held d n e =
       let after : IsDead r'.ledger.rows q = ap (λ (f : Fate). f.status) (held_dead _ _ r.ledger.rows r'.ledger.rows q held d (linked_keeps a h i q (inr d))) ∙ d in
       subst IsEngaged (sym (dead_state a h i q d after n)) e
@@ -200,14 +211,14 @@ module _ {z : Sizes} {r r' : Run} {s : ℕ} {choice : Choice} {l l' : Local} whe
       let w = i.won t k g in
       stays_engaged a h i k.row (held_by r.ledger.rows t k.row ((i.balances t k g).fresh (won_balances k.activity x))) (w.dead x) retires (i.unretired t k g x)
     where
-      retires : a ≡ Retire → k.row ≡ l.row → ⊥
+      retires : a ≡ Activity.Rebalance (Rebalance.Replace Replace.Retire) → k.row ≡ l.row → ⊥
       retires e c =
-          let own = (won_at Retire (subst (Happens z r r' s choice l l') e h) i).owner tt in
+          let own = (won_at (Activity.Rebalance (Rebalance.Replace Replace.Retire)) (subst (Happens z r r' s choice l l') e h) i).owner tt in
           d (sym ((i.won t k g).owner x) ∙ ap (λ q. (r.ledger.rows.fates q).owner) c ∙ own)
 
   -- a row that is replaced is led, alone or not
-  replaced_engaged : Happens z r r' s choice l l' Replace → Shape z r → link_of (word z r.world (replaced_link l.rebalance.before)) ≡ Some (unmarked_link (Some l.row)) → IsEngaged ((rows_in (word z r'.world)).state l.row)
-  replaced_engaged h i e = subst IsEngaged (sym (state_kept Replace h i.sane l.row (λ c. c))) (which ((balance_at Replace h i).group.1 live).either)
+  replaced_engaged : Happens z r r' s choice l l' (Activity.Rebalance (Rebalance.Replace Replace.Exchange)) → Shape z r → link_of (word z r.world (replaced_link l.rebalance.before)) ≡ Some (unmarked_link (Some l.row)) → IsEngaged ((rows_in (word z r'.world)).state l.row)
+  replaced_engaged h i e = subst IsEngaged (sym (state_kept (Activity.Rebalance (Rebalance.Replace Replace.Exchange)) h i.sane l.row (λ c. c))) (which ((balance_at (Activity.Rebalance (Rebalance.Replace Replace.Exchange)) h i).group.1 live).either)
     where
       live : IsLive r.ledger.rows l.row
       live = full_live h i (sym (link_word_of (word z r.world (replaced_link l.rebalance.before)) (unmarked_link (Some l.row)) e))
@@ -219,12 +230,12 @@ module _ {z : Sizes} {r r' : Run} {s : ℕ} {choice : Choice} {l l' : Local} whe
   pub unretired_own : (a : Activity) → Arrow z (word z r.world) s choice l a l' → Happens z r r' s choice l l' a → Shape z r → HasWon l'.activity → IsEngaged ((rows_in (word z r'.world)).state l'.row)
   unretired_own a b h i x = which (comes z (word z r.world) s choice l a l' b)
     where
-      stays : HasWon a → (a ≢ Retire) → IsEngaged ((rows_in (word z r'.world)).state l.row)
+      stays : HasWon a → (a ≢ Activity.Rebalance (Rebalance.Replace Replace.Retire)) → IsEngaged ((rows_in (word z r'.world)).state l.row)
       stays w n =
           let o = subst HasWon (sym h.activity) w in
           stays_engaged a h i l.row (held_by r.ledger.rows s l.row ((i.balances s l h.knows).fresh (won_balances l.activity o))) ((i.won s l h.knows).dead o) (λ e c. n e) (i.unretired s l h.knows o)
 
-      by : (c : Activity) (k : Local) → WonBy (word z r.world) l c k → Happens z r r' s choice l l' c → (HasWon c → (c ≢ Retire) → IsEngaged ((rows_in (word z r'.world)).state l.row)) → IsEngaged ((rows_in (word z r'.world)).state k.row)
+      by : (c : Activity) (k : Local) → WonBy (word z r.world) l c k → Happens z r r' s choice l l' c → (HasWon c → (c ≢ Activity.Rebalance (Rebalance.Replace Replace.Retire)) → IsEngaged ((rows_in (word z r'.world)).state l.row)) → IsEngaged ((rows_in (word z r'.world)).state k.row)
       by c k (wins_now e) y f = replaced_engaged y i e
       by c k (has_next o) y f = f tt (λ e. cc)
       by c k was_last y f = f tt (λ e. cc)
@@ -251,7 +262,7 @@ module _ {z : Sizes} {r r' : Run} {s : ℕ} {choice : Choice} {l l' : Local} whe
 
   -- a seat that is in no pass, or whose word says an epoch above the number, has none that began
   -- before the number was drawn
-  pub looked : (j : ℕ) → Happens z r r' s choice l l' (SeekPass j) → Shape z r → IsYoung l.rebalance.number (pass_of_word (word z r.world (name.Pass j))) → (since at : ℕ) → r.ledger.rows.passes j ≡ Some since → r.ledger.rows.numbered l.rebalance.number ≡ Some at → at < since
+  pub looked : (j : ℕ) → Happens z r r' s choice l l' (Activity.Rebalance (Rebalance.Seek (Seek.Pass j))) → Shape z r → IsYoung l.rebalance.number (pass_of_word (word z r.world (name.Pass j))) → (since at : ℕ) → r.ledger.rows.passes j ≡ Some since → r.ledger.rows.numbered l.rebalance.number ≡ Some at → at < since
   looked j h i young since at p n = which (cases_lt j (length r.world.locals))
     where
       here : (k : Local) → slice_get r.world.locals j ≡ Some k → IsPassing k.activity ⊎ (IsPassing k.activity → ⊥) → at < since
@@ -286,7 +297,7 @@ module _ {z : Sizes} {r r' : Run} {s : ℕ} {choice : Choice} {l l' : Local} whe
   asked_after a h i t q m since p same was d = which (dead_before a h i q d)
     where
       -- a row that is retired now was not retired before
-      retires : (rows_in (word z r.world)).state q ≡ row.Retired m → a ≡ Retire → q ≡ l.row → ⊥
+      retires : (rows_in (word z r.world)).state q ≡ row.Retired m → a ≡ Activity.Rebalance (Rebalance.Replace Replace.Retire) → q ≡ l.row → ⊥
       retires e c f = let x : IsEngaged ((rows_in (word z r.world)).state l.row) = i.unretired s l h.knows (subst HasWon (sym (h.activity ∙ c)) tt) in subst IsEngaged (ap (rows_in (word z r.world)).state (sym f) ∙ e) x
 
       stays : r'.ledger.rows.fates q ≡ r.ledger.rows.fates q → ((rows_in (word z r.world)).state q ≡ row.Retired m) ⊎ WasHeld r.ledger.rows t q → IsDead r.ledger.rows q → ((rows_in (word z r'.world)).state q ≡ row.Retired m) ⊎ WasHeld r'.ledger.rows t q
@@ -308,21 +319,21 @@ module _ {z : Sizes} {r r' : Run} {s : ℕ} {choice : Choice} {l l' : Local} whe
   -- a pass that is on after the event was on before, or begins now, after all numbers that were
   -- drawn
   pass_now : (a : Activity) → Happens z r r' s choice l l' a → Shape z r → (j since m at : ℕ) → r'.ledger.rows.passes j ≡ Some since → r.ledger.rows.numbered m ≡ Some at → (r.ledger.rows.passes j ≡ Some since → at < since) → at < since
-  pass_now Enter h i j since m at p n f = which (cases_eq j s)
+  pass_now (Activity.Enter Enter.Announce) h i j since m at p n f = which (cases_eq j s)
     where
       which : (j ≡ s) ⊎ (j ≡ s → ⊥) → at < since
       which (inl c) = omega (arith, i.rows.past.drawn m at n, same_Some (length r.history.log) since (sym (pass_begins h) ∙ ap r'.ledger.rows.passes (sym c) ∙ p))
-      which (inr d) = f (sym (others_kept Enter h j d) ∙ p)
-  pass_now (Leave answer) h i j since m at p n f = which (cases_eq j s)
+      which (inr d) = f (sym (others_kept (Activity.Enter Enter.Announce) h j d) ∙ p)
+  pass_now (Activity.Leave answer) h i j since m at p n f = which (cases_eq j s)
     where
       which : (j ≡ s) ⊎ (j ≡ s → ⊥) → at < since
       which (inl c) = let x : None ≡ Some since = sym (pass_ends answer h) ∙ ap r'.ledger.rows.passes (sym c) ∙ p in absurd (cc)
-      which (inr d) = f (sym (others_kept (Leave answer) h j d) ∙ p)
-  pass_now Again h i j since m at p n f = which (cases_eq j s)
+      which (inr d) = f (sym (others_kept (Activity.Leave answer) h j d) ∙ p)
+  pass_now Activity.Retry h i j since m at p n f = which (cases_eq j s)
     where
       which : (j ≡ s) ⊎ (j ≡ s → ⊥) → at < since
       which (inl c) = let x : None ≡ Some since = sym (pass_taken_back h) ∙ ap r'.ledger.rows.passes (sym c) ∙ p in absurd (cc)
-      which (inr d) = f (sym (others_kept Again h j d) ∙ p)
+      which (inr d) = f (sym (others_kept Activity.Retry h j d) ∙ p)
   pass_now a h i j since m at p n f = f (sym (others_stay a h j (λ x e. x)) ∙ p)
 
   -- What a seat knows that is in its pass before and after the event, and whose row and number
@@ -349,7 +360,7 @@ module _ {z : Sizes} {r r' : Run} {s : ℕ} {choice : Choice} {l l' : Local} whe
   -- The acting seat.
 
   -- it finds a row free
-  finds_free : (a : Activity) (q : ℕ) (k : Local) → Happens z r r' s choice l l' a → Shape z r → (ChangesFate a l q → ⊥) → state_of (word z r.world (name.State q)) ≡ Some state.Free → k.rebalance.sought ≡ q → Sought z (word z r'.world) r'.ledger.rows s TakeRow k
+  finds_free : (a : Activity) (q : ℕ) (k : Local) → Happens z r r' s choice l l' a → Shape z r → (ChangesFate a l q → ⊥) → state_of (word z r.world (name.State q)) ≡ Some state.Free → k.rebalance.sought ≡ q → Sought z (word z r'.world) r'.ledger.rows s (Activity.Rebalance (Rebalance.Seek Seek.Take)) k
   finds_free a q k h i n e c = record {
     drawn = λ x. absurd x;
     young = λ j since at o x. absurd x;
@@ -360,7 +371,7 @@ module _ {z : Sizes} {r r' : Run} {s : ℕ} {choice : Choice} {l l' : Local} whe
   }
 
   -- it finds one retired
-  finds_retired : (a : Activity) (q m : ℕ) (k : Local) → Happens z r r' s choice l l' a → Shape z r → (ChangesState a s l q → ⊥) → (DrawsNumber a → ⊥) → state_of (word z r.world (name.State q)) ≡ Some (state.Retired m) → k.rebalance.sought ≡ q → k.rebalance.number ≡ m → Sought z (word z r'.world) r'.ledger.rows s (SeekPass 0) k
+  finds_retired : (a : Activity) (q m : ℕ) (k : Local) → Happens z r r' s choice l l' a → Shape z r → (ChangesState a s l q → ⊥) → (DrawsNumber a → ⊥) → state_of (word z r.world (name.State q)) ≡ Some (state.Retired m) → k.rebalance.sought ≡ q → k.rebalance.number ≡ m → Sought z (word z r'.world) r'.ledger.rows s (Activity.Rebalance (Rebalance.Seek (Seek.Pass 0))) k
   finds_retired a q m k h i n o e c f = record {
     drawn = λ x. (number.at, ap r'.ledger.rows.numbered f ∙ numbers_stay a h o m ∙ number.drawn);
     young = λ j since at u x. absurd (omega (arith, x));
@@ -374,7 +385,7 @@ module _ {z : Sizes} {r r' : Run} {s : ℕ} {choice : Choice} {l l' : Local} whe
           subst (IsDeadState r.ledger.rows q) (ap state_met e) (framed.dead_state (rows_in (word z r.world)) r.ledger.rows q i.rows.states d)
 
   -- it has looked at one pass more, which was none, or began after the number was drawn
-  looks_further : (j : ℕ) (b : Activity) → Happens z r r' s choice l l' (SeekPass j) → Shape z r → IsYoung l.rebalance.number (pass_of_word (word z r.world (name.Pass j))) → IsAsking b → (IsTaking b → ⊥) → ((u : ℕ) → u < z.seats → HasLooked b u → u < j + 1) → Sought z (word z r'.world) r'.ledger.rows s b (record l { activity = b })
+  looks_further : (j : ℕ) (b : Activity) → Happens z r r' s choice l l' (Activity.Rebalance (Rebalance.Seek (Seek.Pass j))) → Shape z r → IsYoung l.rebalance.number (pass_of_word (word z r.world (name.Pass j))) → IsAsking b → (IsTaking b → ⊥) → ((u : ℕ) → u < z.seats → HasLooked b u → u < j + 1) → Sought z (word z r'.world) r'.ledger.rows s b (record l { activity = b })
   looks_further j b h i y o n f = record {
     drawn = λ c. known.drawn tt;
     young = λ u since at w c p m. which u since at w p m (f u w c) (cases_eq u j);
@@ -385,18 +396,18 @@ module _ {z : Sizes} {r r' : Run} {s : ℕ} {choice : Choice} {l l' : Local} whe
       on : (since : ℕ) × (r.ledger.rows.passes s ≡ Some since)
       on = let q = (i.passes s l h.knows).in_pass (subst IsPassing (sym h.activity) tt) in (q.since, q.passes)
 
-      known : Sought z (word z r'.world) r'.ledger.rows s (SeekPass j) l
-      known = stays_known (SeekPass j) h i s on.0 (SeekPass j) l on.1 (others_stay (SeekPass j) h s (λ c e. c)) (sought_at (SeekPass j) h i)
+      known : Sought z (word z r'.world) r'.ledger.rows s (Activity.Rebalance (Rebalance.Seek (Seek.Pass j))) l
+      known = stays_known (Activity.Rebalance (Rebalance.Seek (Seek.Pass j))) h i s on.0 (Activity.Rebalance (Rebalance.Seek (Seek.Pass j))) l on.1 (others_stay (Activity.Rebalance (Rebalance.Seek (Seek.Pass j))) h s (λ c e. c)) (sought_at (Activity.Rebalance (Rebalance.Seek (Seek.Pass j))) h i)
 
       kept : r'.ledger.rows.numbered l.rebalance.number ≡ r.ledger.rows.numbered l.rebalance.number
-      kept = numbers_stay (SeekPass j) h (λ c. c) l.rebalance.number
+      kept = numbers_stay (Activity.Rebalance (Rebalance.Seek (Seek.Pass j))) h (λ c. c) l.rebalance.number
 
       which : (u since at : ℕ) → u < z.seats → r'.ledger.rows.passes u ≡ Some since → r'.ledger.rows.numbered l.rebalance.number ≡ Some at → u < j + 1 → (u ≡ j) ⊎ (u ≡ j → ⊥) → at < since
-      which u since at w q m c (inl d) = looked j h i y since at (ap r.ledger.rows.passes (sym d) ∙ sym (others_stay (SeekPass j) h u (λ c e. c)) ∙ q) (sym kept ∙ m)
+      which u since at w q m c (inl d) = looked j h i y since at (ap r.ledger.rows.passes (sym d) ∙ sym (others_stay (Activity.Rebalance (Rebalance.Seek (Seek.Pass j))) h u (λ c e. c)) ∙ q) (sym kept ∙ m)
       which u since at w q m c (inr d) = known.young u since at w (omega (arith, c, d)) q m
 
   -- it has freed the row, or tried to
-  has_freed : Happens z r r' s choice l l' Reclaim → Shape z r → (k : Local) → k.rebalance.sought ≡ l.rebalance.sought → Sought z (word z r'.world) r'.ledger.rows s TakeRow k
+  has_freed : Happens z r r' s choice l l' (Activity.Rebalance (Rebalance.Seek Seek.Reclaim)) → Shape z r → (k : Local) → k.rebalance.sought ≡ l.rebalance.sought → Sought z (word z r'.world) r'.ledger.rows s (Activity.Rebalance (Rebalance.Seek Seek.Take)) k
   has_freed h i k c = record {
     drawn = λ x. absurd x;
     young = λ j since at o x. absurd x;
@@ -410,16 +421,16 @@ module _ {z : Sizes} {r r' : Run} {s : ℕ} {choice : Choice} {l l' : Local} whe
 
       which : (word z r.world (name.State l.rebalance.sought) ≡ state_word (state.Retired l.rebalance.number)) ⊎ (word z r.world (name.State l.rebalance.sought) ≡ state_word (state.Retired l.rebalance.number) → ⊥) → IsDead r'.ledger.rows l.rebalance.sought → WasHeld r'.ledger.rows s l.rebalance.sought
       which (inl e) d = linked_not_free r'.ledger.rows l.rebalance.sought (inr d) (ap (λ (f : Fate). f.status) (fate_of_freed h e))
-      which (inr n) d = let e = none_freed h n in lost e n ((sought_at Reclaim h i).asked tt (subst (λ (g : ledger.Ledger). IsDead g.rows l.rebalance.sought) e d))
+      which (inr n) d = let e = none_freed h n in lost e n ((sought_at (Activity.Rebalance (Rebalance.Seek Seek.Reclaim)) h i).asked tt (subst (λ (g : ledger.Ledger). IsDead g.rows l.rebalance.sought) e d))
 
   -- by the event that it makes
   sought_built : (a : Activity) (k : Local) → Building z (word z r.world) choice l a k → Happens z r r' s choice l l' a → Shape z r → Sought z (word z r'.world) r'.ledger.rows s k.activity k
-  sought_built a k (first_is_free q c e) h i = finds_free SeekFirst q _ h i (λ x. x) e refl
-  sought_built a k (sought_is_free e) h i = finds_free Seek l.rebalance.sought _ h i (λ x. x) e refl
-  sought_built a k (first_is_retired q m c e) h i = finds_retired SeekFirst q m _ h i (λ x. x) (λ x. x) e refl refl
-  sought_built a k (sought_is_retired m e) h i = finds_retired Seek l.rebalance.sought m _ h i (λ x. x) (λ x. x) e refl refl
-  sought_built a k (pass_is_young j next y (looks_on o)) h i = looks_further j (SeekPass (j + 1)) h i y tt (λ x. x) (λ u w c. c)
-  sought_built a k (pass_is_young j next y (has_looked o)) h i = looks_further j Reclaim h i y tt (λ x. x) (λ u w c. omega (arith, w, o))
+  sought_built a k (first_is_free q c e) h i = finds_free (Activity.Rebalance (Rebalance.Seek Seek.First)) q _ h i (λ x. x) e refl
+  sought_built a k (sought_is_free e) h i = finds_free (Activity.Rebalance (Rebalance.Seek Seek.Next)) l.rebalance.sought _ h i (λ x. x) e refl
+  sought_built a k (first_is_retired q m c e) h i = finds_retired (Activity.Rebalance (Rebalance.Seek Seek.First)) q m _ h i (λ x. x) (λ x. x) e refl refl
+  sought_built a k (sought_is_retired m e) h i = finds_retired (Activity.Rebalance (Rebalance.Seek Seek.Next)) l.rebalance.sought m _ h i (λ x. x) (λ x. x) e refl refl
+  sought_built a k (pass_is_young j next y (looks_on o)) h i = looks_further j (Activity.Rebalance (Rebalance.Seek (Seek.Pass (j + 1)))) h i y tt (λ x. x) (λ u w c. c)
+  sought_built a k (pass_is_young j next y (has_looked o)) h i = looks_further j (Activity.Rebalance (Rebalance.Seek Seek.Reclaim)) h i y tt (λ x. x) (λ u w c. omega (arith, w, o))
   sought_built a k frees_row h i = has_freed h i _ refl
   sought_built a k (first_is_taken q rows next c n y) h i = unsought z _ r'.ledger.rows s _ next (seek_elsewhere rows _ next y)
   sought_built a k (sought_is_taken rows next n y) h i = unsought z _ r'.ledger.rows s _ next (seek_elsewhere rows _ next y)
@@ -466,7 +477,7 @@ fresh_late z r i t q n k g f e = which f (cases_lt n k.epoch)
     which (inr w) (inr o) = o
 
 -- so is that of a row that a seat tries to take
-pub retakes : (z : Sizes) (r : Run) → Shape z r → (t n : ℕ) (k : Local) → slice_get r.world.locals t ≡ Some k → k.activity ≡ TakeRow → (rows_in (word z r.world)).state k.rebalance.sought ≡ row.Retired n → k.epoch ≤ n
+pub retakes : (z : Sizes) (r : Run) → Shape z r → (t n : ℕ) (k : Local) → slice_get r.world.locals t ≡ Some k → k.activity ≡ Activity.Rebalance (Rebalance.Seek Seek.Take) → (rows_in (word z r.world)).state k.rebalance.sought ≡ row.Retired n → k.epoch ≤ n
 retakes z r i t n k g e f =
     let d = dead_by_state (rows_in (word z r.world)) r.ledger.rows k.rebalance.sought n i.rows.states f in
     fresh_late z r i t k.rebalance.sought n k g (inr ((i.sought t k g).taken (subst IsTaking (sym e) tt) d)) f

@@ -7,7 +7,8 @@ use Rattle.kw_words.specs.declared.state.State.TheVariants.{Free, Infant, Normal
 use Rattle.kw_words.specs.Plain.{pass_of_word}
 use Rattle.kw_words.specs.State.{state_of, state_word}
 use Rattle.kw_world.specs.declared.activity.Activity.{Activity}
-use Rattle.kw_world.specs.declared.activity.Activity.TheVariants.{SeekFirst, Seek, SeekPass, Reclaim, TakeRow}
+use Rattle.kw_world.specs.declared.activity.rebalance.Rebalance.TheVariants as Rebalance
+use Rattle.kw_world.specs.declared.activity.rebalance.seek.Seek.TheVariants as Seek
 use Rattle.kw_world.specs.declared.event.Choice.{Choice}
 use Rattle.kw_world.specs.declared.event.Choice.TheVariants.{Begin, Go, Guess, Stop}
 use Rattle.kw_world.specs.declared.local.Local.{Local}
@@ -143,9 +144,9 @@ sought_in {z} {r} {r'} {s} {choice} {l} {l'} a b h sane = by a h b
     now = let k = (sane.locals s l h.knows).below.rebalance in record { sought = k.sought; asked = k.asked }
 
     by : (a : Activity) → Happens z r r' s choice l l' a → IsBuilding a → IsSoughtIn r.world.rows l'
-    by SeekFirst h b = subst (IsSoughtIn r.world.rows) (sym h.next) (first_sought r.world.rows some choice l _ h.offers now)
-    by Seek h b = subst (IsSoughtIn r.world.rows) (sym h.next) (met_sought r.world.rows some (state_of (word z r.world (name.State l.rebalance.sought))) l now)
-    by (SeekPass i) h b = subst (IsSoughtIn r.world.rows) (sym h.next) (passed_sought r.world.rows some z i (pass_of_word (word z r.world (name.Pass i))) l now)
-    by Reclaim h b = subst (IsSoughtIn r.world.rows) (sym h.next) (assumption now)
-    by TakeRow h b = subst (IsSoughtIn r.world.rows) (sym h.next) (take_sought r.world.rows some (word z r.world (name.State l.rebalance.sought) == state_word Free) l now)
+    by (Activity.Rebalance (Rebalance.Seek Seek.First)) h b = subst (IsSoughtIn r.world.rows) (sym h.next) (first_sought r.world.rows some choice l _ h.offers now)
+    by (Activity.Rebalance (Rebalance.Seek Seek.Next)) h b = subst (IsSoughtIn r.world.rows) (sym h.next) (met_sought r.world.rows some (state_of (word z r.world (name.State l.rebalance.sought))) l now)
+    by (Activity.Rebalance (Rebalance.Seek (Seek.Pass i))) h b = subst (IsSoughtIn r.world.rows) (sym h.next) (passed_sought r.world.rows some z i (pass_of_word (word z r.world (name.Pass i))) l now)
+    by (Activity.Rebalance (Rebalance.Seek Seek.Reclaim)) h b = subst (IsSoughtIn r.world.rows) (sym h.next) (assumption now)
+    by (Activity.Rebalance (Rebalance.Seek Seek.Take)) h b = subst (IsSoughtIn r.world.rows) (sym h.next) (take_sought r.world.rows some (word z r.world (name.State l.rebalance.sought) == state_word Free) l now)
     by a h b = subst (IsSoughtIn r.world.rows) (sym h.next) (kept_sought r.world.rows some z (word z r.world) choice l a _ (building z r.world.rows (word z r.world) s choice l a b) (λ t. t) now)

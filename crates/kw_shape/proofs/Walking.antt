@@ -6,7 +6,11 @@ use Rattle.std.proofs.lemmas.Option.{same_Some}
 use Rattle.kw_words.specs.declared.layout.Name.TheVariants as name
 use Rattle.kw_words.specs.Link.{link_of}
 use Rattle.kw_world.specs.declared.activity.Activity.{Activity}
-use Rattle.kw_world.specs.declared.activity.Activity.TheVariants.{Start, Head, GuessMin, Walk, WalkMin, Look, LookKey, LookClock, LookHelp, ListFrom, ListKey, ListVer, ListVal, RestKey, RestVal, PutCount, PutAdd, PutKey, PutValue, Announce, PutClock, Stamp, PutVersion, InsFrom, InsKey, InsVer, InsSet, Insert, PutClear}
+use Rattle.kw_world.specs.declared.activity.insert.Insert.TheVariants as Insert
+use Rattle.kw_world.specs.declared.activity.look.Look.TheVariants as Look
+use Rattle.kw_world.specs.declared.activity.put.Put.TheVariants as Put
+use Rattle.kw_world.specs.declared.activity.read.Read.TheVariants as Read
+use Rattle.kw_world.specs.declared.activity.walk.Walk.TheVariants as Walk
 use Rattle.kw_world.specs.declared.local.Local.{Local}
 use Rattle.kw_world.specs.declared.event.Choice.{Choice}
 use Rattle.kw_world.specs.Sizes.{Sizes}
@@ -27,20 +31,20 @@ use Rattle.kw_shape.proofs.AfterBuilding.{after_walks}
 
 -- a seat that is at its row is past the start of its walk
 pub past : (a : Activity) → IsAtRow a → IsPastStart a
-past Walk x = tt
-past WalkMin x = tt
+past (Activity.Walk Walk.Next) x = tt
+past (Activity.Walk Walk.NextLeast) x = tt
 past _ x = x
 
 not_starting : (a : Activity) → IsAtRow a → IsStarting a → ⊥
-not_starting Start x y = x
-not_starting Head x y = x
-not_starting GuessMin x y = x
+not_starting (Activity.Walk Walk.Start) x y = x
+not_starting (Activity.Walk Walk.First) x y = x
+not_starting (Activity.Walk Walk.GuessedLeast) x y = x
 not_starting _ x y = y
 
 on_row : (a : Activity) (v : Words) (g : Ledger) (t : ℕ) (l : Local) → IsAtRow a → IsOnWalk a v g t l
-on_row GuessMin v g t l x = absurd x
-on_row Walk v g t l x = absurd x
-on_row WalkMin v g t l x = absurd x
+on_row (Activity.Walk Walk.GuessedLeast) v g t l x = absurd x
+on_row (Activity.Walk Walk.Next) v g t l x = absurd x
+on_row (Activity.Walk Walk.NextLeast) v g t l x = absurd x
 on_row _ v g t l x = tt
 
 -- a seat that stays at its row with its call wants what it wanted
@@ -75,12 +79,12 @@ module _ (v : Words) (g : Ledger) (t : ℕ) where
 
   -- the next look of a reader
   look_stays : (z : Sizes) (j : ℕ) (a : Activity) (l : Local) (next : Activity) (k : Local) → NextLook z j next → IsAtRow a → k.row ≡ l.row → k.lower ≡ l.lower → k.want ≡ l.want → k.next ≡ l.next → k.upper ≡ l.upper → k.call ≡ l.call → Walks v g t a l → Walks v g t next k
-  look_stays z j a l next k (looks o) x row lower want after upper call w = stays a l (Look j) k x tt row lower want after upper call w
-  look_stays z j a l next k (lists o) x row lower want after upper call w = stays a l ListFrom k x tt row lower want after upper call w
+  look_stays z j a l next k (looks o) x row lower want after upper call w = stays a l (Activity.Look (Look.Entry j)) k x tt row lower want after upper call w
+  look_stays z j a l next k (lists o) x row lower want after upper call w = stays a l (Activity.Read Read.Link) k x tt row lower want after upper call w
 
   -- the next cell of a reader, or the next row of a scan
   cell_goes : (a : Activity) (l : Local) (k next : Local) → NextRest k next → IsAtRow a → k.row ≡ l.row → k.lower ≡ l.lower → k.want ≡ l.want → k.next ≡ l.next → k.upper ≡ l.upper → k.call ≡ l.call → Walks v g t a l → Walks v g t next.activity next
-  cell_goes a l k next (rests m o) x row lower want after upper call w = stays a l RestKey next x tt row lower want after upper call w
+  cell_goes a l k next (rests m o) x row lower want after upper call w = stays a l (Activity.Read Read.LeftOverKey) next x tt row lower want after upper call w
   cell_goes a l k next (answers o n) x row lower want after upper call w = nowhere _ next (λ u. u) (λ u. u) (λ u. u) tt
   cell_goes a l k next (ends_scan o y n) x row lower want after upper call w = nowhere _ next (λ u. u) (λ u. u) (λ u. u) tt
   cell_goes a l k next (scans_on q o y n u) x row lower want after upper call w =
@@ -95,7 +99,7 @@ module _ (v : Words) (g : Ledger) (t : ℕ) where
       }
 
   -- at the row before the candidate
-  arrives_before : (b : Activity) (l k : Local) → IsAtRow b → l.want < least_in v l.candidate → k.row ≡ l.row → k.lower ≡ l.lower → k.want ≡ l.want → k.next ≡ Some l.candidate → k.upper ≡ least_in v l.candidate → k.call ≡ l.call → Walks v g t WalkMin l → Walks v g t b k
+  arrives_before : (b : Activity) (l k : Local) → IsAtRow b → l.want < least_in v l.candidate → k.row ≡ l.row → k.lower ≡ l.lower → k.want ≡ l.want → k.next ≡ Some l.candidate → k.upper ≡ least_in v l.candidate → k.call ≡ l.call → Walks v g t (Activity.Walk Walk.NextLeast) l → Walks v g t b k
   arrives_before b l k y o row lower want next upper call w = record {
     on = on_row b v g t k y;
     lower = λ q. lower ∙ w.lower tt ∙ ap (least_in v) (sym row);
@@ -113,7 +117,7 @@ module _ (v : Words) (g : Ledger) (t : ℕ) where
 
 module _ (v : Words) (g : Ledger) (t : ℕ) {now : ℕ} (rows : Structure (rows_in v) g now) where
   -- at the row after which the walk ends
-  arrives_last : (b : Activity) (l k : Local) → IsAtRow b → next_in v l.row ≡ None → k.row ≡ l.row → k.lower ≡ l.lower → k.want ≡ l.want → k.next ≡ None → k.call ≡ l.call → Walks v g t Walk l → Walks v g t b k
+  arrives_last : (b : Activity) (l k : Local) → IsAtRow b → next_in v l.row ≡ None → k.row ≡ l.row → k.lower ≡ l.lower → k.want ≡ l.want → k.next ≡ None → k.call ≡ l.call → Walks v g t (Activity.Walk Walk.Next) l → Walks v g t b k
   arrives_last b l k y e row lower want next call w = record {
     on = on_row b v g t k y;
     lower = λ q. lower ∙ w.lower tt ∙ ap (least_in v) (sym row);
@@ -128,7 +132,7 @@ module _ (v : Words) (g : Ledger) (t : ℕ) {now : ℕ} (rows : Structure (rows_
   }
 
   -- at the first row
-  at_first : (k : Local) → k.row ≡ row_or_first (row_linked (link_of (v name.Head))) → k.lower ≡ 0 → k.want ≡ first_key k.call → Walks v g t Walk k
+  at_first : (k : Local) → k.row ≡ row_or_first (row_linked (link_of (v name.Head))) → k.lower ≡ 0 → k.want ≡ first_key k.call → Walks v g t (Activity.Walk Walk.Next) k
   at_first k row lower want =
       let c = rows.chain in
       let e : k.row ≡ c.first = row ∙ ap row_or_first c.leads in
@@ -141,7 +145,7 @@ module _ (v : Words) (g : Ledger) (t : ℕ) {now : ℕ} (rows : Structure (rows_
       }
 
   -- at the row after one, which begins where the range of that one ends
-  meets : (l : Local) (q : ℕ) → next_in v l.row ≡ Some q → Walks v g t Walk l → Walks v g t WalkMin (record l { candidate = q; activity = WalkMin })
+  meets : (l : Local) (q : ℕ) → next_in v l.row ≡ Some q → Walks v g t (Activity.Walk Walk.Next) l → Walks v g t (Activity.Walk Walk.NextLeast) (record l { candidate = q; activity = Activity.Walk Walk.NextLeast })
   meets l q n w = record {
     on = (w.on.0, w.on.1, fresh_next (rows_in v) g rows.closed t l.row q w.on.0 n, ends_at (rows_in v) g rows.closed l.row q (held_by g t l.row w.on.0) n);
     lower = λ u. w.lower tt;
@@ -151,7 +155,7 @@ module _ (v : Words) (g : Ledger) (t : ℕ) {now : ℕ} (rows : Structure (rows_
   }
 
   -- a scan that wants the minimum of its row does not walk on from there
-  goes_beyond : (l : Local) → Walks v g t WalkMin l → least_in v l.candidate ≤ l.want → l.want ≡ first_key l.call
+  goes_beyond : (l : Local) → Walks v g t (Activity.Walk Walk.NextLeast) l → least_in v l.candidate ≤ l.want → l.want ≡ first_key l.call
   goes_beyond l w o = which (w.wants tt)
     where
       which : (l.want ≡ first_key l.call) ⊎ (is_scan l.call ≡ true) × (least_in v l.row ≡ l.want) → l.want ≡ first_key l.call
@@ -169,48 +173,48 @@ walks_by z v g s choice l a l' guess_fails c w = record { on = tt; lower = λ q.
 walks_by z v g s choice l a l' takes_head c w = at_first v g s c _ refl refl (w.begins tt)
 walks_by z v g s choice l a l' (guess_serves o) c w = record { on = (w.on, o); lower = λ u. refl; at = λ u. absurd u; begins = λ u. absurd u; wants = λ u. inl (w.begins tt) }
 walks_by z v g s choice l a l' (guess_is_above o) c w = record { on = tt; lower = λ q. absurd q; at = λ u. absurd u; begins = λ u. w.begins tt; wants = λ u. absurd u }
-walks_by z v g s choice l a l' (puts_in_last y n) c w = arrives_last v g s c PutCount l _ tt n refl refl refl refl refl w
-walks_by z v g s choice l a l' (reads_last y n) c w = arrives_last v g s c (Look 0) l _ tt n refl refl refl refl refl w
+walks_by z v g s choice l a l' (puts_in_last y n) c w = arrives_last v g s c (Activity.Put Put.Count) l _ tt n refl refl refl refl refl w
+walks_by z v g s choice l a l' (reads_last y n) c w = arrives_last v g s c (Activity.Look (Look.Entry 0)) l _ tt n refl refl refl refl refl w
 walks_by z v g s choice l a l' (meets_next q n) c w = meets v g s c l q n w
 walks_by z v g s choice l a l' (walks_on o) c w = record { on = (w.on.2, o); lower = λ u. refl; at = λ u. absurd u; begins = λ u. absurd u; wants = λ u. inl (goes_beyond v g s c l w o) }
-walks_by z v g s choice l a l' (puts_before y o) c w = arrives_before v g s PutCount l _ tt o refl refl refl refl refl refl w
-walks_by z v g s choice l a l' (reads_before y o) c w = arrives_before v g s (Look 0) l _ tt o refl refl refl refl refl refl w
-walks_by z v g s choice l a l' (meets_pending k x y) c w = stays v g s (Look k) l LookKey _ tt tt refl refl refl refl refl refl w
-walks_by z v g s choice l a l' (meets_stamped k x version next y n) c w = look_stays v g s z _ (Look k) l next _ n tt refl refl refl refl refl refl w
-walks_by z v g s choice l a l' (meets_neither k next y n) c w = look_stays v g s z _ (Look k) l next _ n tt refl refl refl refl refl refl w
-walks_by z v g s choice l a l' (is_wanted y) c w = stays v g s LookKey l LookClock _ tt tt refl refl refl refl refl refl w
-walks_by z v g s choice l a l' (is_passed next y n) c w = look_stays v g s z _ LookKey l next _ n tt refl refl refl refl refl refl w
-walks_by z v g s choice l a l' loads_to_help c w = stays v g s LookClock l LookHelp _ tt tt refl refl refl refl refl refl w
-walks_by z v g s choice l a l' (helps next y n) c w = look_stays v g s z _ LookHelp l next _ n tt refl refl refl refl refl refl w
-walks_by z v g s choice l a l' (finds_stamped x version next y n) c w = look_stays v g s z _ LookHelp l next _ n tt refl refl refl refl refl refl w
-walks_by z v g s choice l a l' (finds_other next y n) c w = look_stays v g s z _ LookHelp l next _ n tt refl refl refl refl refl refl w
-walks_by z v g s choice l a l' (list_ends next e n) c w = cell_goes v g s ListFrom l _ next n tt refl refl refl refl refl refl w
-walks_by z v g s choice l a l' (list_leads x y) c w = stays v g s ListFrom l ListKey _ tt tt refl refl refl refl refl refl w
-walks_by z v g s choice l a l' (key_below y) c w = stays v g s ListKey l ListFrom _ tt tt refl refl refl refl refl refl w
-walks_by z v g s choice l a l' (key_within y u) c w = stays v g s ListKey l ListVer _ tt tt refl refl refl refl refl refl w
-walks_by z v g s choice l a l' loads_version c w = stays v g s ListVer l ListVal _ tt tt refl refl refl refl refl refl w
-walks_by z v g s choice l a l' gathers_listed c w = stays v g s ListVal l ListFrom _ tt tt refl refl refl refl refl refl w
-walks_by z v g s choice l a l' (rest_wanted y) c w = stays v g s RestKey l RestVal _ tt tt refl refl refl refl refl refl w
-walks_by z v g s choice l a l' (key_above next y n) c w = cell_goes v g s ListKey l _ next n tt refl refl refl refl refl refl w
-walks_by z v g s choice l a l' (rest_passed next y n) c w = cell_goes v g s RestKey l _ next n tt refl refl refl refl refl refl w
-walks_by z v g s choice l a l' (gathers_rest next n) c w = cell_goes v g s RestVal l _ next n tt refl refl refl refl refl refl w
-walks_by z v g s choice l a l' (finds_room y) c w = stays v g s PutCount l PutAdd _ tt tt refl refl refl refl refl refl w
-walks_by z v g s choice l a l' (takes_cell y) c w = stays v g s PutAdd l PutKey _ tt tt refl refl refl refl refl refl w
-walks_by z v g s choice l a l' stores_key c w = stays v g s PutKey l PutValue _ tt tt refl refl refl refl refl refl w
-walks_by z v g s choice l a l' stores_value c w = stays v g s PutValue l Announce _ tt tt refl refl refl refl refl refl w
-walks_by z v g s choice l a l' (announces y) c w = stays v g s Announce l PutClock _ tt tt refl refl refl refl refl refl w
-walks_by z v g s choice l a l' loads_clock c w = stays v g s PutClock l Stamp _ tt tt refl refl refl refl refl refl w
-walks_by z v g s choice l a l' (stamps y) c w = stays v g s Stamp l PutVersion _ tt tt refl refl refl refl refl refl w
-walks_by z v g s choice l a l' (is_stamped version y) c w = stays v g s Stamp l PutVersion _ tt tt refl refl refl refl refl refl w
-walks_by z v g s choice l a l' stores_version c w = stays v g s PutVersion l InsFrom _ tt tt refl refl refl refl refl refl w
-walks_by z v g s choice l a l' (meets_cell x y) c w = stays v g s InsFrom l InsKey _ tt tt refl refl refl refl refl refl w
-walks_by z v g s choice l a l' (meets_none y) c w = stays v g s InsFrom l InsSet _ tt tt refl refl refl refl refl refl w
-walks_by z v g s choice l a l' (key_before y) c w = stays v g s InsKey l InsFrom _ tt tt refl refl refl refl refl refl w
-walks_by z v g s choice l a l' (key_same y) c w = stays v g s InsKey l InsVer _ tt tt refl refl refl refl refl refl w
-walks_by z v g s choice l a l' (key_after y) c w = stays v g s InsKey l InsSet _ tt tt refl refl refl refl refl refl w
-walks_by z v g s choice l a l' (version_before y) c w = stays v g s InsVer l InsFrom _ tt tt refl refl refl refl refl refl w
-walks_by z v g s choice l a l' (version_after y) c w = stays v g s InsVer l InsSet _ tt tt refl refl refl refl refl refl w
-walks_by z v g s choice l a l' stores_after c w = stays v g s InsSet l Insert _ tt tt refl refl refl refl refl refl w
-walks_by z v g s choice l a l' (inserts y) c w = stays v g s Insert l PutClear _ tt tt refl refl refl refl refl refl w
-walks_by z v g s choice l a l' (loses y) c w = stays v g s Insert l InsFrom _ tt tt refl refl refl refl refl refl w
+walks_by z v g s choice l a l' (puts_before y o) c w = arrives_before v g s (Activity.Put Put.Count) l _ tt o refl refl refl refl refl refl w
+walks_by z v g s choice l a l' (reads_before y o) c w = arrives_before v g s (Activity.Look (Look.Entry 0)) l _ tt o refl refl refl refl refl refl w
+walks_by z v g s choice l a l' (meets_pending k x y) c w = stays v g s (Activity.Look (Look.Entry k)) l (Activity.Look Look.Key) _ tt tt refl refl refl refl refl refl w
+walks_by z v g s choice l a l' (meets_stamped k x version next y n) c w = look_stays v g s z _ (Activity.Look (Look.Entry k)) l next _ n tt refl refl refl refl refl refl w
+walks_by z v g s choice l a l' (meets_neither k next y n) c w = look_stays v g s z _ (Activity.Look (Look.Entry k)) l next _ n tt refl refl refl refl refl refl w
+walks_by z v g s choice l a l' (is_wanted y) c w = stays v g s (Activity.Look Look.Key) l (Activity.Look Look.Clock) _ tt tt refl refl refl refl refl refl w
+walks_by z v g s choice l a l' (is_passed next y n) c w = look_stays v g s z _ (Activity.Look Look.Key) l next _ n tt refl refl refl refl refl refl w
+walks_by z v g s choice l a l' loads_to_help c w = stays v g s (Activity.Look Look.Clock) l (Activity.Look Look.Help) _ tt tt refl refl refl refl refl refl w
+walks_by z v g s choice l a l' (helps next y n) c w = look_stays v g s z _ (Activity.Look Look.Help) l next _ n tt refl refl refl refl refl refl w
+walks_by z v g s choice l a l' (finds_stamped x version next y n) c w = look_stays v g s z _ (Activity.Look Look.Help) l next _ n tt refl refl refl refl refl refl w
+walks_by z v g s choice l a l' (finds_other next y n) c w = look_stays v g s z _ (Activity.Look Look.Help) l next _ n tt refl refl refl refl refl refl w
+walks_by z v g s choice l a l' (list_ends next e n) c w = cell_goes v g s (Activity.Read Read.Link) l _ next n tt refl refl refl refl refl refl w
+walks_by z v g s choice l a l' (list_leads x y) c w = stays v g s (Activity.Read Read.Link) l (Activity.Read Read.Key) _ tt tt refl refl refl refl refl refl w
+walks_by z v g s choice l a l' (key_below y) c w = stays v g s (Activity.Read Read.Key) l (Activity.Read Read.Link) _ tt tt refl refl refl refl refl refl w
+walks_by z v g s choice l a l' (key_within y u) c w = stays v g s (Activity.Read Read.Key) l (Activity.Read Read.Version) _ tt tt refl refl refl refl refl refl w
+walks_by z v g s choice l a l' loads_version c w = stays v g s (Activity.Read Read.Version) l (Activity.Read Read.Value) _ tt tt refl refl refl refl refl refl w
+walks_by z v g s choice l a l' gathers_listed c w = stays v g s (Activity.Read Read.Value) l (Activity.Read Read.Link) _ tt tt refl refl refl refl refl refl w
+walks_by z v g s choice l a l' (rest_wanted y) c w = stays v g s (Activity.Read Read.LeftOverKey) l (Activity.Read Read.LeftOverValue) _ tt tt refl refl refl refl refl refl w
+walks_by z v g s choice l a l' (key_above next y n) c w = cell_goes v g s (Activity.Read Read.Key) l _ next n tt refl refl refl refl refl refl w
+walks_by z v g s choice l a l' (rest_passed next y n) c w = cell_goes v g s (Activity.Read Read.LeftOverKey) l _ next n tt refl refl refl refl refl refl w
+walks_by z v g s choice l a l' (gathers_rest next n) c w = cell_goes v g s (Activity.Read Read.LeftOverValue) l _ next n tt refl refl refl refl refl refl w
+walks_by z v g s choice l a l' (finds_room y) c w = stays v g s (Activity.Put Put.Count) l (Activity.Put Put.Add) _ tt tt refl refl refl refl refl refl w
+walks_by z v g s choice l a l' (takes_cell y) c w = stays v g s (Activity.Put Put.Add) l (Activity.Put Put.Key) _ tt tt refl refl refl refl refl refl w
+walks_by z v g s choice l a l' stores_key c w = stays v g s (Activity.Put Put.Key) l (Activity.Put Put.Value) _ tt tt refl refl refl refl refl refl w
+walks_by z v g s choice l a l' stores_value c w = stays v g s (Activity.Put Put.Value) l (Activity.Put Put.Announce) _ tt tt refl refl refl refl refl refl w
+walks_by z v g s choice l a l' (announces y) c w = stays v g s (Activity.Put Put.Announce) l (Activity.Put Put.Clock) _ tt tt refl refl refl refl refl refl w
+walks_by z v g s choice l a l' loads_clock c w = stays v g s (Activity.Put Put.Clock) l (Activity.Put Put.Stamp) _ tt tt refl refl refl refl refl refl w
+walks_by z v g s choice l a l' (stamps y) c w = stays v g s (Activity.Put Put.Stamp) l (Activity.Put Put.Version) _ tt tt refl refl refl refl refl refl w
+walks_by z v g s choice l a l' (is_stamped version y) c w = stays v g s (Activity.Put Put.Stamp) l (Activity.Put Put.Version) _ tt tt refl refl refl refl refl refl w
+walks_by z v g s choice l a l' stores_version c w = stays v g s (Activity.Put Put.Version) l (Activity.Insert Insert.Link) _ tt tt refl refl refl refl refl refl w
+walks_by z v g s choice l a l' (meets_cell x y) c w = stays v g s (Activity.Insert Insert.Link) l (Activity.Insert Insert.Key) _ tt tt refl refl refl refl refl refl w
+walks_by z v g s choice l a l' (meets_none y) c w = stays v g s (Activity.Insert Insert.Link) l (Activity.Insert Insert.Set) _ tt tt refl refl refl refl refl refl w
+walks_by z v g s choice l a l' (key_before y) c w = stays v g s (Activity.Insert Insert.Key) l (Activity.Insert Insert.Link) _ tt tt refl refl refl refl refl refl w
+walks_by z v g s choice l a l' (key_same y) c w = stays v g s (Activity.Insert Insert.Key) l (Activity.Insert Insert.Version) _ tt tt refl refl refl refl refl refl w
+walks_by z v g s choice l a l' (key_after y) c w = stays v g s (Activity.Insert Insert.Key) l (Activity.Insert Insert.Set) _ tt tt refl refl refl refl refl refl w
+walks_by z v g s choice l a l' (version_before y) c w = stays v g s (Activity.Insert Insert.Version) l (Activity.Insert Insert.Link) _ tt tt refl refl refl refl refl refl w
+walks_by z v g s choice l a l' (version_after y) c w = stays v g s (Activity.Insert Insert.Version) l (Activity.Insert Insert.Set) _ tt tt refl refl refl refl refl refl w
+walks_by z v g s choice l a l' stores_after c w = stays v g s (Activity.Insert Insert.Set) l (Activity.Insert Insert.Exchange) _ tt tt refl refl refl refl refl refl w
+walks_by z v g s choice l a l' (inserts y) c w = stays v g s (Activity.Insert Insert.Exchange) l (Activity.Put Put.Clear) _ tt tt refl refl refl refl refl refl w
+walks_by z v g s choice l a l' (loses y) c w = stays v g s (Activity.Insert Insert.Exchange) l (Activity.Insert Insert.Link) _ tt tt refl refl refl refl refl refl w
 walks_by z v g s choice l a l' _ c w = nowhere v g s _ _ (λ u. u) (λ u. u) (λ u. u) tt

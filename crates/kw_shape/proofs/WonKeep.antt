@@ -12,7 +12,9 @@ use Rattle.kw_rows.specs.Rows.{WasLinked}
 use Rattle.kw_rows.specs.States.{IsNumbered}
 use Rattle.kw_rows.proofs.Named.{held_by}
 use Rattle.kw_world.specs.declared.activity.Activity.{Activity}
-use Rattle.kw_world.specs.declared.activity.Activity.TheVariants.{BalClock, Normalise, Number, Replace, Retire}
+use Rattle.kw_world.specs.declared.activity.rebalance.engage.Engage.TheVariants as Engage
+use Rattle.kw_world.specs.declared.activity.rebalance.Rebalance.TheVariants as Rebalance
+use Rattle.kw_world.specs.declared.activity.rebalance.replace.Replace.TheVariants as Replace
 use Rattle.kw_world.specs.declared.event.Choice.{Choice}
 use Rattle.kw_world.specs.declared.local.Local.{Local}
 use Rattle.kw_world.specs.declared.rebalance.Afterwards.{Afterwards}
@@ -45,7 +47,7 @@ use Rattle.kw_shape.specs.Won.{HasWon, IsNormalising, IsRetiring, Won}
 
 -- the seat begins to rebalance a row
 abbrev IsClock : Activity → Type 0
-IsClock BalClock = Unit {0}
+IsClock (Activity.Rebalance (Rebalance.Engage Engage.Clock)) = Unit {0}
 IsClock _ = ⊥
 
 -- the seat neither moves to another row nor has replaced its own
@@ -130,11 +132,11 @@ module _ (v : Words) (g : Ledger) (t : ℕ) (l : Local) where
   given_moves c e next moves_left x f = f refl
 
   -- a mark in the link of the head is met nowhere
-  marked_moves : (b : Option ℕ) → l.rebalance.before ≡ b → link_of (v (replaced_link b)) ≡ Some (marked_link (Some l.row)) → (link_of (v name.Head) ≡ Some (marked_link (Some l.row)) → ⊥) → Search v g t Replace l → (next : Local) → NextBack MoveLeft l next → IsClock next.activity → Moves v g t next
+  marked_moves : (b : Option ℕ) → l.rebalance.before ≡ b → link_of (v (replaced_link b)) ≡ Some (marked_link (Some l.row)) → (link_of (v name.Head) ≡ Some (marked_link (Some l.row)) → ⊥) → Search v g t (Activity.Rebalance (Rebalance.Replace Replace.Exchange)) l → (next : Local) → NextBack MoveLeft l next → IsClock next.activity → Moves v g t next
   marked_moves (Some p) e k head s next y x = back_moves p e (s.fresh p tt e) (s.least p tt e) next y x
   marked_moves None e k head s next y x = absurd (head k)
 
-  pub moves_by : (z : Sizes) (choice : Choice) (a : Activity) (k : Local) → Building z v choice l a k → (link_of (v name.Head) ≡ Some (marked_link (Some l.row)) → ⊥) → Search v g t a l → k.activity ≡ BalClock → Moves v g t k
+  pub moves_by : (z : Sizes) (choice : Choice) (a : Activity) (k : Local) → Building z v choice l a k → (link_of (v name.Head) ≡ Some (marked_link (Some l.row)) → ⊥) → Search v g t a l → k.activity ≡ Activity.Rebalance (Rebalance.Engage Engage.Clock) → Moves v g t k
   moves_by z choice a k b head s e = by b s (subst IsClock (sym e) tt)
     where
       by : {c : Activity} {m : Local} → Building z v choice l c m → Search v g t c l → IsClock m.activity → Moves v g t m
@@ -168,24 +170,24 @@ head_open z r i q e = unmarked_head r.world.rows q _ (i.sane.led name.Head tt) e
 -- What a seat knows of the row that it has replaced.
 
 normal_won : (a : Activity) → IsNormalising a → HasWon a
-normal_won Normalise x = tt
+normal_won (Activity.Rebalance (Rebalance.Replace Replace.Normalise)) x = tt
 normal_won _ x = absurd x
 
 retire_won : (a : Activity) → IsRetiring a → HasWon a
-retire_won Retire x = tt
+retire_won (Activity.Rebalance (Rebalance.Replace Replace.Retire)) x = tt
 retire_won _ x = absurd x
 
 won_passes : (a : Activity) → HasWon a → IsPassing a
-won_passes Normalise x = tt
-won_passes Number x = tt
-won_passes Retire x = tt
+won_passes (Activity.Rebalance (Rebalance.Replace Replace.Normalise)) x = tt
+won_passes (Activity.Rebalance (Rebalance.Replace Replace.Number)) x = tt
+won_passes (Activity.Rebalance (Rebalance.Replace Replace.Retire)) x = tt
 won_passes _ x = absurd x
 
 -- it rebalances its row
 pub won_balances : (a : Activity) → HasWon a → IsBalancing a
-won_balances Normalise x = tt
-won_balances Number x = tt
-won_balances Retire x = tt
+won_balances (Activity.Rebalance (Rebalance.Replace Replace.Normalise)) x = tt
+won_balances (Activity.Rebalance (Rebalance.Replace Replace.Number)) x = tt
+won_balances (Activity.Rebalance (Rebalance.Replace Replace.Retire)) x = tt
 won_balances _ x = absurd x
 
 -- elsewhere nothing
@@ -201,17 +203,17 @@ in_list (x ∷ xs) (suc i) q e = inr (in_list xs i q e)
 
 -- a seat has replaced its row, or has not
 has_won : (a : Activity) → HasWon a ⊎ (HasWon a → ⊥)
-has_won Normalise = inl tt
-has_won Number = inl tt
-has_won Retire = inl tt
+has_won (Activity.Rebalance (Rebalance.Replace Replace.Normalise)) = inl tt
+has_won (Activity.Rebalance (Rebalance.Replace Replace.Number)) = inl tt
+has_won (Activity.Rebalance (Rebalance.Replace Replace.Retire)) = inl tt
 has_won _ = inr (λ x. x)
 
 -- how it comes to that: it does so now, or it goes on from there
 pub data WonBy (v : Words) (l : Local) : Activity → Local → Type 0 where
-  wins_now : link_of (v (replaced_link l.rebalance.before)) ≡ Some (unmarked_link (Some l.row)) → WonBy v l Replace (record (at_infant 0 l) { activity = Normalise })
-  has_next : l.rebalance.at + 1 < length l.rebalance.taken → WonBy v l Normalise (record (at_infant (l.rebalance.at + 1) l) { activity = Normalise })
-  was_last : WonBy v l Normalise (record l { activity = Number })
-  has_number : WonBy v l Number (record l { rebalance = record l.rebalance { number = v name.Epoch }; activity = Retire })
+  wins_now : link_of (v (replaced_link l.rebalance.before)) ≡ Some (unmarked_link (Some l.row)) → WonBy v l (Activity.Rebalance (Rebalance.Replace Replace.Exchange)) (record (at_infant 0 l) { activity = Activity.Rebalance (Rebalance.Replace Replace.Normalise) })
+  has_next : l.rebalance.at + 1 < length l.rebalance.taken → WonBy v l (Activity.Rebalance (Rebalance.Replace Replace.Normalise)) (record (at_infant (l.rebalance.at + 1) l) { activity = Activity.Rebalance (Rebalance.Replace Replace.Normalise) })
+  was_last : WonBy v l (Activity.Rebalance (Rebalance.Replace Replace.Normalise)) (record l { activity = Activity.Rebalance (Rebalance.Replace Replace.Number) })
+  has_number : WonBy v l (Activity.Rebalance (Rebalance.Replace Replace.Number)) (record l { rebalance = record l.rebalance { number = v name.Epoch }; activity = Activity.Rebalance (Rebalance.Replace Replace.Retire) })
 
 pub won_by : (z : Sizes) (v : Words) (choice : Choice) (l : Local) (a : Activity) (k : Local) → Building z v choice l a k → HasWon k.activity → WonBy v l a k
 won_by z v choice l a k (first_is_taken q rows next f n y) x = absurd ((seek_plain rows _ next y).1 x)
@@ -254,7 +256,7 @@ module _ {z : Sizes} {r r' : Run} {s : ℕ} {choice : Choice} {l l' : Local} whe
   still_numbered a h i q m o d n = record { at = n.at; drawn = old_number a h m (i.numbers.below m n.at n.drawn) ∙ n.drawn; after = omega (arith, n.after, ap (λ (f : Fate). f.gone) (dead_fate a h i q o d)) }
 
   -- the seat that replaces its row knows the new ones, and that its own is dead
-  wins : Happens z r r' s choice l l' Replace → Shape z r → link_of (word z r.world (replaced_link l.rebalance.before)) ≡ Some (unmarked_link (Some l.row)) → (k : Local) → k.rebalance.taken ≡ l.rebalance.taken → k.rebalance.at ≡ 0 → k.row ≡ l.row → Won r'.ledger.rows s Normalise k
+  wins : Happens z r r' s choice l l' (Activity.Rebalance (Rebalance.Replace Replace.Exchange)) → Shape z r → link_of (word z r.world (replaced_link l.rebalance.before)) ≡ Some (unmarked_link (Some l.row)) → (k : Local) → k.rebalance.taken ≡ l.rebalance.taken → k.rebalance.at ≡ 0 → k.row ≡ l.row → Won r'.ledger.rows s (Activity.Rebalance (Rebalance.Replace Replace.Normalise)) k
   wins h i e k taken at row = record {
     hand = λ x. omega (arith, at, ap length taken, (infants.enough tt).0);
     fresh = λ x j q f. fresh j q (subst (λ ys. slice_get ys j ≡ Some q) taken f);
@@ -263,42 +265,42 @@ module _ {z : Sizes} {r r' : Run} {s : ℕ} {choice : Choice} {l l' : Local} whe
     number = λ x. absurd x;
   }
     where
-      infants : Infants z (word z r.world) r.ledger.rows s Replace l
-      infants = infants_at Replace h i
+      infants : Infants z (word z r.world) r.ledger.rows s (Activity.Rebalance (Rebalance.Replace Replace.Exchange)) l
+      infants = infants_at (Activity.Rebalance (Rebalance.Replace Replace.Exchange)) h i
 
       won : word z r.world (replaced_link l.rebalance.before) ≡ link_word (unmarked_link (Some l.row))
       won = sym (link_word_of (word z r.world (replaced_link l.rebalance.before)) (unmarked_link (Some l.row)) e)
 
       full : WasLinked r.ledger.rows l.row
-      full = fresh_linked r.ledger.rows s l.row ((balance_at Replace h i).fresh tt)
+      full = fresh_linked r.ledger.rows s l.row ((balance_at (Activity.Rebalance (Rebalance.Replace Replace.Exchange)) h i).fresh tt)
 
       fresh : (j q : ℕ) → slice_get l.rebalance.taken j ≡ Some q → IsFresh r'.ledger.rows s q
       fresh j q f = inl (ap (λ (f : Fate). f.status) (fate_of_new h won q (in_list l.rebalance.taken j q f) (λ c. linked_not_infant r.ledger.rows s q (subst (WasLinked r.ledger.rows) (sym c) full) (infants.owned j q tt f))))
 
   -- one that makes its new rows normal may name them still
-  still_fresh : Happens z r r' s choice l l' Normalise → Shape z r → (q : ℕ) → IsFresh r.ledger.rows s q → IsFresh r'.ledger.rows s q
-  still_fresh h i q f = (own_rely z r r' s choice l Normalise l' h i tt (λ x. x)).fresh q f
+  still_fresh : Happens z r r' s choice l l' (Activity.Rebalance (Rebalance.Replace Replace.Normalise)) → Shape z r → (q : ℕ) → IsFresh r.ledger.rows s q → IsFresh r'.ledger.rows s q
+  still_fresh h i q f = (own_rely z r r' s choice l (Activity.Rebalance (Rebalance.Replace Replace.Normalise)) l' h i tt (λ x. x)).fresh q f
 
   -- by the way that it came
   knows_won : (a : Activity) (k : Local) → WonBy (word z r.world) l a k → Happens z r r' s choice l l' a → Shape z r → Won r'.ledger.rows s k.activity k
   knows_won a k (wins_now e) h i = wins h i e _ refl refl refl
   knows_won a k (has_next o) h i =
-      let w = won_at Normalise h i in
-      let held = held_by r.ledger.rows s l.row ((balance_at Normalise h i).fresh tt) in
-      record { hand = λ x. o; fresh = λ x j q f. still_fresh h i q (w.fresh tt j q f); dead = λ x. still_dead Normalise h i l.row held (w.dead tt); owner = λ x. still_owner Normalise h i s l.row held (w.dead tt) (w.owner tt); number = λ x. absurd x }
+      let w = won_at (Activity.Rebalance (Rebalance.Replace Replace.Normalise)) h i in
+      let held = held_by r.ledger.rows s l.row ((balance_at (Activity.Rebalance (Rebalance.Replace Replace.Normalise)) h i).fresh tt) in
+      record { hand = λ x. o; fresh = λ x j q f. still_fresh h i q (w.fresh tt j q f); dead = λ x. still_dead (Activity.Rebalance (Rebalance.Replace Replace.Normalise)) h i l.row held (w.dead tt); owner = λ x. still_owner (Activity.Rebalance (Rebalance.Replace Replace.Normalise)) h i s l.row held (w.dead tt) (w.owner tt); number = λ x. absurd x }
   knows_won a k was_last h i =
-      let w = won_at Normalise h i in
-      let held = held_by r.ledger.rows s l.row ((balance_at Normalise h i).fresh tt) in
-      record { hand = λ x. absurd x; fresh = λ x. absurd x; dead = λ x. still_dead Normalise h i l.row held (w.dead tt); owner = λ x. still_owner Normalise h i s l.row held (w.dead tt) (w.owner tt); number = λ x. absurd x }
+      let w = won_at (Activity.Rebalance (Rebalance.Replace Replace.Normalise)) h i in
+      let held = held_by r.ledger.rows s l.row ((balance_at (Activity.Rebalance (Rebalance.Replace Replace.Normalise)) h i).fresh tt) in
+      record { hand = λ x. absurd x; fresh = λ x. absurd x; dead = λ x. still_dead (Activity.Rebalance (Rebalance.Replace Replace.Normalise)) h i l.row held (w.dead tt); owner = λ x. still_owner (Activity.Rebalance (Rebalance.Replace Replace.Normalise)) h i s l.row held (w.dead tt) (w.owner tt); number = λ x. absurd x }
   knows_won a k has_number h i =
-      let w = won_at Number h i in
-      let held = held_by r.ledger.rows s l.row ((balance_at Number h i).fresh tt) in
+      let w = won_at (Activity.Rebalance (Rebalance.Replace Replace.Number)) h i in
+      let held = held_by r.ledger.rows s l.row ((balance_at (Activity.Rebalance (Rebalance.Replace Replace.Number)) h i).fresh tt) in
       record {
         hand = λ x. absurd x;
         fresh = λ x. absurd x;
-        dead = λ x. still_dead Number h i l.row held (w.dead tt);
-        owner = λ x. still_owner Number h i s l.row held (w.dead tt) (w.owner tt);
-        number = λ x. record { at = length r.history.log; drawn = number_of_drawn h; after = omega (arith, i.rows.past.gone l.row (w.dead tt), ap (λ (f : Fate). f.gone) (dead_fate Number h i l.row held (w.dead tt))) };
+        dead = λ x. still_dead (Activity.Rebalance (Rebalance.Replace Replace.Number)) h i l.row held (w.dead tt);
+        owner = λ x. still_owner (Activity.Rebalance (Rebalance.Replace Replace.Number)) h i s l.row held (w.dead tt) (w.owner tt);
+        number = λ x. record { at = length r.history.log; drawn = number_of_drawn h; after = omega (arith, i.rows.past.gone l.row (w.dead tt), ap (λ (f : Fate). f.gone) (dead_fate (Activity.Rebalance (Rebalance.Replace Replace.Number)) h i l.row held (w.dead tt))) };
       }
 
   -- so the acting seat knows what it should

@@ -5,7 +5,10 @@
 -- seat knows of it stays so whatever others do, also when somebody else has replaced the row.
 use Rattle.std.specs.Prelude.{ℕ, ◌≡◌, true}
 use Rattle.kw_world.specs.declared.activity.Activity.{Activity}
-use Rattle.kw_world.specs.declared.activity.Activity.TheVariants.{MarkLink, Decide, FreezeCount, FreezeLook, Freeze, ScanLook, HelpDraw, HelpSettle, TakeFrom, TakeKey, TakeVersion, TakeValue, TakeRestKey, TakeRestValue, SeekFirst, Seek, SeekPass, Reclaim, TakeRow, GiveBack, WriteCount, WriteMin, WriteNext, WriteFirst, WritePend, WriteKey, WriteValue, WriteVersion, WriteAfter, Before, BeforeGuess, BeforeHead, BeforeLink, BeforeMin, Replace}
+use Rattle.kw_world.specs.declared.activity.rebalance.engage.Engage.TheVariants as Engage
+use Rattle.kw_world.specs.declared.activity.rebalance.freeze.Freeze.TheVariants as Freeze
+use Rattle.kw_world.specs.declared.activity.rebalance.Rebalance.TheVariants as Rebalance
+use Rattle.kw_world.specs.declared.activity.rebalance.replace.Replace.TheVariants as Replace
 use Rattle.kw_world.specs.declared.local.Local.{Local}
 use Rattle.kw_core.specs.Stages.{IsBalancing}
 use Rattle.kw_core.specs.Words.{Words, least_in}
@@ -16,77 +19,36 @@ use Rattle.kw_shape.specs.RowsIn.{rows_in}
 -- how far the seat is with its row, which goes alone: it marks its link; it knows the row after it,
 -- and decides; it is decided, until the row is replaced by this seat or the seat gives up
 abbrev pub view_of : Activity → Local → View
-view_of (MarkLink count) l = Marking l.row count
-view_of (Decide count) l = Opened l.row l.rebalance.after
-view_of FreezeCount l = Alone l.row l.rebalance.after
-view_of (FreezeLook i) l = Alone l.row l.rebalance.after
-view_of (Freeze i) l = Alone l.row l.rebalance.after
-view_of (ScanLook i) l = Alone l.row l.rebalance.after
-view_of (HelpDraw i) l = Alone l.row l.rebalance.after
-view_of (HelpSettle i) l = Alone l.row l.rebalance.after
-view_of TakeFrom l = Alone l.row l.rebalance.after
-view_of TakeKey l = Alone l.row l.rebalance.after
-view_of TakeVersion l = Alone l.row l.rebalance.after
-view_of TakeValue l = Alone l.row l.rebalance.after
-view_of TakeRestKey l = Alone l.row l.rebalance.after
-view_of TakeRestValue l = Alone l.row l.rebalance.after
-view_of SeekFirst l = Alone l.row l.rebalance.after
-view_of Seek l = Alone l.row l.rebalance.after
-view_of (SeekPass i) l = Alone l.row l.rebalance.after
-view_of Reclaim l = Alone l.row l.rebalance.after
-view_of TakeRow l = Alone l.row l.rebalance.after
-view_of GiveBack l = Alone l.row l.rebalance.after
-view_of WriteCount l = Alone l.row l.rebalance.after
-view_of WriteMin l = Alone l.row l.rebalance.after
-view_of WriteNext l = Alone l.row l.rebalance.after
-view_of WriteFirst l = Alone l.row l.rebalance.after
-view_of (WritePend i) l = Alone l.row l.rebalance.after
-view_of (WriteKey j) l = Alone l.row l.rebalance.after
-view_of (WriteValue j) l = Alone l.row l.rebalance.after
-view_of (WriteVersion j) l = Alone l.row l.rebalance.after
-view_of (WriteAfter j) l = Alone l.row l.rebalance.after
-view_of Before l = Alone l.row l.rebalance.after
-view_of BeforeGuess l = Alone l.row l.rebalance.after
-view_of BeforeHead l = Alone l.row l.rebalance.after
-view_of BeforeLink l = Alone l.row l.rebalance.after
-view_of BeforeMin l = Alone l.row l.rebalance.after
-view_of Replace l = Alone l.row l.rebalance.after
+view_of (Activity.Rebalance (Rebalance.Engage (Engage.MarkLink count))) l = Marking l.row count
+view_of (Activity.Rebalance (Rebalance.Engage (Engage.Decide count))) l = Opened l.row l.rebalance.after
+view_of (Activity.Rebalance (Rebalance.Freeze _)) l = Alone l.row l.rebalance.after
+view_of (Activity.Rebalance (Rebalance.Gather _)) l = Alone l.row l.rebalance.after
+view_of (Activity.Rebalance (Rebalance.Seek _)) l = Alone l.row l.rebalance.after
+view_of (Activity.Rebalance (Rebalance.Write _)) l = Alone l.row l.rebalance.after
+view_of (Activity.Rebalance (Rebalance.Replace Replace.Start)) l = Alone l.row l.rebalance.after
+view_of (Activity.Rebalance (Rebalance.Replace Replace.GuessedLeast)) l = Alone l.row l.rebalance.after
+view_of (Activity.Rebalance (Rebalance.Replace Replace.First)) l = Alone l.row l.rebalance.after
+view_of (Activity.Rebalance (Rebalance.Replace Replace.Next)) l = Alone l.row l.rebalance.after
+view_of (Activity.Rebalance (Rebalance.Replace Replace.NextLeast)) l = Alone l.row l.rebalance.after
+view_of (Activity.Rebalance (Rebalance.Replace Replace.Exchange)) l = Alone l.row l.rebalance.after
 view_of _ l = Elsewhere
 
 -- the seat has frozen the count of its row, and has neither replaced the row nor given it up
 abbrev pub HasFrozen : Activity → Type 0
-HasFrozen (FreezeLook i) = Unit {0}
-HasFrozen (Freeze i) = Unit {0}
-HasFrozen (ScanLook i) = Unit {0}
-HasFrozen (HelpDraw i) = Unit {0}
-HasFrozen (HelpSettle i) = Unit {0}
-HasFrozen TakeFrom = Unit {0}
-HasFrozen TakeKey = Unit {0}
-HasFrozen TakeVersion = Unit {0}
-HasFrozen TakeValue = Unit {0}
-HasFrozen TakeRestKey = Unit {0}
-HasFrozen TakeRestValue = Unit {0}
-HasFrozen SeekFirst = Unit {0}
-HasFrozen Seek = Unit {0}
-HasFrozen (SeekPass i) = Unit {0}
-HasFrozen Reclaim = Unit {0}
-HasFrozen TakeRow = Unit {0}
-HasFrozen GiveBack = Unit {0}
-HasFrozen WriteCount = Unit {0}
-HasFrozen WriteMin = Unit {0}
-HasFrozen WriteNext = Unit {0}
-HasFrozen WriteFirst = Unit {0}
-HasFrozen (WritePend i) = Unit {0}
-HasFrozen (WriteKey j) = Unit {0}
-HasFrozen (WriteValue j) = Unit {0}
-HasFrozen (WriteVersion j) = Unit {0}
-HasFrozen (WriteAfter j) = Unit {0}
-HasFrozen Before = Unit {0}
-HasFrozen BeforeGuess = Unit {0}
-HasFrozen BeforeHead = Unit {0}
-HasFrozen BeforeLink = Unit {0}
-HasFrozen BeforeMin = Unit {0}
-HasFrozen Replace = Unit {0}
+HasFrozen (Activity.Rebalance (Rebalance.Freeze (Freeze.Look i))) = Unit {0}
+HasFrozen (Activity.Rebalance (Rebalance.Freeze (Freeze.Entry i))) = Unit {0}
+HasFrozen (Activity.Rebalance (Rebalance.Freeze (Freeze.Scan i))) = Unit {0}
+HasFrozen (Activity.Rebalance (Rebalance.Freeze (Freeze.Draw i))) = Unit {0}
+HasFrozen (Activity.Rebalance (Rebalance.Freeze (Freeze.Settle i))) = Unit {0}
+HasFrozen (Activity.Rebalance (Rebalance.Gather _)) = Unit {0}
+HasFrozen (Activity.Rebalance (Rebalance.Seek _)) = Unit {0}
+HasFrozen (Activity.Rebalance (Rebalance.Write _)) = Unit {0}
+HasFrozen (Activity.Rebalance (Rebalance.Replace Replace.Start)) = Unit {0}
+HasFrozen (Activity.Rebalance (Rebalance.Replace Replace.GuessedLeast)) = Unit {0}
+HasFrozen (Activity.Rebalance (Rebalance.Replace Replace.First)) = Unit {0}
+HasFrozen (Activity.Rebalance (Rebalance.Replace Replace.Next)) = Unit {0}
+HasFrozen (Activity.Rebalance (Rebalance.Replace Replace.NextLeast)) = Unit {0}
+HasFrozen (Activity.Rebalance (Rebalance.Replace Replace.Exchange)) = Unit {0}
 HasFrozen _ = ⊥
 
 -- what a seat that rebalances knows of its row

@@ -15,7 +15,10 @@ use Rattle.kw_words.specs.Plain.{cell_link_word, key_word, value_word, version_w
 use Rattle.kw_cells.specs.Cells.{value_in}
 use Rattle.kw_rows.specs.Ledger.{Ledger, Infant}
 use Rattle.kw_world.specs.declared.activity.Activity.{Activity}
-use Rattle.kw_world.specs.declared.activity.Activity.TheVariants.{SeekFirst, Seek, SeekPass, Reclaim, TakeRow, GiveBack, WriteCount, WriteMin, WriteNext, WriteFirst, WritePend, WriteKey, WriteValue, WriteVersion, WriteAfter, Before, BeforeGuess, BeforeHead, BeforeLink, BeforeMin, Replace}
+use Rattle.kw_world.specs.declared.activity.rebalance.Rebalance.TheVariants as Rebalance
+use Rattle.kw_world.specs.declared.activity.rebalance.replace.Replace.TheVariants as Replace
+use Rattle.kw_world.specs.declared.activity.rebalance.seek.Seek.TheVariants as Seek
+use Rattle.kw_world.specs.declared.activity.rebalance.write.Write.TheVariants as Write
 use Rattle.kw_world.specs.declared.local.Local.{Local}
 use Rattle.kw_world.specs.SeekTransitions.{at_infant, infant}
 use Rattle.kw_world.specs.Sizes.{Sizes}
@@ -39,27 +42,15 @@ pub data Nursing : Type 0 where
   Links : Nursing
 
 abbrev pub nursing_of : Activity → Nursing
-nursing_of SeekFirst = Takes
-nursing_of Seek = Takes
-nursing_of (SeekPass i) = Takes
-nursing_of Reclaim = Takes
-nursing_of TakeRow = Takes
-nursing_of GiveBack = GivesBack
-nursing_of WriteCount = Writes
-nursing_of WriteMin = Writes
-nursing_of WriteNext = Writes
-nursing_of WriteFirst = Writes
-nursing_of (WritePend i) = Writes
-nursing_of (WriteKey j) = Writes
-nursing_of (WriteValue j) = Writes
-nursing_of (WriteVersion j) = Writes
-nursing_of (WriteAfter j) = Writes
-nursing_of Before = Links
-nursing_of BeforeGuess = Links
-nursing_of BeforeHead = Links
-nursing_of BeforeLink = Links
-nursing_of BeforeMin = Links
-nursing_of Replace = Links
+nursing_of (Activity.Rebalance (Rebalance.Seek Seek.GiveBack)) = GivesBack
+nursing_of (Activity.Rebalance (Rebalance.Seek _)) = Takes
+nursing_of (Activity.Rebalance (Rebalance.Write _)) = Writes
+nursing_of (Activity.Rebalance (Rebalance.Replace Replace.Start)) = Links
+nursing_of (Activity.Rebalance (Rebalance.Replace Replace.GuessedLeast)) = Links
+nursing_of (Activity.Rebalance (Rebalance.Replace Replace.First)) = Links
+nursing_of (Activity.Rebalance (Rebalance.Replace Replace.Next)) = Links
+nursing_of (Activity.Rebalance (Rebalance.Replace Replace.NextLeast)) = Links
+nursing_of (Activity.Rebalance (Rebalance.Replace Replace.Exchange)) = Links
 nursing_of _ = HasNone
 
 -- the row at this place of those that the seat took is its infant
@@ -99,81 +90,65 @@ IsWriting _ = ⊥
 -- which the row has no cell gets a version and a link alone.
 
 abbrev pub HasCount : Activity → Type 0
-HasCount WriteCount = ⊥
+HasCount (Activity.Rebalance (Rebalance.Write Write.Count)) = ⊥
 HasCount _ = Unit {0}
 
 abbrev pub HasLeast : Activity → Type 0
-HasLeast WriteCount = ⊥
-HasLeast WriteMin = ⊥
+HasLeast (Activity.Rebalance (Rebalance.Write Write.Count)) = ⊥
+HasLeast (Activity.Rebalance (Rebalance.Write Write.Least)) = ⊥
 HasLeast _ = Unit {0}
 
 abbrev pub HasNext : Activity → Type 0
-HasNext WriteCount = ⊥
-HasNext WriteMin = ⊥
-HasNext WriteNext = ⊥
+HasNext (Activity.Rebalance (Rebalance.Write Write.Count)) = ⊥
+HasNext (Activity.Rebalance (Rebalance.Write Write.Least)) = ⊥
+HasNext (Activity.Rebalance (Rebalance.Write Write.Next)) = ⊥
 HasNext _ = Unit {0}
 
 abbrev pub HasFirst : Activity → Type 0
-HasFirst WriteCount = ⊥
-HasFirst WriteMin = ⊥
-HasFirst WriteNext = ⊥
-HasFirst WriteFirst = ⊥
+HasFirst (Activity.Rebalance (Rebalance.Write Write.Count)) = ⊥
+HasFirst (Activity.Rebalance (Rebalance.Write Write.Least)) = ⊥
+HasFirst (Activity.Rebalance (Rebalance.Write Write.Next)) = ⊥
+HasFirst (Activity.Rebalance (Rebalance.Write Write.First)) = ⊥
 HasFirst _ = Unit {0}
 
 abbrev pub HasEntry : Activity → ℕ → Type 0
-HasEntry WriteCount i = ⊥
-HasEntry WriteMin i = ⊥
-HasEntry WriteNext i = ⊥
-HasEntry WriteFirst i = ⊥
-HasEntry (WritePend k) i = i < k
+HasEntry (Activity.Rebalance (Rebalance.Write Write.Count)) i = ⊥
+HasEntry (Activity.Rebalance (Rebalance.Write Write.Least)) i = ⊥
+HasEntry (Activity.Rebalance (Rebalance.Write Write.Next)) i = ⊥
+HasEntry (Activity.Rebalance (Rebalance.Write Write.First)) i = ⊥
+HasEntry (Activity.Rebalance (Rebalance.Write (Write.Entry k))) i = i < k
 HasEntry _ i = Unit {0}
 
 abbrev pub HasKey : Activity → ℕ → Type 0
-HasKey WriteCount j = ⊥
-HasKey WriteMin j = ⊥
-HasKey WriteNext j = ⊥
-HasKey WriteFirst j = ⊥
-HasKey (WritePend k) j = ⊥
-HasKey (WriteKey k) j = j < k
-HasKey (WriteValue k) j = j ≤ k
-HasKey (WriteVersion k) j = j ≤ k
-HasKey (WriteAfter k) j = j ≤ k
+HasKey (Activity.Rebalance (Rebalance.Write (Write.Key k))) j = j < k
+HasKey (Activity.Rebalance (Rebalance.Write (Write.Value k))) j = j ≤ k
+HasKey (Activity.Rebalance (Rebalance.Write (Write.Version k))) j = j ≤ k
+HasKey (Activity.Rebalance (Rebalance.Write (Write.After k))) j = j ≤ k
+HasKey (Activity.Rebalance (Rebalance.Write _)) j = ⊥
 HasKey _ j = Unit {0}
 
 abbrev pub HasValue : Activity → ℕ → Type 0
-HasValue WriteCount j = ⊥
-HasValue WriteMin j = ⊥
-HasValue WriteNext j = ⊥
-HasValue WriteFirst j = ⊥
-HasValue (WritePend k) j = ⊥
-HasValue (WriteKey k) j = j < k
-HasValue (WriteValue k) j = j < k
-HasValue (WriteVersion k) j = j ≤ k
-HasValue (WriteAfter k) j = j ≤ k
+HasValue (Activity.Rebalance (Rebalance.Write (Write.Key k))) j = j < k
+HasValue (Activity.Rebalance (Rebalance.Write (Write.Value k))) j = j < k
+HasValue (Activity.Rebalance (Rebalance.Write (Write.Version k))) j = j ≤ k
+HasValue (Activity.Rebalance (Rebalance.Write (Write.After k))) j = j ≤ k
+HasValue (Activity.Rebalance (Rebalance.Write _)) j = ⊥
 HasValue _ j = Unit {0}
 
 abbrev pub HasVersion : Activity → ℕ → Type 0
-HasVersion WriteCount j = ⊥
-HasVersion WriteMin j = ⊥
-HasVersion WriteNext j = ⊥
-HasVersion WriteFirst j = ⊥
-HasVersion (WritePend k) j = ⊥
-HasVersion (WriteKey k) j = j < k
-HasVersion (WriteValue k) j = j < k
-HasVersion (WriteVersion k) j = j < k
-HasVersion (WriteAfter k) j = j ≤ k
+HasVersion (Activity.Rebalance (Rebalance.Write (Write.Key k))) j = j < k
+HasVersion (Activity.Rebalance (Rebalance.Write (Write.Value k))) j = j < k
+HasVersion (Activity.Rebalance (Rebalance.Write (Write.Version k))) j = j < k
+HasVersion (Activity.Rebalance (Rebalance.Write (Write.After k))) j = j ≤ k
+HasVersion (Activity.Rebalance (Rebalance.Write _)) j = ⊥
 HasVersion _ j = Unit {0}
 
 abbrev pub HasAfter : Activity → ℕ → Type 0
-HasAfter WriteCount j = ⊥
-HasAfter WriteMin j = ⊥
-HasAfter WriteNext j = ⊥
-HasAfter WriteFirst j = ⊥
-HasAfter (WritePend k) j = ⊥
-HasAfter (WriteKey k) j = j < k
-HasAfter (WriteValue k) j = j < k
-HasAfter (WriteVersion k) j = j < k
-HasAfter (WriteAfter k) j = j < k
+HasAfter (Activity.Rebalance (Rebalance.Write (Write.Key k))) j = j < k
+HasAfter (Activity.Rebalance (Rebalance.Write (Write.Value k))) j = j < k
+HasAfter (Activity.Rebalance (Rebalance.Write (Write.Version k))) j = j < k
+HasAfter (Activity.Rebalance (Rebalance.Write (Write.After k))) j = j < k
+HasAfter (Activity.Rebalance (Rebalance.Write _)) j = ⊥
 HasAfter _ j = Unit {0}
 
 -- the words of row q that stand, where it is the row at hand of a seat that knows l and is about to
@@ -200,7 +175,7 @@ pub record Infants (z : Sizes) (v : Words) (g : Ledger) (t : ℕ) (a : Activity)
   pub apart : (i j q : ℕ) → IsNursed (nursing_of a) l i → IsNursed (nursing_of a) l j → slice_get l.rebalance.taken i ≡ Some q → slice_get l.rebalance.taken j ≡ Some q → i ≡ j
   pub hand : HasAtHand (nursing_of a) → l.rebalance.at < length l.rebalance.taken
   pub enough : HasAll (nursing_of a) → (0 < length l.rebalance.taken) × (length l.rebalance.starts ≤ length l.rebalance.taken)
-  pub whole : (i q : ℕ) → IsWhole (nursing_of a) l i → slice_get l.rebalance.taken i ≡ Some q → Written z v Before (at_infant i l) q
+  pub whole : (i q : ℕ) → IsWhole (nursing_of a) l i → slice_get l.rebalance.taken i ≡ Some q → Written z v (Activity.Rebalance (Rebalance.Replace Replace.Start)) (at_infant i l) q
   pub words : IsWriting (nursing_of a) → Written z v a l (infant l)
 
 -- the row is one of those that the seat took, and has still

@@ -9,7 +9,11 @@ use Rattle.kw_words.specs.Plain.{cell_of_link_word, key_of_word}
 use Rattle.kw_rows.specs.Ledger.{Ledger}
 use Rattle.kw_rows.specs.Rows as rows
 use Rattle.kw_world.specs.declared.activity.Activity.{Activity}
-use Rattle.kw_world.specs.declared.activity.Activity.TheVariants.{PutValue, Announce, PutClock, Stamp, PutVersion, InsFrom, InsKey, InsVer, InsSet, Insert, FreezeLook, Freeze, ScanLook, HelpDraw, HelpSettle, TakeFrom, TakeKey, TakeVersion, TakeValue, TakeRestKey, TakeRestValue}
+use Rattle.kw_world.specs.declared.activity.rebalance.freeze.Freeze.TheVariants as Freeze
+use Rattle.kw_world.specs.declared.activity.rebalance.gather.Gather.TheVariants as Gather
+use Rattle.kw_world.specs.declared.activity.insert.Insert.TheVariants as Insert
+use Rattle.kw_world.specs.declared.activity.put.Put.TheVariants as Put
+use Rattle.kw_world.specs.declared.activity.rebalance.Rebalance.TheVariants as Rebalance
 use Rattle.kw_world.specs.declared.local.Local.{Local}
 use Rattle.kw_world.specs.ListTransitions.{link_name}
 use Rattle.kw_world.specs.Sizes.{Sizes}
@@ -39,51 +43,42 @@ pub record Keyed (z : Sizes) (v : Words) (g : Ledger) (q : ℕ) : Type 0 where
 
 -- a put has stored its key, and may name or link its cell
 abbrev pub HasOwnKey : Activity → Type 0
-HasOwnKey PutValue = Unit {0}
-HasOwnKey Announce = Unit {0}
-HasOwnKey PutClock = Unit {0}
-HasOwnKey Stamp = Unit {0}
-HasOwnKey PutVersion = Unit {0}
-HasOwnKey InsFrom = Unit {0}
-HasOwnKey InsKey = Unit {0}
-HasOwnKey InsVer = Unit {0}
-HasOwnKey InsSet = Unit {0}
-HasOwnKey Insert = Unit {0}
+HasOwnKey (Activity.Put Put.Value) = Unit {0}
+HasOwnKey (Activity.Put Put.Announce) = Unit {0}
+HasOwnKey (Activity.Put Put.Clock) = Unit {0}
+HasOwnKey (Activity.Put Put.Stamp) = Unit {0}
+HasOwnKey (Activity.Put Put.Version) = Unit {0}
+HasOwnKey (Activity.Insert _) = Unit {0}
 HasOwnKey _ = ⊥
 
 -- it may store what it holds behind its own cell
 abbrev pub HasHeldCell : Activity → Type 0
-HasHeldCell InsKey = Unit {0}
-HasHeldCell InsVer = Unit {0}
-HasHeldCell InsSet = Unit {0}
+HasHeldCell (Activity.Insert Insert.Key) = Unit {0}
+HasHeldCell (Activity.Insert Insert.Version) = Unit {0}
+HasHeldCell (Activity.Insert Insert.Set) = Unit {0}
 HasHeldCell _ = ⊥
 
 -- a rebalance remembers cells
 abbrev pub HasMarks : Activity → Type 0
-HasMarks (FreezeLook i) = Unit {0}
-HasMarks (Freeze i) = Unit {0}
-HasMarks (ScanLook i) = Unit {0}
-HasMarks (HelpDraw i) = Unit {0}
-HasMarks (HelpSettle i) = Unit {0}
-HasMarks TakeFrom = Unit {0}
-HasMarks TakeKey = Unit {0}
-HasMarks TakeVersion = Unit {0}
-HasMarks TakeValue = Unit {0}
-HasMarks TakeRestKey = Unit {0}
-HasMarks TakeRestValue = Unit {0}
+HasMarks (Activity.Rebalance (Rebalance.Freeze (Freeze.Look i))) = Unit {0}
+HasMarks (Activity.Rebalance (Rebalance.Freeze (Freeze.Entry i))) = Unit {0}
+HasMarks (Activity.Rebalance (Rebalance.Freeze (Freeze.Scan i))) = Unit {0}
+HasMarks (Activity.Rebalance (Rebalance.Freeze (Freeze.Draw i))) = Unit {0}
+HasMarks (Activity.Rebalance (Rebalance.Freeze (Freeze.Settle i))) = Unit {0}
+HasMarks (Activity.Rebalance (Rebalance.Gather _)) = Unit {0}
 HasMarks _ = ⊥
 
 -- it has met the cell at hand, and has not loaded its key
 abbrev pub HasMetCell : Activity → Type 0
-HasMetCell TakeKey = Unit {0}
-HasMetCell TakeRestKey = Unit {0}
+HasMetCell (Activity.Rebalance (Rebalance.Gather Gather.Key)) = Unit {0}
+HasMetCell (Activity.Rebalance (Rebalance.Gather Gather.LeftOverKey)) = Unit {0}
 HasMetCell _ = ⊥
 
 -- it has
 abbrev pub HasKeyInHand : Activity → Type 0
-HasKeyInHand TakeVersion = Unit {0}
-HasKeyInHand TakeValue = Unit {0}
-HasKeyInHand TakeRestValue = Unit {0}
+HasKeyInHand (Activity.Rebalance (Rebalance.Gather Gather.Version)) = Unit {0}
+HasKeyInHand (Activity.Rebalance (Rebalance.Gather Gather.Value)) = Unit {0}
+HasKeyInHand (Activity.Rebalance (Rebalance.Gather Gather.LeftOverValue)) = Unit {0}
 HasKeyInHand _ = ⊥
 
 -- it has gathered cells, or has made its plan of them
@@ -92,12 +87,7 @@ IsPlanned HasNone = ⊥
 IsPlanned _ = Unit {0}
 
 abbrev pub HasGathered : Activity → Type 0
-HasGathered TakeFrom = Unit {0}
-HasGathered TakeKey = Unit {0}
-HasGathered TakeVersion = Unit {0}
-HasGathered TakeValue = Unit {0}
-HasGathered TakeRestKey = Unit {0}
-HasGathered TakeRestValue = Unit {0}
+HasGathered (Activity.Rebalance (Rebalance.Gather _)) = Unit {0}
 HasGathered a = IsPlanned (nursing_of a)
 
 -- what a seat knows of the keys of its row

@@ -7,7 +7,9 @@
 use Rattle.std.specs.Prelude.{ℕ, ◌≡◌, ◌⊎◌, ◌<◌, Some}
 use Rattle.kw_rows.specs.Ledger.{Ledger, IsDead, IsFresh}
 use Rattle.kw_world.specs.declared.activity.Activity.{Activity}
-use Rattle.kw_world.specs.declared.activity.Activity.TheVariants.{GiveBack, BeforeGuess, BeforeLink, BeforeMin, Replace}
+use Rattle.kw_world.specs.declared.activity.rebalance.Rebalance.TheVariants as Rebalance
+use Rattle.kw_world.specs.declared.activity.rebalance.replace.Replace.TheVariants as Replace
+use Rattle.kw_world.specs.declared.activity.rebalance.seek.Seek.TheVariants as Seek
 use Rattle.kw_world.specs.declared.local.Local.{Local}
 use Rattle.kw_world.specs.declared.rebalance.Afterwards.TheVariants.{MoveLeft}
 use Rattle.kw_core.specs.Words.{Words, least_in}
@@ -15,33 +17,33 @@ use Rattle.kw_core.specs.Words.{Words, least_in}
 -- the seat knows a row before its own, if it knows one: on its walk and at its end, and where it is
 -- about to move there
 abbrev pub IsSearching : Activity → Local → Type 0
-IsSearching BeforeGuess l = Unit {0}
-IsSearching BeforeLink l = Unit {0}
-IsSearching BeforeMin l = Unit {0}
-IsSearching Replace l = Unit {0}
-IsSearching GiveBack l = l.rebalance.afterwards ≡ MoveLeft
+IsSearching (Activity.Rebalance (Rebalance.Replace Replace.GuessedLeast)) l = Unit {0}
+IsSearching (Activity.Rebalance (Rebalance.Replace Replace.Next)) l = Unit {0}
+IsSearching (Activity.Rebalance (Rebalance.Replace Replace.NextLeast)) l = Unit {0}
+IsSearching (Activity.Rebalance (Rebalance.Replace Replace.Exchange)) l = Unit {0}
+IsSearching (Activity.Rebalance (Rebalance.Seek Seek.GiveBack)) l = l.rebalance.afterwards ≡ MoveLeft
 IsSearching _ l = ⊥
 
 -- and its least key
 abbrev pub IsMeasured : Activity → Local → Type 0
-IsMeasured BeforeLink l = Unit {0}
-IsMeasured BeforeMin l = Unit {0}
-IsMeasured Replace l = Unit {0}
-IsMeasured GiveBack l = l.rebalance.afterwards ≡ MoveLeft
+IsMeasured (Activity.Rebalance (Rebalance.Replace Replace.Next)) l = Unit {0}
+IsMeasured (Activity.Rebalance (Rebalance.Replace Replace.NextLeast)) l = Unit {0}
+IsMeasured (Activity.Rebalance (Rebalance.Replace Replace.Exchange)) l = Unit {0}
+IsMeasured (Activity.Rebalance (Rebalance.Seek Seek.GiveBack)) l = l.rebalance.afterwards ≡ MoveLeft
 IsMeasured _ l = ⊥
 
 -- it knows one: only the walk's end may find that there is none before the full row, which is the
 -- first then
 abbrev pub HasBefore : Activity → Local → Type 0
-HasBefore BeforeGuess l = Unit {0}
-HasBefore BeforeLink l = Unit {0}
-HasBefore BeforeMin l = Unit {0}
-HasBefore GiveBack l = l.rebalance.afterwards ≡ MoveLeft
+HasBefore (Activity.Rebalance (Rebalance.Replace Replace.GuessedLeast)) l = Unit {0}
+HasBefore (Activity.Rebalance (Rebalance.Replace Replace.Next)) l = Unit {0}
+HasBefore (Activity.Rebalance (Rebalance.Replace Replace.NextLeast)) l = Unit {0}
+HasBefore (Activity.Rebalance (Rebalance.Seek Seek.GiveBack)) l = l.rebalance.afterwards ≡ MoveLeft
 HasBefore _ l = ⊥
 
 -- it has met a row behind that one
 abbrev pub HasMetNext : Activity → Type 0
-HasMetNext BeforeMin = Unit {0}
+HasMetNext (Activity.Rebalance (Rebalance.Replace Replace.NextLeast)) = Unit {0}
 HasMetNext _ = ⊥
 
 -- the row is before the full one: its least key is below that one's, or the full row is dead and

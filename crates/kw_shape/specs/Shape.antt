@@ -11,7 +11,10 @@ use Rattle.kw_model.specs.declared.call.Call.TheVariants.{Put, Del, Get, Scan}
 use Rattle.kw_world.specs.declared.answer.Answer.{Answer}
 use Rattle.kw_world.specs.declared.answer.Answer.TheVariants.{Done, Value, Absent, Pairs, NoRows, Spent, Stopped}
 use Rattle.kw_world.specs.declared.activity.Activity.{Activity}
-use Rattle.kw_world.specs.declared.activity.Activity.TheVariants.{Idle, ScanClock, ScanWait, ScanDraw, ScanSettle, GuessMin, Walk, WalkMin, Look, LookKey, LookClock, LookHelp, ListFrom, ListKey, ListVer, ListVal, RestKey, RestVal, ClearScan, PutCount, PutAdd, PutKey, PutValue, Announce, PutClock, Stamp, PutVersion, InsFrom, InsKey, InsVer, InsSet, Insert, PutClear, Leave, AgainEpoch, MarkLink, Decide}
+use Rattle.kw_world.specs.declared.activity.rebalance.engage.Engage.TheVariants as Engage
+use Rattle.kw_world.specs.declared.activity.enter.Enter.TheVariants as Enter
+use Rattle.kw_world.specs.declared.activity.rebalance.Rebalance.TheVariants as Rebalance
+use Rattle.kw_world.specs.declared.activity.walk.Walk.TheVariants as Walk
 use Rattle.kw_world.specs.declared.limits.TheConstants.{TIDY_SHARE}
 use Rattle.kw_world.specs.declared.local.Local.{Local}
 use Rattle.kw_world.specs.Sizes.{Sizes}
@@ -66,9 +69,9 @@ pub record IsAtItsRow (v : Words) (g : Ledger) (t : ℕ) (l : Local) : Type 0 wh
 -- the seat may name the row that its walk is on, whose minimum is at most the wanted key, and the
 -- candidate, where the row's range ends
 abbrev pub IsOnWalk : Activity → Words → Ledger → ℕ → Local → Type 0
-IsOnWalk GuessMin v g t l = IsFresh g t l.row
-IsOnWalk Walk v g t l = IsFresh g t l.row × (least_in v l.row ≤ l.want)
-IsOnWalk WalkMin v g t l = IsFresh g t l.row × (least_in v l.row ≤ l.want) × IsFresh g t l.candidate × ((g.fates l.row).upper ≡ Some (least_in v l.candidate))
+IsOnWalk (Activity.Walk Walk.GuessedLeast) v g t l = IsFresh g t l.row
+IsOnWalk (Activity.Walk Walk.Next) v g t l = IsFresh g t l.row × (least_in v l.row ≤ l.want)
+IsOnWalk (Activity.Walk Walk.NextLeast) v g t l = IsFresh g t l.row × (least_in v l.row ≤ l.want) × IsFresh g t l.candidate × ((g.fates l.row).upper ≡ Some (least_in v l.candidate))
 IsOnWalk _ v g t l = Unit {0}
 
 -- what a seat's walk is at. A put, a delete or a get wants its key throughout; a scan wants its
@@ -134,40 +137,17 @@ IsKindAt _ call = IsSomeCall call
 
 -- the activity is one of such a call
 abbrev pub IsKind : Activity → Local → Type 0
-IsKind Idle l = Unit {0}
-IsKind ScanClock l = IsScanCall l.call
-IsKind ScanWait l = IsScanCall l.call
-IsKind ScanDraw l = IsScanCall l.call
-IsKind ScanSettle l = IsScanCall l.call
-IsKind (Look i) l = IsReadCall l.call
-IsKind LookKey l = IsReadCall l.call
-IsKind LookClock l = IsReadCall l.call
-IsKind LookHelp l = IsReadCall l.call
-IsKind ListFrom l = IsReadCall l.call
-IsKind ListKey l = IsReadCall l.call
-IsKind ListVer l = IsReadCall l.call
-IsKind ListVal l = IsReadCall l.call
-IsKind RestKey l = IsReadCall l.call
-IsKind RestVal l = IsReadCall l.call
-IsKind (ClearScan answer) l = IsScanCall l.call × IsPairs answer
-IsKind PutCount l = IsPutCall l.call
-IsKind PutAdd l = IsPutCall l.call
-IsKind PutKey l = IsPutCall l.call
-IsKind PutValue l = IsPutCall l.call
-IsKind Announce l = IsPutCall l.call
-IsKind PutClock l = IsPutCall l.call
-IsKind Stamp l = IsPutCall l.call
-IsKind PutVersion l = IsPutCall l.call
-IsKind InsFrom l = IsPutCall l.call
-IsKind InsKey l = IsPutCall l.call
-IsKind InsVer l = IsPutCall l.call
-IsKind InsSet l = IsPutCall l.call
-IsKind Insert l = IsPutCall l.call
-IsKind PutClear l = IsPutCall l.call
-IsKind (Leave answer) l = IsAnswerOf l.call answer
-IsKind AgainEpoch l = IsPutCall l.call
-IsKind (MarkLink count) l = IsPutCall l.call × (count ≤ 1)
-IsKind (Decide count) l = IsPutCall l.call × (count ≡ 1)
+IsKind Activity.Idle l = Unit {0}
+IsKind (Activity.Draw _) l = IsScanCall l.call
+IsKind (Activity.Look _) l = IsReadCall l.call
+IsKind (Activity.Read _) l = IsReadCall l.call
+IsKind (Activity.EndScan answer) l = IsScanCall l.call × IsPairs answer
+IsKind (Activity.Put _) l = IsPutCall l.call
+IsKind (Activity.Insert _) l = IsPutCall l.call
+IsKind (Activity.Leave answer) l = IsAnswerOf l.call answer
+IsKind (Activity.Enter Enter.LoadEpoch) l = IsPutCall l.call
+IsKind (Activity.Rebalance (Rebalance.Engage (Engage.MarkLink count))) l = IsPutCall l.call × (count ≤ 1)
+IsKind (Activity.Rebalance (Rebalance.Engage (Engage.Decide count))) l = IsPutCall l.call × (count ≡ 1)
 IsKind a l = IsKindAt (stage_of a) l.call
 
 -- the activity fits the call, and a scan that walks or reads has a key

@@ -11,7 +11,8 @@ use Rattle.std.specs.Prelude.{ℕ, ◌≡◌, ◌⊎◌, ◌<◌, Some}
 use Rattle.kw_rows.specs.Ledger.{Ledger, IsDead, WasHeld}
 use Rattle.kw_rows.specs.RowState.{Retired}
 use Rattle.kw_world.specs.declared.activity.Activity.{Activity}
-use Rattle.kw_world.specs.declared.activity.Activity.TheVariants.{SeekPass, Reclaim, TakeRow}
+use Rattle.kw_world.specs.declared.activity.rebalance.Rebalance.TheVariants as Rebalance
+use Rattle.kw_world.specs.declared.activity.rebalance.seek.Seek.TheVariants as Seek
 use Rattle.kw_world.specs.declared.local.Local.{Local}
 use Rattle.kw_world.specs.Sizes.{Sizes}
 use Rattle.kw_core.specs.Words.{Words}
@@ -19,19 +20,19 @@ use Rattle.kw_shape.specs.RowsIn.{rows_in}
 
 -- it found the row retired, and looks at the passes, or has looked at all
 abbrev pub IsAsking : Activity → Type 0
-IsAsking (SeekPass i) = Unit {0}
-IsAsking Reclaim = Unit {0}
+IsAsking (Activity.Rebalance (Rebalance.Seek (Seek.Pass i))) = Unit {0}
+IsAsking (Activity.Rebalance (Rebalance.Seek Seek.Reclaim)) = Unit {0}
 IsAsking _ = ⊥
 
 -- it has looked at the pass of seat j
 abbrev pub HasLooked : Activity → ℕ → Type 0
-HasLooked (SeekPass i) j = j < i
-HasLooked Reclaim j = Unit {0}
+HasLooked (Activity.Rebalance (Rebalance.Seek (Seek.Pass i))) j = j < i
+HasLooked (Activity.Rebalance (Rebalance.Seek Seek.Reclaim)) j = Unit {0}
 HasLooked _ j = ⊥
 
 -- it is about to take the row, which it found free, or has freed, or has tried to free
 abbrev pub IsTaking : Activity → Type 0
-IsTaking TakeRow = Unit {0}
+IsTaking (Activity.Rebalance (Rebalance.Seek Seek.Take)) = Unit {0}
 IsTaking _ = ⊥
 
 pub record Sought (z : Sizes) (v : Words) (g : Ledger) (t : ℕ) (a : Activity) (l : Local) : Type 0 where

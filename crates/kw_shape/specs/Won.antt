@@ -3,21 +3,22 @@ use Rattle.std.specs.Prelude.{ℕ, ◌≡◌, ◌<◌, Some, length, slice_get}
 use Rattle.kw_rows.specs.Ledger.{Ledger, IsDead, IsFresh}
 use Rattle.kw_rows.specs.States.{IsNumbered}
 use Rattle.kw_world.specs.declared.activity.Activity.{Activity}
-use Rattle.kw_world.specs.declared.activity.Activity.TheVariants.{Normalise, Number, Retire}
+use Rattle.kw_world.specs.declared.activity.rebalance.Rebalance.TheVariants as Rebalance
+use Rattle.kw_world.specs.declared.activity.rebalance.replace.Replace.TheVariants as Replace
 use Rattle.kw_world.specs.declared.local.Local.{Local}
 
 abbrev pub IsNormalising : Activity → Type 0
-IsNormalising Normalise = Unit {0}
+IsNormalising (Activity.Rebalance (Rebalance.Replace Replace.Normalise)) = Unit {0}
 IsNormalising _ = ⊥
 
 abbrev pub IsRetiring : Activity → Type 0
-IsRetiring Retire = Unit {0}
+IsRetiring (Activity.Rebalance (Rebalance.Replace Replace.Retire)) = Unit {0}
 IsRetiring _ = ⊥
 
 abbrev pub HasWon : Activity → Type 0
-HasWon Normalise = Unit {0}
-HasWon Number = Unit {0}
-HasWon Retire = Unit {0}
+HasWon (Activity.Rebalance (Rebalance.Replace Replace.Normalise)) = Unit {0}
+HasWon (Activity.Rebalance (Rebalance.Replace Replace.Number)) = Unit {0}
+HasWon (Activity.Rebalance (Rebalance.Replace Replace.Retire)) = Unit {0}
 HasWon _ = ⊥
 
 pub record Won (g : Ledger) (t : ℕ) (a : Activity) (l : Local) : Type 0 where

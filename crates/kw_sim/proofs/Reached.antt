@@ -4,7 +4,7 @@ use Rattle.kw_model.specs.declared.call.Call.{Call}
 use Rattle.kw_model.specs.declared.call.Call.TheVariants.{Put, Del, Get, Scan}
 use Rattle.kw_line.specs.Line.{FitsCall}
 use Rattle.kw_world.specs.declared.activity.Activity.{Activity}
-use Rattle.kw_world.specs.declared.activity.Activity.TheVariants.{Idle}
+use Rattle.kw_world.specs.declared.activity.Activity.TheVariants as Activity
 use Rattle.kw_world.specs.declared.event.Choice.{Choice}
 use Rattle.kw_world.specs.declared.event.Choice.TheVariants.{Begin}
 use Rattle.kw_world.specs.declared.event.Event.{Event}
@@ -34,5 +34,5 @@ can_step t e fits few = λ l knows. by_choice e.choice fits l (number l knows)
     by_choice choice b l n = at l.activity choice b
       where
         at : (a : Activity) (c : Choice) → FitsChoice c → CanBeginAt a c l
-        at Idle (Begin call) b = (in_range call b, n)
+        at Activity.Idle (Begin call) b = (in_range call b, n)
         at _ c b = tt

@@ -5,7 +5,7 @@ use Rattle.std.proofs.lemmas.List.{set-get_or, append-nil}
 use Rattle.kw_model.specs.declared.call.Call.{Call}
 use Rattle.kw_words.specs.declared.kind.Kind.{Kind}
 use Rattle.kw_world.specs.declared.activity.Activity.{Activity}
-use Rattle.kw_world.specs.declared.activity.Activity.TheVariants.{Idle}
+use Rattle.kw_world.specs.declared.activity.Activity.TheVariants as Activity
 use Rattle.kw_world.specs.declared.event.Choice.{Choice}
 use Rattle.kw_world.specs.declared.event.Choice.TheVariants.{Begin, Go}
 use Rattle.kw_world.specs.declared.event.Event.{Event}
@@ -56,7 +56,7 @@ none_made e st h =
 
 -- a seat that is skipped when it goes on is idle, and so begins what it is asked to
 idle_begins : (a : Activity) (c : Call) → is_skipped a Go ≡ true → is_skipped a (Begin c) ≡ false
-idle_begins Idle c h = refl
+idle_begins Activity.Idle c h = refl
 idle_begins _ c h = refl
 
 -- the kind of a begin of an idle seat

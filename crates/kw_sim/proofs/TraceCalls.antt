@@ -8,7 +8,7 @@ use Rattle.kw_model.specs.declared.call.Call.{Call}
 use Rattle.kw_model.specs.declared.call.Call.TheVariants.{Put, Del, Get, Scan}
 use Rattle.kw_line.specs.Line.{FitsCall}
 use Rattle.kw_world.specs.declared.activity.Activity.{Activity}
-use Rattle.kw_world.specs.declared.activity.Activity.TheVariants.{Idle, Leave}
+use Rattle.kw_world.specs.declared.activity.Activity.TheVariants as Activity
 use Rattle.kw_world.specs.declared.event.Choice.{Choice}
 use Rattle.kw_world.specs.declared.event.Choice.TheVariants.{Begin, Go, Guess, Stop}
 use Rattle.kw_world.specs.declared.event.Event.{Event}
@@ -58,11 +58,11 @@ length-end_last n reply (c ∷ d ∷ cs) = ap suc (length-end_last n reply (d �
 
 -- an event of a seat adds a call just where it begins one
 length-seen_after : (a : Activity) (choice : Choice) (l : Local) (n : ℕ) (cs : List CallSeen) → length (seen_after a choice l n cs) ≡ length cs + cond (is_begun a choice) 1 0
-length-seen_after Idle (Begin call) l n cs = length-append cs _
-length-seen_after Idle Go l n cs = omega arith
-length-seen_after Idle (Guess r) l n cs = omega arith
-length-seen_after Idle Stop l n cs = omega arith
-length-seen_after (Leave answer) choice l n cs = omega (arith, length-end_last n (reply_of answer l.pairs) cs)
+length-seen_after Activity.Idle (Begin call) l n cs = length-append cs _
+length-seen_after Activity.Idle Go l n cs = omega arith
+length-seen_after Activity.Idle (Guess r) l n cs = omega arith
+length-seen_after Activity.Idle Stop l n cs = omega arith
+length-seen_after (Activity.Leave answer) choice l n cs = omega (arith, length-end_last n (reply_of answer l.pairs) cs)
 length-seen_after _ choice l n cs = omega arith
 
 -- the call at a place of a shorter list is at that place of the longer one

@@ -13,8 +13,8 @@ use Rattle.kw_judge.specs.declared.record.TheConstants.{MOST_CALLS}
 use Rattle.kw_judge.specs.Record.{RecordView, IsRecordText, record_text}
 use Rattle.kw_judge.specs.Good.{IsGood}
 use Rattle.kw_sim.specs.declared.command.Command.{Command}
-use Rattle.kw_sim.specs.declared.command.ScriptError.{ScriptError}
-use Rattle.kw_sim.specs.declared.command.ScriptError.TheVariants as error
+use Rattle.kw_line.specs.declared.error.LineError.{LineError}
+use Rattle.kw_line.specs.declared.error.LineError.TheVariants as error
 use Rattle.kw_sim.specs.Script.{AreLinesOf, IsFirstBadCommand}
 use Rattle.kw_sim.specs.Printed.{judged}
 use Rattle.kw_sim.specs.Meaning.{script_state}
@@ -91,7 +91,7 @@ pub record IsTooLong (rows : ℕ) (script : List ℕ) : Type 0 where
 
 -- a line that is named is the first bad one of the script; line 0 says that the record would be too
 -- long
-abbrev pub IfBadRecord : {X : Type 0} → ℕ → List ℕ → Result X ScriptError → Type 0
+abbrev pub IfBadRecord : {X : Type 0} → ℕ → List ℕ → Result X LineError → Type 0
 IfBadRecord rows script (Ok x) = Unit {0}
 IfBadRecord rows script (Err (error.Bad line)) = IsFirstBadCommand rows script line ⊎ ((line ≡ 0) × IsTooLong rows script)
 IfBadRecord rows script (Err error.Memory) = Unit {0}

@@ -10,8 +10,8 @@ use Rattle.kw_line.specs.Line.{FitsCall}
 use Rattle.kw_judge.specs.Texts.{call_words}
 use Rattle.kw_sim.specs.declared.command.Command.{Command}
 use Rattle.kw_sim.specs.declared.command.Command.TheVariants as command
-use Rattle.kw_sim.specs.declared.command.ScriptError.{ScriptError}
-use Rattle.kw_sim.specs.declared.command.ScriptError.TheVariants as error
+use Rattle.kw_line.specs.declared.error.LineError.{LineError}
+use Rattle.kw_line.specs.declared.error.LineError.TheVariants as error
 use Rattle.kw_sim.specs.declared.parse.Verb.{Verb}
 use Rattle.kw_sim.specs.declared.parse.Verb.TheVariants as verb
 use Rattle.kw_sim.specs.declared.parse.TheConstants.{MOST_LINES, MOST_STEPS}
@@ -100,7 +100,7 @@ pub record IsFirstBadCommand (rows : ℕ) (bytes : List ℕ) (number : ℕ) : Ty
   pub bad : IsText rows line → length before ≡ MOST_LINES
 
 -- a line that is named is the first bad one
-abbrev pub IfBadCommand : {X : Type 0} → ℕ → List ℕ → Result X ScriptError → Type 0
+abbrev pub IfBadCommand : {X : Type 0} → ℕ → List ℕ → Result X LineError → Type 0
 IfBadCommand rows bytes (Ok x) = Unit {0}
 IfBadCommand rows bytes (Err (error.Bad line)) = IsFirstBadCommand rows bytes line
 IfBadCommand rows bytes (Err error.Memory) = Unit {0}

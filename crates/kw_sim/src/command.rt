@@ -1,13 +1,9 @@
 //! What a line of a script asks for.
 //!
-//! The types of this crate that its callers hold: a [`Command`] for each line of a script, and what
-//! is wrong with a script. `specs/Script.antt` gives the one text of each command and the range of
-//! its numbers.
+//! A [`Command`] stands for each line of a script. `specs/Script.antt` gives the one text of each
+//! command and the range of its numbers.
 use kw_model::call::Call;
-use kw_model::memory::Memory;
 use kw_words::kind::Kind;
-use std::alloc::{AllocError, AllocFailed};
-use thiserror::Error;
 
 /// A line of a script. Seats are counted from 0, and are below `SEATS`.
 #[derive(Clone, Copy, Debug, PartialEq, Eq)]
@@ -52,48 +48,4 @@ pub enum Command {
         /// The seat.
         seat: u32,
     },
-}
-
-/// Why a script has no output.
-#[derive(Clone, Copy, Debug, PartialEq, Eq, Error)]
-pub enum ScriptError {
-    /// The first line, counted from 1, that is the text of no command, or the first one too many.
-    #[error("bad line {line}")]
-    Bad { line: u32 },
-    /// Memory was wanted and not found.
-    #[error("out of memory")]
-    Memory,
-}
-
-impl From<Memory> for ScriptError {
-    ghost use Rattle.std.specs.Prelude.{◌≡◌};
-    ghost use Rattle.kw_sim.specs.declared.command.ScriptError.TheVariants as error;
-
-    ghost from_gives = { λ _ e. e ≡ error.Memory };
-
-    fn from(_memory: Memory) -> ScriptError {
-        ScriptError::Memory
-    }
-}
-
-impl From<AllocError> for ScriptError {
-    ghost use Rattle.std.specs.Prelude.{◌≡◌};
-    ghost use Rattle.kw_sim.specs.declared.command.ScriptError.TheVariants as error;
-
-    ghost from_gives = { λ _ e. e ≡ error.Memory };
-
-    fn from(_error: AllocError) -> ScriptError {
-        ScriptError::Memory
-    }
-}
-
-impl<T: Drop> From<AllocFailed<T>> for ScriptError {
-    ghost use Rattle.std.specs.Prelude.{◌≡◌};
-    ghost use Rattle.kw_sim.specs.declared.command.ScriptError.TheVariants as error;
-
-    ghost from_gives = { λ _ e. e ≡ error.Memory };
-
-    fn from(_failed: AllocFailed<T>) -> ScriptError {
-        ScriptError::Memory
-    }
 }

@@ -11,8 +11,9 @@ ghost use Rattle.kw_sim.specs.declared.command.Command.{Command as AnyCommand};
 ghost use Rattle.kw_sim.specs.declared.parse.Verb.{Verb as AnyVerb};
 ghost use Rattle.kw_sim.specs.Script.{verb_word, verb_of, seat_of, rest_words, command_text, HasRange, IsCommand, IsText, AreLinesOf, IfBadCommand};
 
-use crate::command::{Command, ScriptError};
+use crate::command::Command;
 use kw_judge::parse::call;
+use kw_line::error::LineError;
 use kw_line::words::{Lines, Words};
 use kw_words::kind::Kind;
 use kw_words::sizes::SEAT_COUNT;
@@ -37,14 +38,14 @@ pub enum Verb {
 }
 
 /// The commands of a script's lines, one for each line, for a table of this many rows.
-pub fn parse_script(alloc: Global, rows: u32, script: &[u8]) -> Result<Vec<Command>, ScriptError>
+pub fn parse_script(alloc: Global, rows: u32, script: &[u8]) -> Result<Vec<Command>, LineError>
     ensures commands { IfOk result (λ commands. AreLinesOf rows script.now commands.items) }
     ensures bad { IfBadCommand rows script.now result }
 {
     let mut commands = Vec::new(alloc);
     for line in Lines::new(script) {
         let place = commands.len();
-        let bad = ScriptError::Bad {
+        let bad = LineError::Bad {
             line: place as u32 + 1,
         };
         let Some(command) = command(rows, line) else {

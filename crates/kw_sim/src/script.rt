@@ -6,16 +6,17 @@ ghost use Rattle.kw_sim.specs.Script.{IfBadCommand};
 ghost use Rattle.kw_sim.specs.Output.{IsOutputOf, IsStateOf};
 ghost use Rattle.kw_sim.specs.Recorded.{IsRecordOf, IfBadRecord};
 
-use crate::command::{Command, ScriptError};
+use crate::command::Command;
 use crate::parse::parse_script;
 use crate::simulator::Simulator;
+use kw_line::error::LineError;
 use std::alloc::Global;
 
 /// What a script prints, on a table of this many rows: 1 to `MOST_ROWS`.
 ///
 /// `Bad` names the first line that is outside the grammar, or the first one after the most that a
 /// script may have; nothing is run then.
-pub fn run_script(alloc: Global, rows: u32, script: &[u8]) -> Result<Vec<u8>, ScriptError>
+pub fn run_script(alloc: Global, rows: u32, script: &[u8]) -> Result<Vec<u8>, LineError>
     requires some { 1 ≤ rows }
     requires few { rows ≤ MOST_ROWS }
     ensures output { IfOk result (λ bytes. IsOutputOf rows script.now bytes.items) }
@@ -31,7 +32,7 @@ pub fn run_script(alloc: Global, rows: u32, script: &[u8]) -> Result<Vec<u8>, Sc
 /// were stamped by their seats, and the order of all these calls. `Bad` names the first line that
 /// is outside the grammar, or the first one after the most that a script may have; nothing is run
 /// then. `Bad` with line 0 says that there are more of these calls than a record may have.
-pub fn record_script(alloc: Global, rows: u32, script: &[u8]) -> Result<Vec<u8>, ScriptError>
+pub fn record_script(alloc: Global, rows: u32, script: &[u8]) -> Result<Vec<u8>, LineError>
     requires some { 1 ≤ rows }
     requires few { rows ≤ MOST_ROWS }
     ensures output { IfOk result (λ bytes. IsRecordOf rows script.now bytes.items) }
@@ -40,11 +41,11 @@ pub fn record_script(alloc: Global, rows: u32, script: &[u8]) -> Result<Vec<u8>,
     let simulator = run_lines(alloc, rows, script)?;
     simulator
         .to_record(alloc)?
-        .ok_or(ScriptError::Bad { line: 0 })
+        .ok_or(LineError::Bad { line: 0 })
 }
 
 /// Runs all lines of a script.
-fn run_lines(alloc: Global, rows: u32, script: &[u8]) -> Result<Simulator, ScriptError>
+fn run_lines(alloc: Global, rows: u32, script: &[u8]) -> Result<Simulator, LineError>
     requires some { 1 ≤ rows }
     requires few { rows ≤ MOST_ROWS }
     ensures state { IfOk result (λ simulator. IsStateOf rows script.now simulator) }

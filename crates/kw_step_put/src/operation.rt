@@ -19,6 +19,13 @@ use kw_words::pend::Pend;
 use kw_words::plain::{pack_cell_link, pack_key, pack_pass, pack_value, pack_version};
 use kw_words::scan::ScanWord;
 use kw_world::activity::Activity;
+use kw_world::activity::draw::Draw;
+use kw_world::activity::enter::Enter;
+use kw_world::activity::insert::Insert;
+use kw_world::activity::look::Look;
+use kw_world::activity::put::Put;
+use kw_world::activity::read::Read;
+use kw_world::activity::walk::Walk;
 use kw_world::calls::{first_key, put_value};
 use kw_world::event::Choice;
 use kw_world::local::Local;
@@ -35,61 +42,64 @@ pub fn put_operation(seat: u32, local: &Local, choice: Choice) -> Operation
     let cell = local.cell;
     match local.activity {
         Activity::Idle => load(Kind::LoadEpoch, Name::Epoch),
-        Activity::Enter => {
+        Activity::Enter(Enter::Announce) => {
             let pass = pack_pass(Some(local.epoch));
             store(Kind::StorePass, Name::Pass(seat), pass)
         }
-        Activity::ScanClock => load(Kind::LoadClock, Name::Clock),
-        Activity::ScanWait => {
+        Activity::Draw(Draw::Clock) => load(Kind::LoadClock, Name::Clock),
+        Activity::Draw(Draw::Wait) => {
             let waiting = ScanWord::Waiting(local.waiting).pack();
             store(Kind::StoreWaiting, Name::Scan(seat), waiting)
         }
-        Activity::ScanDraw => add_one(Kind::Draw, Name::Clock),
-        Activity::ScanSettle => settle(seat, local.waiting, local.drawn),
-        Activity::Walk => clear_scan(seat),
-        Activity::Look(entry) => load(Kind::LoadPend, Name::Pend(row, entry)),
-        Activity::LookKey => load(Kind::LoadKey, Name::Key(row, local.met)),
-        Activity::LookClock => load(Kind::LoadClock, Name::Clock),
-        Activity::LookHelp => {
+        Activity::Draw(Draw::Version) => add_one(Kind::Draw, Name::Clock),
+        Activity::Draw(Draw::Settle) => settle(seat, local.waiting, local.drawn),
+        Activity::Walk(Walk::Next) => clear_scan(seat),
+        Activity::Look(Look::Entry(entry)) => load(Kind::LoadPend, Name::Pend(row, entry)),
+        Activity::Look(Look::Key) => load(Kind::LoadKey, Name::Key(row, local.met)),
+        Activity::Look(Look::Clock) => load(Kind::LoadClock, Name::Clock),
+        Activity::Look(Look::Help) => {
             let entry = Name::Pend(row, local.looked);
             stamp(Kind::HelpStamp, entry, local.met, local.helping)
         }
-        Activity::ListFrom => load(Kind::LoadAfter, link_name(row, local.link)),
-        Activity::ListKey => load(Kind::LoadKey, Name::Key(row, local.place)),
-        Activity::ListVer => load(Kind::LoadVersion, Name::Version(row, local.place)),
-        Activity::ListVal => load(Kind::LoadValue, Name::Value(row, local.place)),
-        Activity::RestKey => load(Kind::LoadKey, Name::Key(row, local.place)),
-        Activity::RestVal => load(Kind::LoadValue, Name::Value(row, local.place)),
-        Activity::ClearScan(_) => clear_scan(seat),
-        Activity::PutCount => load(Kind::LoadCount, Name::Count(row)),
-        Activity::PutAdd => add_one(Kind::AddCount, Name::Count(row)),
-        Activity::PutKey => {
+        Activity::Read(Read::Link) => load(Kind::LoadAfter, link_name(row, local.link)),
+        Activity::Read(Read::Key) => load(Kind::LoadKey, Name::Key(row, local.place)),
+        Activity::Read(Read::Version) => load(Kind::LoadVersion, Name::Version(row, local.place)),
+        Activity::Read(Read::Value) => load(Kind::LoadValue, Name::Value(row, local.place)),
+        Activity::Read(Read::LeftOverKey) => load(Kind::LoadKey, Name::Key(row, local.place)),
+        Activity::Read(Read::LeftOverValue) => load(Kind::LoadValue, Name::Value(row, local.place)),
+        Activity::EndScan(_) => clear_scan(seat),
+        Activity::Put(Put::Count) => load(Kind::LoadCount, Name::Count(row)),
+        Activity::Put(Put::Add) => add_one(Kind::AddCount, Name::Count(row)),
+        Activity::Put(Put::Key) => {
             let key = pack_key(first_key(local.call));
             store(Kind::StoreKey, Name::Key(row, cell), key)
         }
-        Activity::PutValue => {
+        Activity::Put(Put::Value) => {
             let value = pack_value(put_value(local.call));
             store(Kind::StoreValue, Name::Value(row, cell), value)
         }
-        Activity::Announce => announce(Name::Pend(row, seat), cell),
-        Activity::PutClock => load(Kind::LoadClock, Name::Clock),
-        Activity::Stamp => {
+        Activity::Put(Put::Announce) => announce(Name::Pend(row, seat), cell),
+        Activity::Put(Put::Clock) => load(Kind::LoadClock, Name::Clock),
+        Activity::Put(Put::Stamp) => {
             let entry = Name::Pend(row, seat);
             stamp(Kind::Stamp, entry, cell, local.version)
         }
-        Activity::PutVersion => {
+        Activity::Put(Put::Version) => {
             let version = pack_version(Some(local.version));
             store(Kind::StoreVersion, Name::Version(row, cell), version)
         }
-        Activity::InsFrom => load(Kind::LoadAfter, link_name(row, local.link)),
-        Activity::InsKey => load(Kind::LoadKey, Name::Key(row, local.place)),
-        Activity::InsVer => load(Kind::LoadVersion, Name::Version(row, local.place)),
-        Activity::InsSet => {
+        Activity::Insert(Insert::Link) => load(Kind::LoadAfter, link_name(row, local.link)),
+        Activity::Insert(Insert::Key) => load(Kind::LoadKey, Name::Key(row, local.place)),
+        Activity::Insert(Insert::Version) => load(
+            Kind::LoadVersion,
+            Name::Version(row, local.place),
+        ),
+        Activity::Insert(Insert::Set) => {
             let held = pack_cell_link(local.held);
             store(Kind::StoreAfter, Name::After(row, cell), held)
         }
-        Activity::Insert => insert(link_name(row, local.link), local.held, cell),
-        Activity::PutClear => {
+        Activity::Insert(Insert::Exchange) => insert(link_name(row, local.link), local.held, cell),
+        Activity::Put(Put::Clear) => {
             let idle = Pend::Idle.pack();
             store(Kind::ClearPend, Name::Pend(row, seat), idle)
         }

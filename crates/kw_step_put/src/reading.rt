@@ -6,6 +6,7 @@ ghost use Rattle.std.specs.Prelude.{◌≡◌, ◌≤◌, ◌<◌, true, false, 
 ghost use Rattle.kw_words.specs.Plain.{value_of_word, version_of_word};
 ghost use Rattle.kw_words.specs.declared.sizes.TheConstants.{CELLS};
 ghost use Rattle.kw_world.specs.declared.activity.Activity.{Activity};
+ghost use Rattle.kw_world.specs.declared.activity.read.Read.{Read};
 ghost use Rattle.kw_world.specs.Sizes.{product};
 ghost use Rattle.kw_world.specs.Marks.{least_mark};
 ghost use Rattle.kw_world.specs.ListTransitions.{past_cell};
@@ -64,7 +65,7 @@ pub fn gather(local: &mut Local, found: u64) -> Option<usize>
 /// Takes a remembered cell of the least place in hand, whose key is to be loaded next. Whether
 /// there is one.
 pub fn take_remembered(local: &mut Local) -> bool
-    ensures taken { result ≡ true → record local.new { activity = Activity.RestKey }
+    ensures taken { result ≡ true → record local.new { activity = (Activity.Read Read.LeftOverKey) }
         ≡ (to_rest local.old).local }
     ensures same { result ≡ true → local.new.activity ≡ local.old.activity }
     ensures none { result ≡ false → (local.new ≡ local.old)

@@ -20,6 +20,13 @@ use crate::resume_put::{add, announce, clear, count, stamp};
 use crate::resume_scan::{begin, clock, enter, settle};
 use kw_model::memory::Memory;
 use kw_world::activity::Activity;
+use kw_world::activity::draw::Draw;
+use kw_world::activity::enter::Enter;
+use kw_world::activity::insert::Insert;
+use kw_world::activity::look::Look;
+use kw_world::activity::put::Put;
+use kw_world::activity::read::Read;
+use kw_world::activity::walk::Walk;
 use kw_world::answer::Answer;
 use kw_world::event::{Choice, StepDone};
 use kw_world::local::Local;
@@ -48,46 +55,46 @@ pub fn put_resume(
 {
     match local.activity {
         Activity::Idle => Ok(begin(local, choice, told)),
-        Activity::Enter => Ok(enter(local)),
-        Activity::ScanClock => Ok(clock(local, told)),
-        Activity::ScanWait => Ok(to(local, Activity::ScanDraw)),
-        Activity::ScanDraw => {
+        Activity::Enter(Enter::Announce) => Ok(enter(local)),
+        Activity::Draw(Draw::Clock) => Ok(clock(local, told)),
+        Activity::Draw(Draw::Wait) => Ok(to(local, Activity::Draw(Draw::Version))),
+        Activity::Draw(Draw::Version) => {
             local.drawn = told;
-            Ok(to(local, Activity::ScanSettle))
+            Ok(to(local, Activity::Draw(Draw::Settle)))
         }
-        Activity::ScanSettle => Ok(settle(local, told)),
-        Activity::Walk => Ok(leave(local, Answer::Stopped)),
-        Activity::Look(entry) => Ok(look(local, entry, told)),
-        Activity::LookKey => Ok(look_key(local, told)),
-        Activity::LookClock => {
+        Activity::Draw(Draw::Settle) => Ok(settle(local, told)),
+        Activity::Walk(Walk::Next) => Ok(leave(local, Answer::Stopped)),
+        Activity::Look(Look::Entry(entry)) => Ok(look(local, entry, told)),
+        Activity::Look(Look::Key) => Ok(look_key(local, told)),
+        Activity::Look(Look::Clock) => {
             local.helping = told;
-            Ok(to(local, Activity::LookHelp))
+            Ok(to(local, Activity::Look(Look::Help)))
         }
-        Activity::LookHelp => Ok(help(local, told)),
-        Activity::ListFrom => list_from(local, told),
-        Activity::ListKey => list_key(local, told),
-        Activity::ListVer => Ok(list_version(local, told)),
-        Activity::ListVal => Ok(list_value(local, told)),
-        Activity::RestKey => rest_key(local, told),
-        Activity::RestVal => rest_value(local, told),
-        Activity::ClearScan(answer) => Ok(end_scan(local, answer, choice)),
-        Activity::PutCount => Ok(count(local, told)),
-        Activity::PutAdd => Ok(add(local, told)),
-        Activity::PutKey => Ok(to(local, Activity::PutValue)),
-        Activity::PutValue => Ok(to(local, Activity::Announce)),
-        Activity::Announce => Ok(announce(local, told)),
-        Activity::PutClock => {
+        Activity::Look(Look::Help) => Ok(help(local, told)),
+        Activity::Read(Read::Link) => list_from(local, told),
+        Activity::Read(Read::Key) => list_key(local, told),
+        Activity::Read(Read::Version) => Ok(list_version(local, told)),
+        Activity::Read(Read::Value) => Ok(list_value(local, told)),
+        Activity::Read(Read::LeftOverKey) => rest_key(local, told),
+        Activity::Read(Read::LeftOverValue) => rest_value(local, told),
+        Activity::EndScan(answer) => Ok(end_scan(local, answer, choice)),
+        Activity::Put(Put::Count) => Ok(count(local, told)),
+        Activity::Put(Put::Add) => Ok(add(local, told)),
+        Activity::Put(Put::Key) => Ok(to(local, Activity::Put(Put::Value))),
+        Activity::Put(Put::Value) => Ok(to(local, Activity::Put(Put::Announce))),
+        Activity::Put(Put::Announce) => Ok(announce(local, told)),
+        Activity::Put(Put::Clock) => {
             local.version = told;
-            Ok(to(local, Activity::Stamp))
+            Ok(to(local, Activity::Put(Put::Stamp)))
         }
-        Activity::Stamp => Ok(stamp(local, told)),
-        Activity::PutVersion => Ok(start_insert(local)),
-        Activity::InsFrom => Ok(insert_from(local, told)),
-        Activity::InsKey => Ok(insert_key(local, told)),
-        Activity::InsVer => Ok(insert_version(local, told)),
-        Activity::InsSet => Ok(to(local, Activity::Insert)),
-        Activity::Insert => Ok(insert(local, told)),
-        Activity::PutClear => Ok(clear(local, rows, choice)),
+        Activity::Put(Put::Stamp) => Ok(stamp(local, told)),
+        Activity::Put(Put::Version) => Ok(start_insert(local)),
+        Activity::Insert(Insert::Link) => Ok(insert_from(local, told)),
+        Activity::Insert(Insert::Key) => Ok(insert_key(local, told)),
+        Activity::Insert(Insert::Version) => Ok(insert_version(local, told)),
+        Activity::Insert(Insert::Set) => Ok(to(local, Activity::Insert(Insert::Exchange))),
+        Activity::Insert(Insert::Exchange) => Ok(insert(local, told)),
+        Activity::Put(Put::Clear) => Ok(clear(local, rows, choice)),
         Activity::Leave(answer) => Ok(end_call(local, answer)),
         _ => unreachable!(),
     }

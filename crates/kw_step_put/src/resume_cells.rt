@@ -24,6 +24,8 @@ use kw_model::memory::Memory;
 use kw_model::pair_list::PairList;
 use kw_words::plain::{unpack_cell_link, unpack_key};
 use kw_world::activity::Activity;
+use kw_world::activity::read::Read;
+use kw_world::activity::walk::Walk;
 use kw_world::answer::Answer;
 use kw_world::calls::{first_key, is_in_range, last_key};
 use kw_world::event::StepDone;
@@ -41,7 +43,7 @@ pub(crate) fn list_from(local: &mut Local, found: u64) -> Result<StepDone, Memor
     match unpack_cell_link(found) {
         Some(cell) => {
             meet(local, cell);
-            Ok(to(local, Activity::ListKey))
+            Ok(to(local, Activity::Read(Read::Key)))
         }
         None => to_rest(local),
     }
@@ -59,7 +61,7 @@ pub(crate) fn list_key(local: &mut Local, found: u64) -> Result<StepDone, Memory
         Ok(go_on_past(local))
     } else if key <= last_key(local.call) {
         local.place_key = key;
-        Ok(to(local, Activity::ListVer))
+        Ok(to(local, Activity::Read(Read::Version)))
     } else {
         to_rest(local)
     }
@@ -70,7 +72,7 @@ pub(crate) fn list_version(local: &mut Local, found: u64) -> StepDone
     ensures { outcome local.new result ≡ list_version (version_of_word found) local.old }
 {
     hold_version(local, found);
-    to(local, Activity::ListVal)
+    to(local, Activity::Read(Read::Value))
 }
 
 // The seat was told the value of that cell, and gathers it.
@@ -87,7 +89,7 @@ fn go_on_past(local: &mut Local) -> StepDone
     ensures { outcome local.new result ≡ list_past local.old }
 {
     pass_cell(local);
-    to(local, Activity::ListFrom)
+    to(local, Activity::Read(Read::Link))
 }
 
 // The seat was told the key of a remembered cell.
@@ -100,7 +102,7 @@ pub(crate) fn rest_key(local: &mut Local, found: u64) -> Result<StepDone, Memory
     let key = unpack_key(found);
     if is_in_range(local.call, key) {
         local.place_key = key;
-        Ok(to(local, Activity::RestVal))
+        Ok(to(local, Activity::Read(Read::LeftOverValue)))
     } else {
         to_rest(local)
     }
@@ -144,7 +146,7 @@ fn to_rest(local: &mut Local) -> Result<StepDone, Memory>
     ensures scan { OnErr result (is_scan local.old.call ≡ true) }
 {
     if take_remembered(local) {
-        return Ok(to(local, Activity::RestKey));
+        return Ok(to(local, Activity::Read(Read::LeftOverKey)));
     }
     match local.call {
         Some(Call::Scan(_, upto)) => scan_row(local, upto),
@@ -194,9 +196,9 @@ fn go_on(local: &mut Local, upto: u32) -> StepDone
             local.want = local.upper;
             local.next = None;
             local.upper = 0;
-            to(local, Activity::Walk)
+            to(local, Activity::Walk(Walk::Next))
         }
-        _ => to(local, Activity::ClearScan(Answer::Pairs)),
+        _ => to(local, Activity::EndScan(Answer::Pairs)),
     }
 }
 

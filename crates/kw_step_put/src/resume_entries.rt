@@ -16,6 +16,8 @@ use kw_words::pend::Pend;
 use kw_words::plain::unpack_key;
 use kw_words::sizes::SEAT_COUNT;
 use kw_world::activity::Activity;
+use kw_world::activity::look::Look;
+use kw_world::activity::read::Read;
 use kw_world::calls::is_in_range;
 use kw_world::event::StepDone;
 use kw_world::local::Local;
@@ -27,9 +29,9 @@ fn to_look(local: &mut Local, entry: u32) -> StepDone
     ensures { outcome local.new result ≡ to_look product entry local.old }
 {
     if entry < SEAT_COUNT {
-        to(local, Activity::Look(entry))
+        to(local, Activity::Look(Look::Entry(entry)))
     } else {
-        to(local, Activity::ListFrom)
+        to(local, Activity::Read(Read::Link))
     }
 }
 
@@ -52,7 +54,7 @@ pub fn look(local: &mut Local, entry: u32, found: u64) -> StepDone
         Some(Pend::Pending(cell)) => {
             local.looked = entry;
             local.met = cell;
-            to(local, Activity::LookKey)
+            to(local, Activity::Look(Look::Key))
         }
         Some(Pend::Stamped(cell, version)) => {
             remember(local, cell, version);
@@ -66,10 +68,10 @@ pub fn look(local: &mut Local, entry: u32, found: u64) -> StepDone
 pub(crate) fn look_key(local: &mut Local, found: u64) -> StepDone
     requires { local.old.looked < SEATS }
     ensures { outcome local.new result ≡ (if is_in_range local.old.call (key_of_word found)
-        then to Activity.LookClock local.old else to_look product (local.old.looked + 1) local.old) }
+        then to (Activity.Look Look.Clock) local.old else to_look product (local.old.looked + 1) local.old) }
 {
     if is_in_range(local.call, unpack_key(found)) {
-        to(local, Activity::LookClock)
+        to(local, Activity::Look(Look::Clock))
     } else {
         let next = local.looked + 1;
         to_look(local, next)

@@ -15,6 +15,8 @@ use crate::resume::to;
 use kw_words::plain::{pack_cell_link, unpack_cell_link, unpack_key, unpack_version};
 use kw_words::sizes::CELL_COUNT;
 use kw_world::activity::Activity;
+use kw_world::activity::insert::Insert;
+use kw_world::activity::put::Put;
 use kw_world::calls::first_key;
 use kw_world::event::StepDone;
 use kw_world::local::Local;
@@ -41,7 +43,7 @@ pub fn start_insert(local: &mut Local) -> StepDone
 {
     go_to_first(local);
     local.lost = 0;
-    to(local, Activity::InsFrom)
+    to(local, Activity::Insert(Insert::Link))
 }
 
 /// The seat was told the link at which it stands.
@@ -54,7 +56,7 @@ pub fn insert_from(local: &mut Local, found: u64) -> StepDone
             local.held = Some(cell);
             local.place = cell;
             local.walked = one_more(local.walked);
-            to(local, Activity::InsKey)
+            to(local, Activity::Insert(Insert::Key))
         }
         None => {
             local.held = None;
@@ -68,14 +70,14 @@ fn pass(local: &mut Local) -> StepDone
     ensures { outcome local.new result ≡ insert_past local.old }
 {
     local.link = Some(local.place);
-    to(local, Activity::InsFrom)
+    to(local, Activity::Insert(Insert::Link))
 }
 
 // The own cell stands before what the link led to, and is to get the same link.
 fn end_walk(local: &mut Local) -> StepDone
-    ensures { outcome local.new result ≡ to Activity.InsSet local.old }
+    ensures { outcome local.new result ≡ to (Activity.Insert Insert.Set) local.old }
 {
-    to(local, Activity::InsSet)
+    to(local, Activity::Insert(Insert::Set))
 }
 
 /// The seat was told the key of the cell that it met.
@@ -87,7 +89,7 @@ pub fn insert_key(local: &mut Local, found: u64) -> StepDone
     if key < own {
         pass(local)
     } else if key == own {
-        to(local, Activity::InsVer)
+        to(local, Activity::Insert(Insert::Version))
     } else {
         end_walk(local)
     }
@@ -121,10 +123,10 @@ pub fn insert(local: &mut Local, found: u64) -> StepDone
         (found == cell_link_word local.old.held) local.old }
 {
     if found == pack_cell_link(local.held) {
-        to(local, Activity::PutClear)
+        to(local, Activity::Put(Put::Clear))
     } else {
         go_to_first(local);
         local.lost = one_more(local.lost);
-        to(local, Activity::InsFrom)
+        to(local, Activity::Insert(Insert::Link))
     }
 }

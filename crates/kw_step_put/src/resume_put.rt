@@ -15,6 +15,9 @@ use kw_words::count::Count;
 use kw_words::pend::Pend;
 use kw_words::sizes::CELL_COUNT;
 use kw_world::activity::Activity;
+use kw_world::activity::put::Put;
+use kw_world::activity::rebalance::Rebalance;
+use kw_world::activity::rebalance::engage::Engage;
 use kw_world::answer::Answer;
 use kw_world::event::{Choice, StepDone};
 use kw_world::limits::TIDY_SHARE;
@@ -25,7 +28,7 @@ fn full(local: &mut Local) -> StepDone
     ensures { outcome local.new result ≡ to_rebalance local.old }
 {
     local.rebalance.forget();
-    to(local, Activity::BalClock)
+    to(local, Activity::Rebalance(Rebalance::Engage(Engage::Clock)))
 }
 
 /// The cell that a row with this count gives, if it gives one more. What is recorded of a put's
@@ -43,10 +46,10 @@ pub fn room(found: u64) -> Option<u32>
 /// The seat was told the count of its row.
 pub fn count(local: &mut Local, found: u64) -> StepDone
     ensures { outcome local.new result ≡ (if has_room product (count_of found)
-        then to Activity.PutAdd local.old else to_rebalance local.old) }
+        then to (Activity.Put Put.Add) local.old else to_rebalance local.old) }
 {
     match room(found) {
-        Some(_) => to(local, Activity::PutAdd),
+        Some(_) => to(local, Activity::Put(Put::Add)),
         None => full(local),
     }
 }
@@ -54,13 +57,13 @@ pub fn count(local: &mut Local, found: u64) -> StepDone
 /// The seat has asked for a cell, and was told the count before.
 pub fn add(local: &mut Local, found: u64) -> StepDone
     ensures { outcome local.new result ≡ (if has_room product (count_of found)
-        then to Activity.PutKey (record local.old { cell = given_of (count_of found) })
+        then to (Activity.Put Put.Key) (record local.old { cell = given_of (count_of found) })
         else to_rebalance local.old) }
 {
     match room(found) {
         Some(cell) => {
             local.cell = cell;
-            to(local, Activity::PutKey)
+            to(local, Activity::Put(Put::Key))
         }
         None => full(local),
     }
@@ -68,11 +71,11 @@ pub fn add(local: &mut Local, found: u64) -> StepDone
 
 /// The seat has tried to announce its cell, and was told the entry found.
 pub fn announce(local: &mut Local, found: u64) -> StepDone
-    ensures { outcome local.new result ≡ (if found == pend_word Pend.Idle then to Activity.PutClock
+    ensures { outcome local.new result ≡ (if found == pend_word Pend.Idle then to (Activity.Put Put.Clock)
         local.old else to_rebalance local.old) }
 {
     if found == Pend::Idle.pack() {
-        to(local, Activity::PutClock)
+        to(local, Activity::Put(Put::Clock))
     } else {
         full(local)
     }
@@ -83,10 +86,10 @@ pub fn stamp(local: &mut Local, found: u64) -> StepDone
     ensures { outcome local.new result ≡ stamp_met (pend_of found) local.old }
 {
     match Pend::unpack(found) {
-        Some(Pend::Pending(cell)) if cell == local.cell => to(local, Activity::PutVersion),
+        Some(Pend::Pending(cell)) if cell == local.cell => to(local, Activity::Put(Put::Version)),
         Some(Pend::Stamped(cell, version)) if cell == local.cell => {
             local.version = version;
-            to(local, Activity::PutVersion)
+            to(local, Activity::Put(Put::Version))
         }
         _ => full(local),
     }

@@ -13,6 +13,9 @@ use kw_model::call::Call;
 use kw_words::scan::ScanWord;
 use kw_words::sizes::SPENT;
 use kw_world::activity::Activity;
+use kw_world::activity::draw::Draw;
+use kw_world::activity::enter::Enter;
+use kw_world::activity::walk::Walk;
 use kw_world::answer::Answer;
 use kw_world::calls::{first_key, is_range_empty};
 use kw_world::event::{Choice, StepDone};
@@ -29,7 +32,7 @@ pub fn begin(local: &mut Local, choice: Choice, epoch: u64) -> StepDone
             local.call = Some(call);
             local.number += 1;
             local.epoch = epoch;
-            to(local, Activity::Enter)
+            to(local, Activity::Enter(Enter::Announce))
         }
         _ => StepDone::Skipped,
     }
@@ -41,7 +44,7 @@ pub fn enter(local: &mut Local) -> StepDone
     ensures { outcome local.new result ≡ entered local.old.call local.old }
 {
     match local.call {
-        Some(Call::Scan(_, _)) => to(local, Activity::ScanClock),
+        Some(Call::Scan(_, _)) => to(local, Activity::Draw(Draw::Clock)),
         _ => start(local),
     }
 }
@@ -51,7 +54,7 @@ fn start(local: &mut Local) -> StepDone
     ensures { outcome local.new result ≡ to_start local.old }
 {
     local.want = first_key(local.call);
-    to(local, Activity::Start)
+    to(local, Activity::Walk(Walk::Start))
 }
 
 /// A scan was told the clock.
@@ -63,7 +66,7 @@ pub fn clock(local: &mut Local, clock: u64) -> StepDone
         return leave(local, Answer::Spent);
     }
     local.waiting = clock;
-    to(local, Activity::ScanWait)
+    to(local, Activity::Draw(Draw::Wait))
 }
 
 /// A scan has exchanged its waiting word, and was told the word found.
@@ -77,7 +80,7 @@ pub fn settle(local: &mut Local, found: u64) -> StepDone
         _ => local.drawn,
     };
     if is_range_empty(local.call) {
-        return to(local, Activity::ClearScan(Answer::Pairs));
+        return to(local, Activity::EndScan(Answer::Pairs));
     }
     start(local)
 }

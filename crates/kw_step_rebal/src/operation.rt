@@ -31,6 +31,14 @@ use kw_words::scan::ScanWord;
 use kw_words::sizes::{FROZEN_BIT, MARK_BIT};
 use kw_words::state::State;
 use kw_world::activity::Activity;
+use kw_world::activity::enter::Enter;
+use kw_world::activity::rebalance::Rebalance;
+use kw_world::activity::rebalance::engage::Engage;
+use kw_world::activity::rebalance::freeze::Freeze;
+use kw_world::activity::rebalance::gather::Gather;
+use kw_world::activity::rebalance::replace::Replace;
+use kw_world::activity::rebalance::seek::Seek;
+use kw_world::activity::rebalance::write::Write;
 use kw_world::event::Choice;
 use kw_world::local::Local;
 use kw_world::operation::{Action, Operation};
@@ -44,35 +52,79 @@ pub fn rebalance_operation(seat: u32, local: &Local, choice: Choice) -> Operatio
 {
     let row = local.row;
     match local.activity {
-        Activity::Again => store(Kind::ClearPass, Name::Pass(seat), pack_pass(None)),
-        Activity::AgainEpoch => load(Kind::LoadEpoch, Name::Epoch),
-        Activity::BalClock => load(Kind::LoadClock, Name::Clock),
-        Activity::BalEpoch => load(Kind::LoadEpoch, Name::Epoch),
-        Activity::BalState => load(Kind::LoadState, Name::State(row)),
-        Activity::BalNormal(owner) => normalise(Name::State(row), owner),
-        Activity::Engage => {
+        Activity::Retry => store(Kind::ClearPass, Name::Pass(seat), pack_pass(None)),
+        Activity::Enter(Enter::LoadEpoch) => load(Kind::LoadEpoch, Name::Epoch),
+        Activity::Rebalance(Rebalance::Engage(Engage::Clock)) => load(Kind::LoadClock, Name::Clock),
+        Activity::Rebalance(Rebalance::Engage(Engage::Epoch)) => load(Kind::LoadEpoch, Name::Epoch),
+        Activity::Rebalance(Rebalance::Engage(Engage::State)) => load(
+            Kind::LoadState,
+            Name::State(row),
+        ),
+        Activity::Rebalance(Rebalance::Engage(Engage::Normal(owner))) => normalise(
+            Name::State(row),
+            owner,
+        ),
+        Activity::Rebalance(Rebalance::Engage(Engage::Lead)) => {
             let state = Name::State(row);
             change_state(Kind::Engage, state, State::Normal, State::Leader(0))
         }
-        Activity::MarkLink(_) => set_bits(Kind::MarkLink, Name::Next(row), MARK_BIT),
-        Activity::Decide(count) => {
+        Activity::Rebalance(Rebalance::Engage(Engage::MarkLink(_))) => set_bits(
+            Kind::MarkLink,
+            Name::Next(row),
+            MARK_BIT,
+        ),
+        Activity::Rebalance(Rebalance::Engage(Engage::Decide(count))) => {
             let state = Name::State(row);
             change_state(Kind::Decide, state, State::Leader(0), State::Leader(count))
         }
-        Activity::FreezeCount => set_bits(Kind::FreezeCount, Name::Count(row), FROZEN_BIT),
-        Activity::FreezeLook(entry) => load(Kind::LoadPend, Name::Pend(row, entry)),
-        Activity::Freeze(entry) => freeze(Name::Pend(row, entry), local.rebalance.entry),
-        Activity::ScanLook(scan) => load(Kind::LoadScan, Name::Scan(scan)),
-        Activity::HelpDraw(_) => add_one(Kind::HelpDraw, Name::Clock),
-        Activity::HelpSettle(scan) => {
+        Activity::Rebalance(Rebalance::Freeze(Freeze::Count)) => set_bits(
+            Kind::FreezeCount,
+            Name::Count(row),
+            FROZEN_BIT,
+        ),
+        Activity::Rebalance(Rebalance::Freeze(Freeze::Look(entry))) => load(
+            Kind::LoadPend,
+            Name::Pend(row, entry),
+        ),
+        Activity::Rebalance(Rebalance::Freeze(Freeze::Entry(entry))) => freeze(
+            Name::Pend(row, entry),
+            local.rebalance.entry,
+        ),
+        Activity::Rebalance(Rebalance::Freeze(Freeze::Scan(scan))) => load(
+            Kind::LoadScan,
+            Name::Scan(scan),
+        ),
+        Activity::Rebalance(Rebalance::Freeze(Freeze::Draw(_))) => add_one(
+            Kind::HelpDraw,
+            Name::Clock,
+        ),
+        Activity::Rebalance(Rebalance::Freeze(Freeze::Settle(scan))) => {
             settle(scan, local.rebalance.waiting, local.rebalance.drawn)
         }
-        Activity::TakeFrom => load(Kind::LoadAfter, link_name(row, local.link)),
-        Activity::TakeKey => load(Kind::LoadKey, Name::Key(row, local.place)),
-        Activity::TakeVersion => load(Kind::LoadVersion, Name::Version(row, local.place)),
-        Activity::TakeValue => load(Kind::LoadValue, Name::Value(row, local.place)),
-        Activity::TakeRestKey => load(Kind::LoadKey, Name::Key(row, local.place)),
-        Activity::TakeRestValue => load(Kind::LoadValue, Name::Value(row, local.place)),
+        Activity::Rebalance(Rebalance::Gather(Gather::Link)) => load(
+            Kind::LoadAfter,
+            link_name(row, local.link),
+        ),
+        Activity::Rebalance(Rebalance::Gather(Gather::Key)) => load(
+            Kind::LoadKey,
+            Name::Key(row, local.place),
+        ),
+        Activity::Rebalance(Rebalance::Gather(Gather::Version)) => load(
+            Kind::LoadVersion,
+            Name::Version(row, local.place),
+        ),
+        Activity::Rebalance(Rebalance::Gather(Gather::Value)) => load(
+            Kind::LoadValue,
+            Name::Value(row, local.place),
+        ),
+        Activity::Rebalance(Rebalance::Gather(Gather::LeftOverKey)) => load(
+            Kind::LoadKey,
+            Name::Key(row, local.place),
+        ),
+        Activity::Rebalance(Rebalance::Gather(Gather::LeftOverValue)) => load(
+            Kind::LoadValue,
+            Name::Value(row, local.place),
+        ),
         _ => build_operation(seat, local, choice),
     }
 }
@@ -87,31 +139,50 @@ fn build_operation(seat: u32, local: &Local, choice: Choice) -> Operation
 {
     let new_row = infant(local);
     match local.activity {
-        Activity::SeekFirst => match choice {
+        Activity::Rebalance(Rebalance::Seek(Seek::First)) => match choice {
             Choice::Guess(guess) => load(Kind::LoadState, Name::State(guess)),
             _ => load(Kind::LoadState, Name::State(local.rebalance.sought)),
         },
-        Activity::Seek => load(Kind::LoadState, Name::State(local.rebalance.sought)),
-        Activity::SeekPass(other) => load(Kind::LoadPass, Name::Pass(other)),
-        Activity::Reclaim => {
+        Activity::Rebalance(Rebalance::Seek(Seek::Next)) => load(
+            Kind::LoadState,
+            Name::State(local.rebalance.sought),
+        ),
+        Activity::Rebalance(Rebalance::Seek(Seek::Pass(other))) => load(
+            Kind::LoadPass,
+            Name::Pass(other),
+        ),
+        Activity::Rebalance(Rebalance::Seek(Seek::Reclaim)) => {
             let state = Name::State(local.rebalance.sought);
             let retired = State::Retired(local.rebalance.number);
             change_state(Kind::Reclaim, state, retired, State::Free)
         }
-        Activity::TakeRow => take_row(Name::State(local.rebalance.sought), seat),
-        Activity::GiveBack => store_state(Kind::GiveBack, new_row, State::Free),
-        Activity::WriteCount => write_count(local, new_row),
-        Activity::WriteMin => write_least(local, new_row),
-        Activity::WriteNext => write_link(local, new_row),
-        Activity::WriteFirst => write_first(local, new_row),
-        Activity::WritePend(entry) => {
+        Activity::Rebalance(Rebalance::Seek(Seek::Take)) => take_row(
+            Name::State(local.rebalance.sought),
+            seat,
+        ),
+        Activity::Rebalance(Rebalance::Seek(Seek::GiveBack)) => store_state(
+            Kind::GiveBack,
+            new_row,
+            State::Free,
+        ),
+        Activity::Rebalance(Rebalance::Write(Write::Count)) => write_count(local, new_row),
+        Activity::Rebalance(Rebalance::Write(Write::Least)) => write_least(local, new_row),
+        Activity::Rebalance(Rebalance::Write(Write::Next)) => write_link(local, new_row),
+        Activity::Rebalance(Rebalance::Write(Write::First)) => write_first(local, new_row),
+        Activity::Rebalance(Rebalance::Write(Write::Entry(entry))) => {
             let idle = Pend::Idle.pack();
             store(Kind::StoreInfant, Name::Pend(new_row, entry), idle)
         }
-        Activity::WriteKey(cell) => write_key(local, new_row, cell),
-        Activity::WriteValue(cell) => write_value(local, new_row, cell),
-        Activity::WriteVersion(cell) => write_version(local, new_row, cell),
-        Activity::WriteAfter(cell) => write_after(local, new_row, cell),
+        Activity::Rebalance(Rebalance::Write(Write::Key(cell))) => write_key(local, new_row, cell),
+        Activity::Rebalance(Rebalance::Write(Write::Value(cell))) => write_value(
+            local, new_row, cell,
+        ),
+        Activity::Rebalance(Rebalance::Write(Write::Version(cell))) => write_version(
+            local, new_row, cell,
+        ),
+        Activity::Rebalance(Rebalance::Write(Write::After(cell))) => write_after(
+            local, new_row, cell,
+        ),
         _ => link_operation(seat, local, choice),
     }
 }
@@ -125,18 +196,33 @@ fn link_operation(seat: u32, local: &Local, choice: Choice) -> Operation
     ensures { result ≡ (transition_of product seat choice local.now).operation }
 {
     match local.activity {
-        Activity::Before => match choice {
+        Activity::Rebalance(Rebalance::Replace(Replace::Start)) => match choice {
             Choice::Guess(guess) => load(Kind::LoadState, Name::State(guess)),
             _ => load(Kind::LoadHead, Name::Head),
         },
-        Activity::BeforeGuess => load(Kind::LoadMin, Name::Min(row_before(local))),
-        Activity::BeforeHead => load(Kind::LoadHead, Name::Head),
-        Activity::BeforeLink => load(Kind::LoadLink, Name::Next(row_before(local))),
-        Activity::BeforeMin => load(Kind::LoadMin, Name::Min(local.candidate)),
-        Activity::Replace => replace(local),
-        Activity::Normalise => normalise(Name::State(infant(local)), seat),
-        Activity::Number => add_one(Kind::Number, Name::Epoch),
-        Activity::Retire => {
+        Activity::Rebalance(Rebalance::Replace(Replace::GuessedLeast)) => load(
+            Kind::LoadMin,
+            Name::Min(row_before(local)),
+        ),
+        Activity::Rebalance(Rebalance::Replace(Replace::First)) => load(Kind::LoadHead, Name::Head),
+        Activity::Rebalance(Rebalance::Replace(Replace::Next)) => load(
+            Kind::LoadLink,
+            Name::Next(row_before(local)),
+        ),
+        Activity::Rebalance(Rebalance::Replace(Replace::NextLeast)) => load(
+            Kind::LoadMin,
+            Name::Min(local.candidate),
+        ),
+        Activity::Rebalance(Rebalance::Replace(Replace::Exchange)) => replace(local),
+        Activity::Rebalance(Rebalance::Replace(Replace::Normalise)) => normalise(
+            Name::State(infant(local)),
+            seat,
+        ),
+        Activity::Rebalance(Rebalance::Replace(Replace::Number)) => add_one(
+            Kind::Number,
+            Name::Epoch,
+        ),
+        Activity::Rebalance(Rebalance::Replace(Replace::Retire)) => {
             let retired = State::Retired(local.rebalance.number);
             store_state(Kind::StoreRetired, local.row, retired)
         }

@@ -23,6 +23,14 @@ use crate::resume_take::{
 };
 use crate::resume_write::{to_write_cell, to_write_entry};
 use kw_world::activity::Activity;
+use kw_world::activity::enter::Enter;
+use kw_world::activity::rebalance::Rebalance;
+use kw_world::activity::rebalance::engage::Engage;
+use kw_world::activity::rebalance::freeze::Freeze;
+use kw_world::activity::rebalance::gather::Gather;
+use kw_world::activity::rebalance::replace::Replace;
+use kw_world::activity::rebalance::seek::Seek;
+use kw_world::activity::rebalance::write::Write;
 use kw_world::event::{Choice, StepDone};
 use kw_world::local::Local;
 
@@ -38,33 +46,45 @@ pub fn rebalance_resume(local: &mut Local, rows: u32, choice: Choice, told: u64)
     ensures { outcome local.new result ≡ next_of product rows choice local.old told }
 {
     match local.activity {
-        Activity::Again => to(local, Activity::AgainEpoch),
-        Activity::AgainEpoch => {
+        Activity::Retry => to(local, Activity::Enter(Enter::LoadEpoch)),
+        Activity::Enter(Enter::LoadEpoch) => {
             local.epoch = told;
-            to(local, Activity::Enter)
+            to(local, Activity::Enter(Enter::Announce))
         }
-        Activity::BalClock => clock(local, told),
-        Activity::BalEpoch => epoch(local, told),
-        Activity::BalState => state(local, told),
-        Activity::BalNormal(_) => to(local, Activity::BalState),
-        Activity::Engage => engage(local, told),
-        Activity::MarkLink(count) => link_marked(local, count, told),
-        Activity::Decide(_) => decide(local, told),
-        Activity::FreezeCount => count_frozen(local),
-        Activity::FreezeLook(entry) => look(local, entry, told),
-        Activity::Freeze(entry) => entry_tried(local, entry, told),
-        Activity::ScanLook(seat) => scan(local, seat, told),
-        Activity::HelpDraw(seat) => {
+        Activity::Rebalance(Rebalance::Engage(Engage::Clock)) => clock(local, told),
+        Activity::Rebalance(Rebalance::Engage(Engage::Epoch)) => epoch(local, told),
+        Activity::Rebalance(Rebalance::Engage(Engage::State)) => state(local, told),
+        Activity::Rebalance(Rebalance::Engage(Engage::Normal(_))) => to(
+            local,
+            Activity::Rebalance(Rebalance::Engage(Engage::State)),
+        ),
+        Activity::Rebalance(Rebalance::Engage(Engage::Lead)) => engage(local, told),
+        Activity::Rebalance(Rebalance::Engage(Engage::MarkLink(count))) => link_marked(
+            local, count, told,
+        ),
+        Activity::Rebalance(Rebalance::Engage(Engage::Decide(_))) => decide(local, told),
+        Activity::Rebalance(Rebalance::Freeze(Freeze::Count)) => count_frozen(local),
+        Activity::Rebalance(Rebalance::Freeze(Freeze::Look(entry))) => look(local, entry, told),
+        Activity::Rebalance(Rebalance::Freeze(Freeze::Entry(entry))) => entry_tried(
+            local, entry, told,
+        ),
+        Activity::Rebalance(Rebalance::Freeze(Freeze::Scan(seat))) => scan(local, seat, told),
+        Activity::Rebalance(Rebalance::Freeze(Freeze::Draw(seat))) => {
             local.rebalance.drawn = told;
-            to(local, Activity::HelpSettle(seat))
+            to(
+                local,
+                Activity::Rebalance(Rebalance::Freeze(Freeze::Settle(seat))),
+            )
         }
-        Activity::HelpSettle(seat) => scan_helped(local, seat, told),
-        Activity::TakeFrom => take_from(local, told),
-        Activity::TakeKey => take_key(local, told),
-        Activity::TakeVersion => take_version(local, told),
-        Activity::TakeValue => take_value(local, told),
-        Activity::TakeRestKey => take_rest_key(local, told),
-        Activity::TakeRestValue => rest_value(local, told),
+        Activity::Rebalance(Rebalance::Freeze(Freeze::Settle(seat))) => scan_helped(
+            local, seat, told,
+        ),
+        Activity::Rebalance(Rebalance::Gather(Gather::Link)) => take_from(local, told),
+        Activity::Rebalance(Rebalance::Gather(Gather::Key)) => take_key(local, told),
+        Activity::Rebalance(Rebalance::Gather(Gather::Version)) => take_version(local, told),
+        Activity::Rebalance(Rebalance::Gather(Gather::Value)) => take_value(local, told),
+        Activity::Rebalance(Rebalance::Gather(Gather::LeftOverKey)) => take_rest_key(local, told),
+        Activity::Rebalance(Rebalance::Gather(Gather::LeftOverValue)) => rest_value(local, told),
         _ => build_resume(local, rows, choice, told),
     }
 }
@@ -79,33 +99,60 @@ fn build_resume(local: &mut Local, rows: u32, choice: Choice, told: u64) -> Step
     ensures { outcome local.new result ≡ next_of product rows choice local.old told }
 {
     match local.activity {
-        Activity::SeekFirst => seek_first(local, rows, choice, told),
-        Activity::Seek => seek(local, rows, told),
-        Activity::SeekPass(other) => pass(local, rows, other, told),
-        Activity::Reclaim => to(local, Activity::TakeRow),
-        Activity::TakeRow => take_row(local, rows, told),
-        Activity::GiveBack => gave_back(local),
-        Activity::WriteCount => to(local, Activity::WriteMin),
-        Activity::WriteMin => to(local, Activity::WriteNext),
-        Activity::WriteNext => to(local, Activity::WriteFirst),
-        Activity::WriteFirst => to_write_entry(local, 0),
-        Activity::WritePend(entry) => to_write_entry(local, entry + 1),
-        Activity::WriteKey(cell) => to(local, Activity::WriteValue(cell)),
-        Activity::WriteValue(cell) => to(local, Activity::WriteVersion(cell)),
-        Activity::WriteVersion(cell) => to(local, Activity::WriteAfter(cell)),
-        Activity::WriteAfter(cell) => to_write_cell(local, cell + 1),
-        Activity::Before => before(local, choice, told),
-        Activity::BeforeGuess => guess_least(local, told),
-        Activity::BeforeHead => before_head(local, told),
-        Activity::BeforeLink => before_link(local, told),
-        Activity::BeforeMin => before_least(local, told),
-        Activity::Replace => replaced(local, told),
-        Activity::Normalise => normalised(local),
-        Activity::Number => {
+        Activity::Rebalance(Rebalance::Seek(Seek::First)) => seek_first(local, rows, choice, told),
+        Activity::Rebalance(Rebalance::Seek(Seek::Next)) => seek(local, rows, told),
+        Activity::Rebalance(Rebalance::Seek(Seek::Pass(other))) => pass(local, rows, other, told),
+        Activity::Rebalance(Rebalance::Seek(Seek::Reclaim)) => to(
+            local,
+            Activity::Rebalance(Rebalance::Seek(Seek::Take)),
+        ),
+        Activity::Rebalance(Rebalance::Seek(Seek::Take)) => take_row(local, rows, told),
+        Activity::Rebalance(Rebalance::Seek(Seek::GiveBack)) => gave_back(local),
+        Activity::Rebalance(Rebalance::Write(Write::Count)) => to(
+            local,
+            Activity::Rebalance(Rebalance::Write(Write::Least)),
+        ),
+        Activity::Rebalance(Rebalance::Write(Write::Least)) => to(
+            local,
+            Activity::Rebalance(Rebalance::Write(Write::Next)),
+        ),
+        Activity::Rebalance(Rebalance::Write(Write::Next)) => to(
+            local,
+            Activity::Rebalance(Rebalance::Write(Write::First)),
+        ),
+        Activity::Rebalance(Rebalance::Write(Write::First)) => to_write_entry(local, 0),
+        Activity::Rebalance(Rebalance::Write(Write::Entry(entry))) => to_write_entry(
+            local,
+            entry + 1,
+        ),
+        Activity::Rebalance(Rebalance::Write(Write::Key(cell))) => to(
+            local,
+            Activity::Rebalance(Rebalance::Write(Write::Value(cell))),
+        ),
+        Activity::Rebalance(Rebalance::Write(Write::Value(cell))) => to(
+            local,
+            Activity::Rebalance(Rebalance::Write(Write::Version(cell))),
+        ),
+        Activity::Rebalance(Rebalance::Write(Write::Version(cell))) => to(
+            local,
+            Activity::Rebalance(Rebalance::Write(Write::After(cell))),
+        ),
+        Activity::Rebalance(Rebalance::Write(Write::After(cell))) => to_write_cell(local, cell + 1),
+        Activity::Rebalance(Rebalance::Replace(Replace::Start)) => before(local, choice, told),
+        Activity::Rebalance(Rebalance::Replace(Replace::GuessedLeast)) => guess_least(local, told),
+        Activity::Rebalance(Rebalance::Replace(Replace::First)) => before_head(local, told),
+        Activity::Rebalance(Rebalance::Replace(Replace::Next)) => before_link(local, told),
+        Activity::Rebalance(Rebalance::Replace(Replace::NextLeast)) => before_least(local, told),
+        Activity::Rebalance(Rebalance::Replace(Replace::Exchange)) => replaced(local, told),
+        Activity::Rebalance(Rebalance::Replace(Replace::Normalise)) => normalised(local),
+        Activity::Rebalance(Rebalance::Replace(Replace::Number)) => {
             local.rebalance.number = told;
-            to(local, Activity::Retire)
+            to(
+                local,
+                Activity::Rebalance(Rebalance::Replace(Replace::Retire)),
+            )
         }
-        Activity::Retire => again(local),
+        Activity::Rebalance(Rebalance::Replace(Replace::Retire)) => again(local),
         _ => unreachable!(),
     }
 }

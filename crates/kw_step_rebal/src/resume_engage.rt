@@ -11,6 +11,9 @@ use kw_words::link::Link;
 use kw_words::sizes::SPENT;
 use kw_words::state::State;
 use kw_world::activity::Activity;
+use kw_world::activity::rebalance::Rebalance;
+use kw_world::activity::rebalance::engage::Engage;
+use kw_world::activity::rebalance::freeze::Freeze;
 use kw_world::answer::Answer;
 use kw_world::event::StepDone;
 use kw_world::local::Local;
@@ -20,7 +23,7 @@ pub(crate) fn to_rebalance(local: &mut Local) -> StepDone
     ensures { outcome local.new result ≡ to_rebalance local.old }
 {
     local.rebalance.forget();
-    to(local, Activity::BalClock)
+    to(local, Activity::Rebalance(Rebalance::Engage(Engage::Clock)))
 }
 
 // Where a rebalance that is over leads: the put tries again; one that was done before leaves.
@@ -30,7 +33,7 @@ fn retrying(local: &Local) -> Activity
     if local.tidies {
         Activity::Leave(Answer::Done)
     } else {
-        Activity::Again
+        Activity::Retry
     }
 }
 
@@ -69,7 +72,7 @@ pub(crate) fn clock(local: &mut Local, clock: u64) -> StepDone
     if clock >= SPENT {
         refuse(local, Answer::Spent)
     } else {
-        to(local, Activity::BalEpoch)
+        to(local, Activity::Rebalance(Rebalance::Engage(Engage::Epoch)))
     }
 }
 
@@ -80,7 +83,7 @@ pub(crate) fn epoch(local: &mut Local, epoch: u64) -> StepDone
     if epoch >= SPENT {
         refuse(local, Answer::Spent)
     } else {
-        to(local, Activity::BalState)
+        to(local, Activity::Rebalance(Rebalance::Engage(Engage::State)))
     }
 }
 
@@ -96,9 +99,15 @@ pub(crate) fn state(local: &mut Local, found: u64) -> StepDone
     ensures { outcome local.new result ≡ state_met (state_of found) local.old }
 {
     match State::unpack(found) {
-        Some(State::Infant(seat)) => to(local, Activity::BalNormal(seat)),
-        Some(State::Normal) => to(local, Activity::Engage),
-        Some(State::Leader(count)) if is_alone(count) => to(local, Activity::MarkLink(count)),
+        Some(State::Infant(seat)) => to(
+            local,
+            Activity::Rebalance(Rebalance::Engage(Engage::Normal(seat))),
+        ),
+        Some(State::Normal) => to(local, Activity::Rebalance(Rebalance::Engage(Engage::Lead))),
+        Some(State::Leader(count)) if is_alone(count) => to(
+            local,
+            Activity::Rebalance(Rebalance::Engage(Engage::MarkLink(count))),
+        ),
         _ => again(local),
     }
 }
@@ -108,9 +117,12 @@ pub(crate) fn engage(local: &mut Local, found: u64) -> StepDone
     ensures { outcome local.new result ≡ engaged (found == state_word State.Normal) local.old }
 {
     if found == State::Normal.pack() {
-        to(local, Activity::MarkLink(0))
+        to(
+            local,
+            Activity::Rebalance(Rebalance::Engage(Engage::MarkLink(0))),
+        )
     } else {
-        to(local, Activity::BalState)
+        to(local, Activity::Rebalance(Rebalance::Engage(Engage::State)))
     }
 }
 
@@ -124,9 +136,12 @@ pub(crate) fn link_marked(local: &mut Local, count: u32, found: u64) -> StepDone
         None => None,
     };
     if count == 0 {
-        to(local, Activity::Decide(1))
+        to(
+            local,
+            Activity::Rebalance(Rebalance::Engage(Engage::Decide(1))),
+        )
     } else {
-        to(local, Activity::FreezeCount)
+        to(local, Activity::Rebalance(Rebalance::Freeze(Freeze::Count)))
     }
 }
 
@@ -135,7 +150,10 @@ pub(crate) fn decide(local: &mut Local, found: u64) -> StepDone
     ensures { outcome local.new result ≡ decided (state_of found) local.old }
 {
     match State::unpack(found) {
-        Some(State::Leader(count)) if is_alone(count) => to(local, Activity::FreezeCount),
+        Some(State::Leader(count)) if is_alone(count) => to(
+            local,
+            Activity::Rebalance(Rebalance::Freeze(Freeze::Count)),
+        ),
         _ => again(local),
     }
 }

@@ -15,6 +15,8 @@ use kw_words::pend::Pend;
 use kw_words::scan::ScanWord;
 use kw_words::sizes::SEAT_COUNT;
 use kw_world::activity::Activity;
+use kw_world::activity::rebalance::Rebalance;
+use kw_world::activity::rebalance::freeze::Freeze;
 use kw_world::event::StepDone;
 use kw_world::local::Local;
 use kw_world::marks::Mark;
@@ -24,7 +26,10 @@ pub(crate) fn count_frozen(local: &mut Local) -> StepDone
     ensures { outcome local.new result ≡ count_frozen local.old }
 {
     local.rebalance.marks.clear();
-    to(local, Activity::FreezeLook(0))
+    to(
+        local,
+        Activity::Rebalance(Rebalance::Freeze(Freeze::Look(0))),
+    )
 }
 
 // The seat goes on to the entry of this seat, or to the scans after the last entry.
@@ -33,10 +38,16 @@ fn to_look(local: &mut Local, entry: u32) -> StepDone
     ensures { outcome local.new result ≡ to_freeze_look product entry local.old }
 {
     if entry < SEAT_COUNT {
-        to(local, Activity::FreezeLook(entry))
+        to(
+            local,
+            Activity::Rebalance(Rebalance::Freeze(Freeze::Look(entry))),
+        )
     } else {
         local.rebalance.needed.clear();
-        to(local, Activity::ScanLook(0))
+        to(
+            local,
+            Activity::Rebalance(Rebalance::Freeze(Freeze::Scan(0))),
+        )
     }
 }
 
@@ -55,7 +66,10 @@ fn freeze(local: &mut Local, entry: u32, found: Pend) -> StepDone
     ensures { outcome local.new result ≡ freezing entry found local.old }
 {
     local.rebalance.entry = found;
-    to(local, Activity::Freeze(entry))
+    to(
+        local,
+        Activity::Rebalance(Rebalance::Freeze(Freeze::Entry(entry))),
+    )
 }
 
 /// The seat was told the entry of this seat in the full row. An idle or a pending one is frozen
@@ -89,7 +103,10 @@ pub fn entry_tried(local: &mut Local, entry: u32, found: u64) -> StepDone
     if found == local.rebalance.entry.pack() {
         to_look(local, entry + 1)
     } else {
-        to(local, Activity::FreezeLook(entry))
+        to(
+            local,
+            Activity::Rebalance(Rebalance::Freeze(Freeze::Look(entry))),
+        )
     }
 }
 
@@ -99,7 +116,10 @@ fn to_scan(local: &mut Local, seat: u32) -> StepDone
     ensures { outcome local.new result ≡ to_scan_look product seat local.old }
 {
     if seat < SEAT_COUNT {
-        to(local, Activity::ScanLook(seat))
+        to(
+            local,
+            Activity::Rebalance(Rebalance::Freeze(Freeze::Scan(seat))),
+        )
     } else {
         to_take(local)
     }
@@ -125,7 +145,10 @@ pub fn scan(local: &mut Local, seat: u32, found: u64) -> StepDone
     match ScanWord::unpack(found) {
         Some(ScanWord::Waiting(clock)) => {
             local.rebalance.waiting = clock;
-            to(local, Activity::HelpDraw(seat))
+            to(
+                local,
+                Activity::Rebalance(Rebalance::Freeze(Freeze::Draw(seat))),
+            )
         }
         Some(ScanWord::Drawn(version)) => {
             need(local, version);

@@ -14,6 +14,8 @@ use kw_words::link::Link;
 use kw_words::plain::unpack_key;
 use kw_words::state::State;
 use kw_world::activity::Activity;
+use kw_world::activity::rebalance::Rebalance;
+use kw_world::activity::rebalance::replace::Replace;
 use kw_world::event::{Choice, StepDone};
 use kw_world::local::Local;
 use kw_world::rebalance::Afterwards;
@@ -38,10 +40,16 @@ pub(crate) fn before_head(local: &mut Local, found: u64) -> StepDone
     local.rebalance.least = 0;
     if first == local.row {
         local.rebalance.before = None;
-        to(local, Activity::Replace)
+        to(
+            local,
+            Activity::Rebalance(Rebalance::Replace(Replace::Exchange)),
+        )
     } else {
         local.rebalance.before = Some(first);
-        to(local, Activity::BeforeLink)
+        to(
+            local,
+            Activity::Rebalance(Rebalance::Replace(Replace::Next)),
+        )
     }
 }
 
@@ -52,9 +60,15 @@ fn guess(local: &mut Local, row: u32, found: u64) -> StepDone
     match State::unpack(found) {
         Some(State::Normal) => {
             local.rebalance.before = Some(row);
-            to(local, Activity::BeforeGuess)
+            to(
+                local,
+                Activity::Rebalance(Rebalance::Replace(Replace::GuessedLeast)),
+            )
         }
-        _ => to(local, Activity::BeforeHead),
+        _ => to(
+            local,
+            Activity::Rebalance(Rebalance::Replace(Replace::First)),
+        ),
     }
 }
 
@@ -77,10 +91,16 @@ pub(crate) fn guess_least(local: &mut Local, found: u64) -> StepDone
     let least = unpack_key(found);
     if least < local.lower {
         local.rebalance.least = least;
-        to(local, Activity::BeforeLink)
+        to(
+            local,
+            Activity::Rebalance(Rebalance::Replace(Replace::Next)),
+        )
     } else {
         local.rebalance.before = None;
-        to(local, Activity::BeforeHead)
+        to(
+            local,
+            Activity::Rebalance(Rebalance::Replace(Replace::First)),
+        )
     }
 }
 
@@ -105,11 +125,17 @@ fn row_before(local: &mut Local, row: u32, marked: bool) -> StepDone
 {
     if row != local.row {
         local.candidate = row;
-        to(local, Activity::BeforeMin)
+        to(
+            local,
+            Activity::Rebalance(Rebalance::Replace(Replace::NextLeast)),
+        )
     } else if marked {
         give_back(local, Afterwards::MoveLeft)
     } else {
-        to(local, Activity::Replace)
+        to(
+            local,
+            Activity::Rebalance(Rebalance::Replace(Replace::Exchange)),
+        )
     }
 }
 
@@ -123,7 +149,10 @@ pub(crate) fn before_least(local: &mut Local, found: u64) -> StepDone
     }
     local.rebalance.before = Some(local.candidate);
     local.rebalance.least = least;
-    to(local, Activity::BeforeLink)
+    to(
+        local,
+        Activity::Rebalance(Rebalance::Replace(Replace::Next)),
+    )
 }
 
 // The seat has tried to replace the full row, and was told the link found.
@@ -136,7 +165,10 @@ pub(crate) fn replaced(local: &mut Local, found: u64) -> StepDone
                 return give_back(local, Afterwards::MoveLeft);
             }
             local.rebalance.at = 0;
-            to(local, Activity::Normalise)
+            to(
+                local,
+                Activity::Rebalance(Rebalance::Replace(Replace::Normalise)),
+            )
         }
         _ => give_back(local, Afterwards::TryAgain),
     }
@@ -149,8 +181,14 @@ pub(crate) fn normalised(local: &mut Local) -> StepDone
 {
     if has_more(local) {
         local.rebalance.at = next_at(local);
-        to(local, Activity::Normalise)
+        to(
+            local,
+            Activity::Rebalance(Rebalance::Replace(Replace::Normalise)),
+        )
     } else {
-        to(local, Activity::Number)
+        to(
+            local,
+            Activity::Rebalance(Rebalance::Replace(Replace::Number)),
+        )
     }
 }

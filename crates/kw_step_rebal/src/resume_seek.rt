@@ -15,6 +15,9 @@ use kw_words::plain::unpack_pass;
 use kw_words::sizes::SEAT_COUNT;
 use kw_words::state::State;
 use kw_world::activity::Activity;
+use kw_world::activity::rebalance::Rebalance;
+use kw_world::activity::rebalance::seek::Seek;
+use kw_world::activity::rebalance::write::Write;
 use kw_world::answer::Answer;
 use kw_world::event::{Choice, StepDone};
 use kw_world::local::Local;
@@ -52,7 +55,7 @@ pub(crate) fn give_back(local: &mut Local, afterwards: Afterwards) -> StepDone
     }
     local.rebalance.at = 0;
     local.rebalance.afterwards = afterwards;
-    to(local, Activity::GiveBack)
+    to(local, Activity::Rebalance(Rebalance::Seek(Seek::GiveBack)))
 }
 
 // The seat has given a row back.
@@ -62,7 +65,7 @@ pub(crate) fn gave_back(local: &mut Local) -> StepDone
 {
     if has_more(local) {
         local.rebalance.at = next_at(local);
-        return to(local, Activity::GiveBack);
+        return to(local, Activity::Rebalance(Rebalance::Seek(Seek::GiveBack)));
     }
     let afterwards = local.rebalance.afterwards;
     given_back(local, afterwards)
@@ -87,7 +90,7 @@ fn to_seek(local: &mut Local, rows: u32) -> StepDone
     }
     local.rebalance.sought = row_behind(rows, local.rebalance.sought);
     local.rebalance.asked += 1;
-    to(local, Activity::Seek)
+    to(local, Activity::Rebalance(Rebalance::Seek(Seek::Next)))
 }
 
 // The seat was told the state of the row that it asks.
@@ -96,10 +99,10 @@ pub(crate) fn seek(local: &mut Local, rows: u32, found: u64) -> StepDone
         (seeking local.old.rebalance.sought local.old) }
 {
     match State::unpack(found) {
-        Some(State::Free) => to(local, Activity::TakeRow),
+        Some(State::Free) => to(local, Activity::Rebalance(Rebalance::Seek(Seek::Take))),
         Some(State::Retired(number)) => {
             local.rebalance.number = number;
-            to(local, Activity::SeekPass(0))
+            to(local, Activity::Rebalance(Rebalance::Seek(Seek::Pass(0))))
         }
         _ => to_seek(local, rows),
     }
@@ -121,9 +124,12 @@ fn to_pass(local: &mut Local, seat: u32) -> StepDone
     ensures { outcome local.new result ≡ to_pass product seat local.old }
 {
     if seat < SEAT_COUNT {
-        return to(local, Activity::SeekPass(seat));
+        return to(
+            local,
+            Activity::Rebalance(Rebalance::Seek(Seek::Pass(seat))),
+        );
     }
-    to(local, Activity::Reclaim)
+    to(local, Activity::Rebalance(Rebalance::Seek(Seek::Reclaim)))
 }
 
 // The seat was told the epoch that this seat has announced, while it asks for a retired row.
@@ -153,5 +159,5 @@ pub(crate) fn take_row(local: &mut Local, rows: u32, found: u64) -> StepDone
         return to_seek(local, rows);
     }
     local.rebalance.at = 0;
-    to(local, Activity::WriteCount)
+    to(local, Activity::Rebalance(Rebalance::Write(Write::Count)))
 }

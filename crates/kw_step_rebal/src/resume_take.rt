@@ -18,6 +18,9 @@ use kw_cells::pack::pack_rows;
 use kw_words::plain::{unpack_cell_link, unpack_key, unpack_value, unpack_version};
 use kw_words::sizes::CELL_COUNT;
 use kw_world::activity::Activity;
+use kw_world::activity::rebalance::Rebalance;
+use kw_world::activity::rebalance::gather::Gather;
+use kw_world::activity::rebalance::seek::Seek;
 use kw_world::event::StepDone;
 use kw_world::local::Local;
 use kw_world::rebuilt::{KeptCells, Starts};
@@ -29,7 +32,7 @@ pub(crate) fn to_take(local: &mut Local) -> StepDone
     local.link = None;
     local.walked = 0;
     local.rebalance.gathered.clear();
-    to(local, Activity::TakeFrom)
+    to(local, Activity::Rebalance(Rebalance::Gather(Gather::Link)))
 }
 
 // The seat has met this cell behind its link, and need not remember it any more.
@@ -54,7 +57,7 @@ pub fn take_from(local: &mut Local, found: u64) -> StepDone
     match unpack_cell_link(found) {
         Some(cell) => {
             meet(local, cell);
-            to(local, Activity::TakeKey)
+            to(local, Activity::Rebalance(Rebalance::Gather(Gather::Key)))
         }
         None => to_left(local),
     }
@@ -63,11 +66,14 @@ pub fn take_from(local: &mut Local, found: u64) -> StepDone
 /// The seat was told the key of the cell that it met.
 #[inline(always)]
 pub fn take_key(local: &mut Local, found: u64) -> StepDone
-    ensures { outcome local.new result ≡ to Activity.TakeVersion
+    ensures { outcome local.new result ≡ to (Activity.Rebalance (Rebalance.Gather Gather.Version))
         (record local.old { place_key = key_of_word found }) }
 {
     local.place_key = unpack_key(found);
-    to(local, Activity::TakeVersion)
+    to(
+        local,
+        Activity::Rebalance(Rebalance::Gather(Gather::Version)),
+    )
 }
 
 /// The seat was told the version of that cell. A cell without one counts as one of version 1; no
@@ -77,7 +83,7 @@ pub fn take_version(local: &mut Local, found: u64) -> StepDone
     ensures { outcome local.new result ≡ take_version (version_of_word found) local.old }
 {
     local.place_version = unpack_version(found).unwrap_or(1);
-    to(local, Activity::TakeValue)
+    to(local, Activity::Rebalance(Rebalance::Gather(Gather::Value)))
 }
 
 // The seat was told the value of the cell in hand, and gathers the cell.
@@ -101,17 +107,20 @@ pub fn take_value(local: &mut Local, found: u64) -> StepDone
 {
     gather(local, found);
     local.link = Some(local.place);
-    to(local, Activity::TakeFrom)
+    to(local, Activity::Rebalance(Rebalance::Gather(Gather::Link)))
 }
 
 /// The seat was told the key of a remembered cell that it did not meet.
 #[inline(always)]
 pub fn take_rest_key(local: &mut Local, found: u64) -> StepDone
-    ensures { outcome local.new result ≡ to Activity.TakeRestValue
+    ensures { outcome local.new result ≡ to (Activity.Rebalance (Rebalance.Gather Gather.LeftOverValue))
         (record local.old { place_key = key_of_word found }) }
 {
     local.place_key = unpack_key(found);
-    to(local, Activity::TakeRestValue)
+    to(
+        local,
+        Activity::Rebalance(Rebalance::Gather(Gather::LeftOverValue)),
+    )
 }
 
 /// The seat was told the value of that cell.
@@ -138,11 +147,14 @@ fn to_left(local: &mut Local) -> StepDone
             local.place = mark.cell;
             local.place_version = mark.version;
             local.rebalance.marks.forget(mark.cell);
-            to(local, Activity::TakeRestKey)
+            to(
+                local,
+                Activity::Rebalance(Rebalance::Gather(Gather::LeftOverKey)),
+            )
         }
         None => {
             plan(local);
-            to(local, Activity::SeekFirst)
+            to(local, Activity::Rebalance(Rebalance::Seek(Seek::First)))
         }
     }
 }

@@ -10,6 +10,9 @@ use crate::resume::to;
 use crate::resume_seek::has_more;
 use kw_words::sizes::{CELL_COUNT, SEAT_COUNT};
 use kw_world::activity::Activity;
+use kw_world::activity::rebalance::Rebalance;
+use kw_world::activity::rebalance::replace::Replace;
+use kw_world::activity::rebalance::write::Write;
 use kw_world::event::StepDone;
 use kw_world::local::Local;
 
@@ -20,9 +23,12 @@ fn row_written(local: &mut Local) -> StepDone
 {
     if has_more(local) {
         local.rebalance.at = next_at(local);
-        to(local, Activity::WriteCount)
+        to(local, Activity::Rebalance(Rebalance::Write(Write::Count)))
     } else {
-        to(local, Activity::Before)
+        to(
+            local,
+            Activity::Rebalance(Rebalance::Replace(Replace::Start)),
+        )
     }
 }
 
@@ -36,9 +42,15 @@ pub fn to_write_cell(local: &mut Local, cell: u32) -> StepDone
     if cell >= CELL_COUNT {
         row_written(local)
     } else if (cell as usize) < infant_cells(local).len() {
-        to(local, Activity::WriteKey(cell))
+        to(
+            local,
+            Activity::Rebalance(Rebalance::Write(Write::Key(cell))),
+        )
     } else {
-        to(local, Activity::WriteVersion(cell))
+        to(
+            local,
+            Activity::Rebalance(Rebalance::Write(Write::Version(cell))),
+        )
     }
 }
 
@@ -49,7 +61,10 @@ pub fn to_write_entry(local: &mut Local, entry: u32) -> StepDone
     ensures { outcome local.new result ≡ to_write_entry product entry local.old }
 {
     if entry < SEAT_COUNT {
-        to(local, Activity::WritePend(entry))
+        to(
+            local,
+            Activity::Rebalance(Rebalance::Write(Write::Entry(entry))),
+        )
     } else {
         to_write_cell(local, 0)
     }

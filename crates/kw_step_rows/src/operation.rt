@@ -8,6 +8,7 @@ ghost use Rattle.kw_world.specs.Step.{transition_of};
 use kw_words::kind::Kind;
 use kw_words::layout::Name;
 use kw_world::activity::Activity;
+use kw_world::activity::walk::Walk;
 use kw_world::event::Choice;
 use kw_world::local::Local;
 use kw_world::operation::{Action, Operation};
@@ -19,14 +20,14 @@ pub fn rows_operation(seat: u32, local: &Local, choice: Choice) -> Operation
     ensures { result ≡ (transition_of product seat choice local.now).operation }
 {
     match local.activity {
-        Activity::Start => match choice {
+        Activity::Walk(Walk::Start) => match choice {
             Choice::Guess(row) => load(Kind::LoadState, Name::State(row)),
             _ => load(Kind::LoadHead, Name::Head),
         },
-        Activity::Head => load(Kind::LoadHead, Name::Head),
-        Activity::GuessMin => load(Kind::LoadMin, Name::Min(local.row)),
-        Activity::Walk => load(Kind::LoadLink, Name::Next(local.row)),
-        Activity::WalkMin => load(Kind::LoadMin, Name::Min(local.candidate)),
+        Activity::Walk(Walk::First) => load(Kind::LoadHead, Name::Head),
+        Activity::Walk(Walk::GuessedLeast) => load(Kind::LoadMin, Name::Min(local.row)),
+        Activity::Walk(Walk::Next) => load(Kind::LoadLink, Name::Next(local.row)),
+        Activity::Walk(Walk::NextLeast) => load(Kind::LoadMin, Name::Min(local.candidate)),
         _ => unreachable!(),
     }
 }

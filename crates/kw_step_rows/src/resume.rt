@@ -18,6 +18,9 @@ use kw_words::link::Link;
 use kw_words::plain::unpack_key;
 use kw_words::state::State;
 use kw_world::activity::Activity;
+use kw_world::activity::look::Look;
+use kw_world::activity::put::Put;
+use kw_world::activity::walk::Walk;
 use kw_world::event::{Choice, StepDone};
 use kw_world::local::Local;
 
@@ -32,14 +35,14 @@ pub fn rows_resume(local: &mut Local, rows: u32, choice: Choice, told: u64) -> S
     ensures { outcome local.new result ≡ next_of product rows choice local.old told }
 {
     match local.activity {
-        Activity::Start => match choice {
+        Activity::Walk(Walk::Start) => match choice {
             Choice::Guess(row) => guess(local, row, told),
             _ => first(local, told),
         },
-        Activity::Head => first(local, told),
-        Activity::GuessMin => guess_min(local, told),
-        Activity::Walk => link(local, told),
-        Activity::WalkMin => walk_min(local, told),
+        Activity::Walk(Walk::First) => first(local, told),
+        Activity::Walk(Walk::GuessedLeast) => guess_min(local, told),
+        Activity::Walk(Walk::Next) => link(local, told),
+        Activity::Walk(Walk::NextLeast) => walk_min(local, told),
         _ => unreachable!(),
     }
 }
@@ -64,7 +67,7 @@ fn linked(found: u64) -> Option<u32>
 
 /// The walk begins at the first row, to which the link from the head leads.
 pub fn first(local: &mut Local, found: u64) -> StepDone
-    ensures { outcome local.new result ≡ to Activity.Walk (record local.old {
+    ensures { outcome local.new result ≡ to (Activity.Walk Walk.Next) (record local.old {
       row = row_or_first
           (row_linked (link_of found));
       lower = 0;
@@ -72,7 +75,7 @@ pub fn first(local: &mut Local, found: u64) -> StepDone
 {
     local.row = linked(found).unwrap_or(0);
     local.lower = 0;
-    to(local, Activity::Walk)
+    to(local, Activity::Walk(Walk::Next))
 }
 
 /// The seat was told the state of the guessed row.
@@ -82,9 +85,9 @@ pub fn guess(local: &mut Local, row: u32, found: u64) -> StepDone
     match State::unpack(found) {
         Some(State::Normal) => {
             local.row = row;
-            to(local, Activity::GuessMin)
+            to(local, Activity::Walk(Walk::GuessedLeast))
         }
-        _ => to(local, Activity::Head),
+        _ => to(local, Activity::Walk(Walk::First)),
     }
 }
 
@@ -94,10 +97,10 @@ pub fn guess_min(local: &mut Local, found: u64) -> StepDone
 {
     let least = unpack_key(found);
     if least > local.want {
-        return to(local, Activity::Head);
+        return to(local, Activity::Walk(Walk::First));
     }
     local.lower = least;
-    to(local, Activity::Walk)
+    to(local, Activity::Walk(Walk::Next))
 }
 
 /// The seat was told the link after its row.
@@ -107,7 +110,7 @@ pub fn link(local: &mut Local, found: u64) -> StepDone
     match linked(found) {
         Some(row) => {
             local.candidate = row;
-            to(local, Activity::WalkMin)
+            to(local, Activity::Walk(Walk::NextLeast))
         }
         None => {
             local.next = None;
@@ -125,7 +128,7 @@ pub fn walk_min(local: &mut Local, found: u64) -> StepDone
     if least <= local.want {
         local.row = local.candidate;
         local.lower = least;
-        return to(local, Activity::Walk);
+        return to(local, Activity::Walk(Walk::Next));
     }
     local.next = Some(local.candidate);
     local.upper = least;
@@ -137,10 +140,10 @@ fn arrive(local: &mut Local) -> StepDone
     ensures { outcome local.new result ≡ arrive local.old.call local.old }
 {
     match local.call {
-        Some(Call::Put(_, _)) | Some(Call::Del(_)) => to(local, Activity::PutCount),
+        Some(Call::Put(_, _)) | Some(Call::Del(_)) => to(local, Activity::Put(Put::Count)),
         _ => {
             local.forget_cells();
-            to(local, Activity::Look(0))
+            to(local, Activity::Look(Look::Entry(0)))
         }
     }
 }

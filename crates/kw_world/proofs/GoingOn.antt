@@ -22,7 +22,20 @@ use Rattle.kw_world.specs.Calls.{first_key, last_key, is_in_range, is_range_empt
 use Rattle.kw_model.specs.declared.call.Call.{Call}
 use Rattle.kw_model.specs.declared.call.Call.TheVariants.{Put, Del, Get, Scan}
 use Rattle.kw_world.specs.declared.activity.Activity.{Activity}
-use Rattle.kw_world.specs.declared.activity.Activity.TheVariants.{Idle, Enter, ScanClock, ScanWait, ScanDraw, ScanSettle, Start, Head, GuessMin, Walk, WalkMin, Look, LookKey, LookClock, LookHelp, ListFrom, ListKey, ListVer, ListVal, RestKey, RestVal, ClearScan, PutCount, PutAdd, PutKey, PutValue, Announce, PutClock, Stamp, PutVersion, InsFrom, InsKey, InsVer, InsSet, Insert, PutClear, Leave, Again, AgainEpoch, BalClock, BalEpoch, BalState, BalNormal, Engage, MarkLink, Decide, FreezeCount, FreezeLook, Freeze, ScanLook, HelpDraw, HelpSettle, TakeFrom, TakeKey, TakeVersion, TakeValue, TakeRestKey, TakeRestValue, SeekFirst, Seek, SeekPass, Reclaim, TakeRow, GiveBack, WriteCount, WriteMin, WriteNext, WriteFirst, WritePend, WriteKey, WriteValue, WriteVersion, WriteAfter, Before, BeforeGuess, BeforeHead, BeforeLink, BeforeMin, Replace, Normalise, Number, Retire}
+use Rattle.kw_world.specs.declared.activity.draw.Draw.TheVariants as Draw
+use Rattle.kw_world.specs.declared.activity.rebalance.engage.Engage.TheVariants as Engage
+use Rattle.kw_world.specs.declared.activity.enter.Enter.TheVariants as Enter
+use Rattle.kw_world.specs.declared.activity.rebalance.freeze.Freeze.TheVariants as Freeze
+use Rattle.kw_world.specs.declared.activity.rebalance.gather.Gather.TheVariants as Gather
+use Rattle.kw_world.specs.declared.activity.insert.Insert.TheVariants as Insert
+use Rattle.kw_world.specs.declared.activity.look.Look.TheVariants as Look
+use Rattle.kw_world.specs.declared.activity.put.Put.TheVariants as Put
+use Rattle.kw_world.specs.declared.activity.read.Read.TheVariants as Read
+use Rattle.kw_world.specs.declared.activity.rebalance.Rebalance.TheVariants as Rebalance
+use Rattle.kw_world.specs.declared.activity.rebalance.replace.Replace.TheVariants as Replace
+use Rattle.kw_world.specs.declared.activity.rebalance.seek.Seek.TheVariants as Seek
+use Rattle.kw_world.specs.declared.activity.walk.Walk.TheVariants as Walk
+use Rattle.kw_world.specs.declared.activity.rebalance.write.Write.TheVariants as Write
 use Rattle.kw_world.specs.declared.local.Local.{Local}
 use Rattle.kw_world.specs.declared.event.Choice.{Choice}
 use Rattle.kw_world.specs.declared.event.Choice.TheVariants.{Begin, Go, Guess, Stop}
@@ -110,12 +123,12 @@ list_goes z (Some cell) l = record { moved = refl; number = refl }
 list_goes z None l = rests l
 
 list_key_goes : (key : ℕ) (l : Local) → Goes l.number (list_key key l)
-list_key_goes key l = either (nat_lt key (first_key l.call)) (list_past l) _ (record { moved = refl; number = refl }) (either (nat_le key (last_key l.call)) (to ListVer (record l { place_key = key })) (to_rest l) (record { moved = refl; number = refl }) (rests l))
+list_key_goes key l = either (nat_lt key (first_key l.call)) (list_past l) _ (record { moved = refl; number = refl }) (either (nat_le key (last_key l.call)) (to (Activity.Read Read.Version) (record l { place_key = key })) (to_rest l) (record { moved = refl; number = refl }) (rests l))
 
 stamp_goes : (e : Option Pend) (l : Local) → Goes l.number (stamp_met e l)
 stamp_goes (Some pend.Idle) l = record { moved = refl; number = refl }
-stamp_goes (Some (pend.Pending cell)) l = either (cell == l.cell) (to PutVersion l) (to_rebalance l) (record { moved = refl; number = refl }) (record { moved = refl; number = refl })
-stamp_goes (Some (pend.Stamped cell version)) l = either (cell == l.cell) (to PutVersion (record l { version = version })) (to_rebalance l) (record { moved = refl; number = refl }) (record { moved = refl; number = refl })
+stamp_goes (Some (pend.Pending cell)) l = either (cell == l.cell) (to (Activity.Put Put.Version) l) (to_rebalance l) (record { moved = refl; number = refl }) (record { moved = refl; number = refl })
+stamp_goes (Some (pend.Stamped cell version)) l = either (cell == l.cell) (to (Activity.Put Put.Version) (record l { version = version })) (to_rebalance l) (record { moved = refl; number = refl }) (record { moved = refl; number = refl })
 stamp_goes (Some pend.Frozen) l = record { moved = refl; number = refl }
 stamp_goes None l = record { moved = refl; number = refl }
 
@@ -124,7 +137,7 @@ insert_from_goes z (Some cell) l = record { moved = refl; number = refl }
 insert_from_goes z None l = record { moved = refl; number = refl }
 
 insert_key_goes : (key : ℕ) (l : Local) → Goes l.number (insert_key key l)
-insert_key_goes key l = either (nat_lt key (first_key l.call)) _ _ (record { moved = refl; number = refl }) (either (key == first_key l.call) (to InsVer l) (to InsSet l) (record { moved = refl; number = refl }) (record { moved = refl; number = refl }))
+insert_key_goes key l = either (nat_lt key (first_key l.call)) _ _ (record { moved = refl; number = refl }) (either (key == first_key l.call) (to (Activity.Insert Insert.Version) l) (to (Activity.Insert Insert.Set) l) (record { moved = refl; number = refl }) (record { moved = refl; number = refl }))
 
 insert_tried_goes : (z : Sizes) (b : Bool) (l : Local) → Goes l.number (insert_tried z b l)
 insert_tried_goes z true l = record { moved = refl; number = refl }
@@ -160,7 +173,7 @@ walk_goes : (stopped : Bool) (s : ℕ) (l : Local) (rows told : ℕ) → Goes l.
 walk_goes true s l rows told = record { moved = refl; number = refl }
 walk_goes false s l rows told = link_goes (row_linked (link_of told)) l
 
-begin_goes : (choice : Choice) (epoch : ℕ) (l : Local) → is_skipped Idle choice ≡ false → Goes (l.number + 1) (begun choice epoch l)
+begin_goes : (choice : Choice) (epoch : ℕ) (l : Local) → is_skipped Activity.Idle choice ≡ false → Goes (l.number + 1) (begun choice epoch l)
 begin_goes (Begin call) epoch l e = record { moved = refl; number = refl }
 begin_goes Go epoch l e = absurd (cc)
 begin_goes (Guess r) epoch l e = absurd (cc)
@@ -174,16 +187,16 @@ enter_goes (Some (Scan from upto)) l = record { moved = refl; number = refl }
 enter_goes None l = record { moved = refl; number = refl }
 
 settle_goes : (version : ℕ) (l : Local) → Goes l.number (settled version l)
-settle_goes version l = either (is_range_empty l.call) (to (ClearScan Pairs) (record l { version = version })) (to_start (record l { version = version })) (record { moved = refl; number = refl }) (record { moved = refl; number = refl })
+settle_goes version l = either (is_range_empty l.call) (to (Activity.EndScan Pairs) (record l { version = version })) (to_start (record l { version = version })) (record { moved = refl; number = refl }) (record { moved = refl; number = refl })
 
 walk_min_goes : (least : ℕ) (l : Local) → Goes l.number (walk_min least l)
-walk_min_goes least l = either (nat_le least l.want) (to Walk (record l { row = l.candidate; lower = least })) (arrive l.call (record l { next = Some l.candidate; upper = least })) (record { moved = refl; number = refl }) (arrive_goes l.call (record l { next = Some l.candidate; upper = least }))
+walk_min_goes least l = either (nat_le least l.want) (to (Activity.Walk Walk.Next) (record l { row = l.candidate; lower = least })) (arrive l.call (record l { next = Some l.candidate; upper = least })) (record { moved = refl; number = refl }) (arrive_goes l.call (record l { next = Some l.candidate; upper = least }))
 
 state_goes : (state : Option State) (l : Local) → Goes l.number (state_met state l)
 state_goes (Some Free) l = record { moved = refl; number = refl }
 state_goes (Some (Infant seat)) l = record { moved = refl; number = refl }
 state_goes (Some Normal) l = record { moved = refl; number = refl }
-state_goes (Some (Leader count)) l = either (is_alone count) (to (MarkLink count) l) (again l) (record { moved = refl; number = refl }) (record { moved = refl; number = refl })
+state_goes (Some (Leader count)) l = either (is_alone count) (to (Activity.Rebalance (Rebalance.Engage (Engage.MarkLink count))) l) (again l) (record { moved = refl; number = refl }) (record { moved = refl; number = refl })
 state_goes (Some (Follower leader)) l = record { moved = refl; number = refl }
 state_goes (Some (Retired number)) l = record { moved = refl; number = refl }
 state_goes None l = record { moved = refl; number = refl }
@@ -193,19 +206,19 @@ engaged_goes true l = record { moved = refl; number = refl }
 engaged_goes false l = record { moved = refl; number = refl }
 
 marked_goes : (count : ℕ) (after : Option ℕ) (l : Local) → Goes l.number (link_marked count after l)
-marked_goes count after l = either (count == 0) (to (Decide 1) (followed_by after l)) (to FreezeCount (followed_by after l)) (record { moved = refl; number = refl }) (record { moved = refl; number = refl })
+marked_goes count after l = either (count == 0) (to (Activity.Rebalance (Rebalance.Engage (Engage.Decide 1))) (followed_by after l)) (to (Activity.Rebalance (Rebalance.Freeze Freeze.Count)) (followed_by after l)) (record { moved = refl; number = refl }) (record { moved = refl; number = refl })
 
 decided_goes : (state : Option State) (l : Local) → Goes l.number (decided state l)
 decided_goes (Some Free) l = record { moved = refl; number = refl }
 decided_goes (Some (Infant seat)) l = record { moved = refl; number = refl }
 decided_goes (Some Normal) l = record { moved = refl; number = refl }
-decided_goes (Some (Leader count)) l = either (is_alone count) (to FreezeCount l) (again l) (record { moved = refl; number = refl }) (record { moved = refl; number = refl })
+decided_goes (Some (Leader count)) l = either (is_alone count) (to (Activity.Rebalance (Rebalance.Freeze Freeze.Count)) l) (again l) (record { moved = refl; number = refl }) (record { moved = refl; number = refl })
 decided_goes (Some (Follower leader)) l = record { moved = refl; number = refl }
 decided_goes (Some (Retired number)) l = record { moved = refl; number = refl }
 decided_goes None l = record { moved = refl; number = refl }
 
 freeze_looks : (z : Sizes) (i : ℕ) (l : Local) → Goes l.number (to_freeze_look z i l)
-freeze_looks z i l = either (nat_lt i z.seats) (to (FreezeLook i) l) (to_scans l) (record { moved = refl; number = refl }) (record { moved = refl; number = refl })
+freeze_looks z i l = either (nat_lt i z.seats) (to (Activity.Rebalance (Rebalance.Freeze (Freeze.Look i))) l) (to_scans l) (record { moved = refl; number = refl }) (record { moved = refl; number = refl })
 
 freeze_goes : (z : Sizes) (i : ℕ) (e : Option Pend) (l : Local) → Goes l.number (freeze_met z i e l)
 freeze_goes z i (Some pend.Idle) l = record { moved = refl; number = refl }
@@ -219,7 +232,7 @@ entry_goes z i true l = freeze_looks z (i + 1) l
 entry_goes z i false l = record { moved = refl; number = refl }
 
 scan_looks_then : {n : ℕ} (z : Sizes) (i : ℕ) (l : Local) → l.number ≡ n → Goes n (to_scan_look z i l)
-scan_looks_then z i l e = either (nat_lt i z.seats) (to (ScanLook i) l) (to_take l) (record { moved = refl; number = e }) (record { moved = refl; number = e })
+scan_looks_then z i l e = either (nat_lt i z.seats) (to (Activity.Rebalance (Rebalance.Freeze (Freeze.Scan i))) l) (to_take l) (record { moved = refl; number = e }) (record { moved = refl; number = e })
 
 scan_met_goes : (z : Sizes) (i : ℕ) (w : Option ScanWord) (l : Local) → Goes l.number (scan_met z i w l)
 scan_met_goes z i (Some scan.Quiet) l = scan_looks_then z (i + 1) l refl
@@ -252,16 +265,16 @@ given_back_goes Refuse l = record { moved = refl; number = refl }
 given_back_goes MoveLeft l = record { moved = refl; number = refl }
 
 give_back_goes : (a : Afterwards) (l : Local) → Goes l.number (give_back a l)
-give_back_goes a l = either (nat_lt 0 (length l.rebalance.taken)) (to GiveBack (record l { rebalance = record l.rebalance { at = 0; afterwards = a } })) (given_back a l) (record { moved = refl; number = refl }) (given_back_goes a l)
+give_back_goes a l = either (nat_lt 0 (length l.rebalance.taken)) (to (Activity.Rebalance (Rebalance.Seek Seek.GiveBack)) (record l { rebalance = record l.rebalance { at = 0; afterwards = a } })) (given_back a l) (record { moved = refl; number = refl }) (given_back_goes a l)
 
 gave_back_goes : (l : Local) → Goes l.number (gave_back l)
-gave_back_goes l = either (has_more l) (to GiveBack (at_infant (l.rebalance.at + 1) l)) (given_back l.rebalance.afterwards l) (record { moved = refl; number = refl }) (given_back_goes l.rebalance.afterwards l)
+gave_back_goes l = either (has_more l) (to (Activity.Rebalance (Rebalance.Seek Seek.GiveBack)) (at_infant (l.rebalance.at + 1) l)) (given_back l.rebalance.afterwards l) (record { moved = refl; number = refl }) (given_back_goes l.rebalance.afterwards l)
 
 seeks : (rows : ℕ) (l : Local) → Goes l.number (to_seek rows l)
-seeks rows l = either (nat_lt l.rebalance.asked rows) (to Seek (record l { rebalance = record l.rebalance { sought = row_behind rows l.rebalance.sought; asked = l.rebalance.asked + 1 } })) (give_back Refuse l) (record { moved = refl; number = refl }) (give_back_goes Refuse l)
+seeks rows l = either (nat_lt l.rebalance.asked rows) (to (Activity.Rebalance (Rebalance.Seek Seek.Next)) (record l { rebalance = record l.rebalance { sought = row_behind rows l.rebalance.sought; asked = l.rebalance.asked + 1 } })) (give_back Refuse l) (record { moved = refl; number = refl }) (give_back_goes Refuse l)
 
 passes_then : (z : Sizes) (i : ℕ) (l : Local) → Goes l.number (to_pass z i l)
-passes_then z i l = either (nat_lt i z.seats) (to (SeekPass i) l) (to Reclaim l) (record { moved = refl; number = refl }) (record { moved = refl; number = refl })
+passes_then z i l = either (nat_lt i z.seats) (to (Activity.Rebalance (Rebalance.Seek (Seek.Pass i))) l) (to (Activity.Rebalance (Rebalance.Seek Seek.Reclaim)) l) (record { moved = refl; number = refl }) (record { moved = refl; number = refl })
 
 seek_goes : (rows : ℕ) (state : Option State) (l : Local) → Goes l.number (seek_met rows state l)
 seek_goes rows (Some Free) l = record { moved = refl; number = refl }
@@ -283,20 +296,20 @@ pass_goes z i rows (Some epoch) l = either (nat_le epoch l.rebalance.number) (to
 pass_goes z i rows None l = passes_then z (i + 1) l
 
 take_row_goes : (rows : ℕ) (b : Bool) (l : Local) → Goes l.number (take_row rows b l)
-take_row_goes rows true l = either (nat_lt (length (with_row l).rebalance.taken) (length l.rebalance.starts)) (to_seek rows (with_row l)) (to WriteCount (at_infant 0 (with_row l))) (seeks rows (with_row l)) (record { moved = refl; number = refl })
+take_row_goes rows true l = either (nat_lt (length (with_row l).rebalance.taken) (length l.rebalance.starts)) (to_seek rows (with_row l)) (to (Activity.Rebalance (Rebalance.Write Write.Count)) (at_infant 0 (with_row l))) (seeks rows (with_row l)) (record { moved = refl; number = refl })
 take_row_goes rows false l = seeks rows l
 
 row_written_goes : (l : Local) → Goes l.number (row_written l)
-row_written_goes l = either (has_more l) (to WriteCount (at_infant (l.rebalance.at + 1) l)) (to Before l) (record { moved = refl; number = refl }) (record { moved = refl; number = refl })
+row_written_goes l = either (has_more l) (to (Activity.Rebalance (Rebalance.Write Write.Count)) (at_infant (l.rebalance.at + 1) l)) (to (Activity.Rebalance (Rebalance.Replace Replace.Start)) l) (record { moved = refl; number = refl }) (record { moved = refl; number = refl })
 
 write_cell_goes : (z : Sizes) (j : ℕ) (l : Local) → Goes l.number (to_write_cell z j l)
-write_cell_goes z j l = either (nat_lt j z.cells) (if nat_lt j (length (infant_cells l)) then to (WriteKey j) l else to (WriteVersion j) l) (row_written l) (either (nat_lt j (length (infant_cells l))) (to (WriteKey j) l) (to (WriteVersion j) l) (record { moved = refl; number = refl }) (record { moved = refl; number = refl })) (row_written_goes l)
+write_cell_goes z j l = either (nat_lt j z.cells) (if nat_lt j (length (infant_cells l)) then to (Activity.Rebalance (Rebalance.Write (Write.Key j))) l else to (Activity.Rebalance (Rebalance.Write (Write.Version j))) l) (row_written l) (either (nat_lt j (length (infant_cells l))) (to (Activity.Rebalance (Rebalance.Write (Write.Key j))) l) (to (Activity.Rebalance (Rebalance.Write (Write.Version j))) l) (record { moved = refl; number = refl }) (record { moved = refl; number = refl })) (row_written_goes l)
 
 write_entry_goes : (z : Sizes) (i : ℕ) (l : Local) → Goes l.number (to_write_entry z i l)
-write_entry_goes z i l = either (nat_lt i z.seats) (to (WritePend i) l) (to_write_cell z 0 l) (record { moved = refl; number = refl }) (write_cell_goes z 0 l)
+write_entry_goes z i l = either (nat_lt i z.seats) (to (Activity.Rebalance (Rebalance.Write (Write.Entry i))) l) (to_write_cell z 0 l) (record { moved = refl; number = refl }) (write_cell_goes z 0 l)
 
 first_before_goes : (r : ℕ) (l : Local) → Goes l.number (first_before r l)
-first_before_goes r l = either (r == l.row) (to Replace (at_before None 0 l)) (to BeforeLink (at_before (Some r) 0 l)) (record { moved = refl; number = refl }) (record { moved = refl; number = refl })
+first_before_goes r l = either (r == l.row) (to (Activity.Rebalance (Rebalance.Replace Replace.Exchange)) (at_before None 0 l)) (to (Activity.Rebalance (Rebalance.Replace Replace.Next)) (at_before (Some r) 0 l)) (record { moved = refl; number = refl }) (record { moved = refl; number = refl })
 
 guess_before_goes : (r : ℕ) (state : Option State) (l : Local) → Goes l.number (guess_before r state l)
 guess_before_goes r (Some Free) l = record { moved = refl; number = refl }
@@ -314,7 +327,7 @@ before_goes (Guess r) l rows told = guess_before_goes r (state_of told) l
 before_goes Stop l rows told = first_before_goes (row_or_first (row_linked (link_of told))) l
 
 row_before_goes : (r : Option ℕ) (marked : Bool) (l : Local) → Goes l.number (row_before r marked l)
-row_before_goes (Some r) marked l = either (r == l.row) (if marked then give_back MoveLeft l else to Replace l) (to BeforeMin (record l { candidate = r })) (either marked (give_back MoveLeft l) (to Replace l) (give_back_goes MoveLeft l) (record { moved = refl; number = refl })) (record { moved = refl; number = refl })
+row_before_goes (Some r) marked l = either (r == l.row) (if marked then give_back MoveLeft l else to (Activity.Rebalance (Rebalance.Replace Replace.Exchange)) l) (to (Activity.Rebalance (Rebalance.Replace Replace.NextLeast)) (record l { candidate = r })) (either marked (give_back MoveLeft l) (to (Activity.Rebalance (Rebalance.Replace Replace.Exchange)) l) (give_back_goes MoveLeft l) (record { moved = refl; number = refl })) (record { moved = refl; number = refl })
 row_before_goes None marked l = give_back_goes TryAgain l
 
 link_before_goes : (link : Option Link) (l : Local) → Goes l.number (link_before link l)
@@ -322,7 +335,7 @@ link_before_goes (Some link) l = row_before_goes link.row link.marked l
 link_before_goes None l = give_back_goes TryAgain l
 
 row_replaced_goes : (r : Option ℕ) (marked : Bool) (l : Local) → Goes l.number (row_replaced r marked l)
-row_replaced_goes (Some r) marked l = either (r == l.row) (if marked then give_back MoveLeft l else to Normalise (at_infant 0 l)) (give_back TryAgain l) (either marked (give_back MoveLeft l) (to Normalise (at_infant 0 l)) (give_back_goes MoveLeft l) (record { moved = refl; number = refl })) (give_back_goes TryAgain l)
+row_replaced_goes (Some r) marked l = either (r == l.row) (if marked then give_back MoveLeft l else to (Activity.Rebalance (Rebalance.Replace Replace.Normalise)) (at_infant 0 l)) (give_back TryAgain l) (either marked (give_back MoveLeft l) (to (Activity.Rebalance (Rebalance.Replace Replace.Normalise)) (at_infant 0 l)) (give_back_goes MoveLeft l) (record { moved = refl; number = refl })) (give_back_goes TryAgain l)
 row_replaced_goes None marked l = give_back_goes TryAgain l
 
 replaced_goes : (link : Option Link) (l : Local) → Goes l.number (replaced link l)
@@ -331,115 +344,104 @@ replaced_goes None l = give_back_goes TryAgain l
 
 -- the event is not the last of a call
 abbrev pub IsBeforeLast : Activity → Type 0
-IsBeforeLast (Leave answer) = ⊥
+IsBeforeLast (Activity.Leave answer) = ⊥
 IsBeforeLast _ = Unit {0}
 
 -- how many calls the seat has begun after an event that is not the last of a call
 abbrev pub begun_after : Activity → Local → ℕ
-begun_after Idle l = l.number + 1
+begun_after Activity.Idle l = l.number + 1
 begun_after _ l = l.number
 
 -- a seat that is not about to leave goes on, whatever it was told
 pub goes_on : (z : Sizes) (a : Activity) (s : ℕ) (choice : Choice) (l : Local) (rows told : ℕ) → is_skipped a choice ≡ false → IsBeforeLast a → Goes (begun_after a l) ((transition z a s choice l).next rows told)
-goes_on z Idle s choice l rows told e n = begin_goes choice told l e
-goes_on z Enter s choice l rows told e n = enter_goes l.call l
-goes_on z ScanClock s choice l rows told e n = either (nat_le SPENT told) (leave Spent l) (to ScanWait (record l { waiting = told })) (record { moved = refl; number = refl }) (record { moved = refl; number = refl })
-goes_on z ScanWait s choice l rows told e n = record { moved = refl; number = refl }
-goes_on z ScanDraw s choice l rows told e n = record { moved = refl; number = refl }
-goes_on z ScanSettle s choice l rows told e n = settle_goes (version_settled (scan_of told) l.drawn) l
-goes_on z Start s choice l rows told e n = start_goes choice l rows told
-goes_on z Head s choice l rows told e n = record { moved = refl; number = refl }
-goes_on z GuessMin s choice l rows told e n = either (nat_le (key_of_word told) l.want) (to Walk (record l { lower = key_of_word told })) (to Head l) (record { moved = refl; number = refl }) (record { moved = refl; number = refl })
-goes_on z Walk s choice l rows told e n = walk_goes (is_stopped choice l) s l rows told
-goes_on z WalkMin s choice l rows told e n = walk_min_goes (key_of_word told) l
-goes_on z (Look i) s choice l rows told e n = look_goes z i (pend_of told) l
-goes_on z LookKey s choice l rows told e n = either (is_in_range l.call (key_of_word told)) (to LookClock l) (to_look z (l.looked + 1) l) (record { moved = refl; number = refl }) (looks z (l.looked + 1) l)
-goes_on z LookClock s choice l rows told e n = record { moved = refl; number = refl }
-goes_on z LookHelp s choice l rows told e n = help_goes z (pend_of told) l
-goes_on z ListFrom s choice l rows told e n = list_goes z (cell_of_link_word told) l
-goes_on z ListKey s choice l rows told e n = list_key_goes (key_of_word told) l
-goes_on z ListVer s choice l rows told e n = record { moved = refl; number = refl }
-goes_on z ListVal s choice l rows told e n = record { moved = refl; number = refl }
-goes_on z RestKey s choice l rows told e n = either (is_in_range l.call (key_of_word told)) (to RestVal (record l { place_key = key_of_word told })) (to_rest l) (record { moved = refl; number = refl }) (rests l)
-goes_on z RestVal s choice l rows told e n = rests (gathering z (value_of_word told) l)
-goes_on z (ClearScan answer) s choice l rows told e n = record { moved = refl; number = refl }
-goes_on z PutCount s choice l rows told e n = either (has_room z (count_of told)) (to PutAdd l) (to_rebalance l) (record { moved = refl; number = refl }) (record { moved = refl; number = refl })
-goes_on z PutAdd s choice l rows told e n = either (has_room z (count_of told)) (to PutKey (record l { cell = given_of (count_of told) })) (to_rebalance l) (record { moved = refl; number = refl }) (record { moved = refl; number = refl })
-goes_on z PutKey s choice l rows told e n = record { moved = refl; number = refl }
-goes_on z PutValue s choice l rows told e n = record { moved = refl; number = refl }
-goes_on z Announce s choice l rows told e n = either (told == pend_word pend.Idle) (to PutClock l) (to_rebalance l) (record { moved = refl; number = refl }) (record { moved = refl; number = refl })
-goes_on z PutClock s choice l rows told e n = record { moved = refl; number = refl }
-goes_on z Stamp s choice l rows told e n = stamp_goes (pend_of told) l
-goes_on z PutVersion s choice l rows told e n = record { moved = refl; number = refl }
-goes_on z InsFrom s choice l rows told e n = insert_from_goes z (cell_of_link_word told) l
-goes_on z InsKey s choice l rows told e n = insert_key_goes (key_of_word told) l
-goes_on z InsVer s choice l rows told e n = either (is_newer (unwrap_or (version_of_word told) 0) l.place l) (insert_past l) (to InsSet l) (record { moved = refl; number = refl }) (record { moved = refl; number = refl })
-goes_on z InsSet s choice l rows told e n = record { moved = refl; number = refl }
-goes_on z Insert s choice l rows told e n = insert_tried_goes z (told == cell_link_word l.held) l
-goes_on z PutClear s choice l rows told e n = either (tidies_row rows choice l) (to_rebalance (record l { tidies = true })) (leave Done l) (record { moved = refl; number = refl }) (record { moved = refl; number = refl })
-goes_on z (Leave answer) s choice l rows told e n = absurd n
-goes_on z Again s choice l rows told e n = record { moved = refl; number = refl }
-goes_on z AgainEpoch s choice l rows told e n = record { moved = refl; number = refl }
-goes_on z BalClock s choice l rows told e n = either (nat_le SPENT told) (refuse Spent l) (to BalEpoch l) (record { moved = refl; number = refl }) (record { moved = refl; number = refl })
-goes_on z BalEpoch s choice l rows told e n = either (nat_le SPENT told) (refuse Spent l) (to BalState l) (record { moved = refl; number = refl }) (record { moved = refl; number = refl })
-goes_on z BalState s choice l rows told e n = state_goes (state_of told) l
-goes_on z (BalNormal seat) s choice l rows told e n = record { moved = refl; number = refl }
-goes_on z Engage s choice l rows told e n = engaged_goes (told == state_word Normal) l
-goes_on z (MarkLink count) s choice l rows told e n = marked_goes count (row_linked (link_of told)) l
-goes_on z (Decide count) s choice l rows told e n = decided_goes (state_of told) l
-goes_on z FreezeCount s choice l rows told e n = record { moved = refl; number = refl }
-goes_on z (FreezeLook i) s choice l rows told e n = freeze_goes z i (pend_of told) l
-goes_on z (Freeze i) s choice l rows told e n = entry_goes z i (told == pend_word l.rebalance.entry) l
-goes_on z (ScanLook i) s choice l rows told e n = scan_met_goes z i (scan_of told) l
-goes_on z (HelpDraw i) s choice l rows told e n = record { moved = refl; number = refl }
-goes_on z (HelpSettle i) s choice l rows told e n = helped_goes z i (scan_of told) l
-goes_on z TakeFrom s choice l rows told e n = take_goes z (cell_of_link_word told) l
-goes_on z TakeKey s choice l rows told e n = record { moved = refl; number = refl }
-goes_on z TakeVersion s choice l rows told e n = record { moved = refl; number = refl }
-goes_on z TakeValue s choice l rows told e n = record { moved = refl; number = refl }
-goes_on z TakeRestKey s choice l rows told e n = record { moved = refl; number = refl }
-goes_on z TakeRestValue s choice l rows told e n = left_goes z (least_mark l.rebalance.marks) (keeping z (value_of_word told) l)
-goes_on z SeekFirst s choice l rows told e n = seek_first_goes choice l rows told
-goes_on z Seek s choice l rows told e n = seek_goes rows (state_of told) (seeking l.rebalance.sought l)
-goes_on z (SeekPass i) s choice l rows told e n = pass_goes z i rows (pass_of_word told) l
-goes_on z Reclaim s choice l rows told e n = record { moved = refl; number = refl }
-goes_on z TakeRow s choice l rows told e n = take_row_goes rows (told == state_word Free) l
-goes_on z GiveBack s choice l rows told e n = gave_back_goes l
-goes_on z WriteCount s choice l rows told e n = record { moved = refl; number = refl }
-goes_on z WriteMin s choice l rows told e n = record { moved = refl; number = refl }
-goes_on z WriteNext s choice l rows told e n = record { moved = refl; number = refl }
-goes_on z WriteFirst s choice l rows told e n = write_entry_goes z 0 l
-goes_on z (WritePend i) s choice l rows told e n = write_entry_goes z (i + 1) l
-goes_on z (WriteKey j) s choice l rows told e n = record { moved = refl; number = refl }
-goes_on z (WriteValue j) s choice l rows told e n = record { moved = refl; number = refl }
-goes_on z (WriteVersion j) s choice l rows told e n = record { moved = refl; number = refl }
-goes_on z (WriteAfter j) s choice l rows told e n = write_cell_goes z (j + 1) l
-goes_on z Before s choice l rows told e n = before_goes choice l rows told
-goes_on z BeforeGuess s choice l rows told e n = either (nat_lt (key_of_word told) l.lower) (to BeforeLink (record l { rebalance = record l.rebalance { least = key_of_word told } })) (to BeforeHead (record l { rebalance = record l.rebalance { before = None } })) (record { moved = refl; number = refl }) (record { moved = refl; number = refl })
-goes_on z BeforeHead s choice l rows told e n = first_before_goes (row_or_first (row_linked (link_of told))) l
-goes_on z BeforeLink s choice l rows told e n = link_before_goes (link_of told) l
-goes_on z BeforeMin s choice l rows told e n = either (nat_lt (key_of_word told) l.lower) (to BeforeLink (at_before (Some l.candidate) (key_of_word told) l)) (give_back TryAgain l) (record { moved = refl; number = refl }) (give_back_goes TryAgain l)
-goes_on z Replace s choice l rows told e n = replaced_goes (link_of told) l
-goes_on z Normalise s choice l rows told e n = either (has_more l) (to Normalise (at_infant (l.rebalance.at + 1) l)) (to Number l) (record { moved = refl; number = refl }) (record { moved = refl; number = refl })
-goes_on z Number s choice l rows told e n = record { moved = refl; number = refl }
-goes_on z Retire s choice l rows told e n = record { moved = refl; number = refl }
+goes_on z Activity.Idle s choice l rows told e n = begin_goes choice told l e
+goes_on z (Activity.Enter Enter.Announce) s choice l rows told e n = enter_goes l.call l
+goes_on z (Activity.Draw Draw.Clock) s choice l rows told e n = either (nat_le SPENT told) (leave Spent l) (to (Activity.Draw Draw.Wait) (record l { waiting = told })) (record { moved = refl; number = refl }) (record { moved = refl; number = refl })
+goes_on z (Activity.Draw Draw.Wait) s choice l rows told e n = record { moved = refl; number = refl }
+goes_on z (Activity.Draw Draw.Version) s choice l rows told e n = record { moved = refl; number = refl }
+goes_on z (Activity.Draw Draw.Settle) s choice l rows told e n = settle_goes (version_settled (scan_of told) l.drawn) l
+goes_on z (Activity.Walk Walk.Start) s choice l rows told e n = start_goes choice l rows told
+goes_on z (Activity.Walk Walk.First) s choice l rows told e n = record { moved = refl; number = refl }
+goes_on z (Activity.Walk Walk.GuessedLeast) s choice l rows told e n = either (nat_le (key_of_word told) l.want) (to (Activity.Walk Walk.Next) (record l { lower = key_of_word told })) (to (Activity.Walk Walk.First) l) (record { moved = refl; number = refl }) (record { moved = refl; number = refl })
+goes_on z (Activity.Walk Walk.Next) s choice l rows told e n = walk_goes (is_stopped choice l) s l rows told
+goes_on z (Activity.Walk Walk.NextLeast) s choice l rows told e n = walk_min_goes (key_of_word told) l
+goes_on z (Activity.Look (Look.Entry i)) s choice l rows told e n = look_goes z i (pend_of told) l
+goes_on z (Activity.Look Look.Key) s choice l rows told e n = either (is_in_range l.call (key_of_word told)) (to (Activity.Look Look.Clock) l) (to_look z (l.looked + 1) l) (record { moved = refl; number = refl }) (looks z (l.looked + 1) l)
+goes_on z (Activity.Look Look.Clock) s choice l rows told e n = record { moved = refl; number = refl }
+goes_on z (Activity.Look Look.Help) s choice l rows told e n = help_goes z (pend_of told) l
+goes_on z (Activity.Read Read.Link) s choice l rows told e n = list_goes z (cell_of_link_word told) l
+goes_on z (Activity.Read Read.Key) s choice l rows told e n = list_key_goes (key_of_word told) l
+goes_on z (Activity.Read Read.Version) s choice l rows told e n = record { moved = refl; number = refl }
+goes_on z (Activity.Read Read.Value) s choice l rows told e n = record { moved = refl; number = refl }
+goes_on z (Activity.Read Read.LeftOverKey) s choice l rows told e n = either (is_in_range l.call (key_of_word told)) (to (Activity.Read Read.LeftOverValue) (record l { place_key = key_of_word told })) (to_rest l) (record { moved = refl; number = refl }) (rests l)
+goes_on z (Activity.Read Read.LeftOverValue) s choice l rows told e n = rests (gathering z (value_of_word told) l)
+goes_on z (Activity.EndScan answer) s choice l rows told e n = record { moved = refl; number = refl }
+goes_on z (Activity.Put Put.Count) s choice l rows told e n = either (has_room z (count_of told)) (to (Activity.Put Put.Add) l) (to_rebalance l) (record { moved = refl; number = refl }) (record { moved = refl; number = refl })
+goes_on z (Activity.Put Put.Add) s choice l rows told e n = either (has_room z (count_of told)) (to (Activity.Put Put.Key) (record l { cell = given_of (count_of told) })) (to_rebalance l) (record { moved = refl; number = refl }) (record { moved = refl; number = refl })
+goes_on z (Activity.Put Put.Announce) s choice l rows told e n = either (told == pend_word pend.Idle) (to (Activity.Put Put.Clock) l) (to_rebalance l) (record { moved = refl; number = refl }) (record { moved = refl; number = refl })
+goes_on z (Activity.Put Put.Stamp) s choice l rows told e n = stamp_goes (pend_of told) l
+goes_on z (Activity.Insert Insert.Link) s choice l rows told e n = insert_from_goes z (cell_of_link_word told) l
+goes_on z (Activity.Insert Insert.Key) s choice l rows told e n = insert_key_goes (key_of_word told) l
+goes_on z (Activity.Insert Insert.Version) s choice l rows told e n = either (is_newer (unwrap_or (version_of_word told) 0) l.place l) (insert_past l) (to (Activity.Insert Insert.Set) l) (record { moved = refl; number = refl }) (record { moved = refl; number = refl })
+goes_on z (Activity.Insert Insert.Set) s choice l rows told e n = record { moved = refl; number = refl }
+goes_on z (Activity.Insert Insert.Exchange) s choice l rows told e n = insert_tried_goes z (told == cell_link_word l.held) l
+goes_on z (Activity.Put Put.Clear) s choice l rows told e n = either (tidies_row rows choice l) (to_rebalance (record l { tidies = true })) (leave Done l) (record { moved = refl; number = refl }) (record { moved = refl; number = refl })
+goes_on z (Activity.Put _) s choice l rows told e n = record { moved = refl; number = refl }
+goes_on z (Activity.Leave answer) s choice l rows told e n = absurd n
+goes_on z Activity.Retry s choice l rows told e n = record { moved = refl; number = refl }
+goes_on z (Activity.Enter Enter.LoadEpoch) s choice l rows told e n = record { moved = refl; number = refl }
+goes_on z (Activity.Rebalance (Rebalance.Engage Engage.Clock)) s choice l rows told e n = either (nat_le SPENT told) (refuse Spent l) (to (Activity.Rebalance (Rebalance.Engage Engage.Epoch)) l) (record { moved = refl; number = refl }) (record { moved = refl; number = refl })
+goes_on z (Activity.Rebalance (Rebalance.Engage Engage.Epoch)) s choice l rows told e n = either (nat_le SPENT told) (refuse Spent l) (to (Activity.Rebalance (Rebalance.Engage Engage.State)) l) (record { moved = refl; number = refl }) (record { moved = refl; number = refl })
+goes_on z (Activity.Rebalance (Rebalance.Engage Engage.State)) s choice l rows told e n = state_goes (state_of told) l
+goes_on z (Activity.Rebalance (Rebalance.Engage (Engage.Normal seat))) s choice l rows told e n = record { moved = refl; number = refl }
+goes_on z (Activity.Rebalance (Rebalance.Engage Engage.Lead)) s choice l rows told e n = engaged_goes (told == state_word Normal) l
+goes_on z (Activity.Rebalance (Rebalance.Engage (Engage.MarkLink count))) s choice l rows told e n = marked_goes count (row_linked (link_of told)) l
+goes_on z (Activity.Rebalance (Rebalance.Engage (Engage.Decide count))) s choice l rows told e n = decided_goes (state_of told) l
+goes_on z (Activity.Rebalance (Rebalance.Freeze Freeze.Count)) s choice l rows told e n = record { moved = refl; number = refl }
+goes_on z (Activity.Rebalance (Rebalance.Freeze (Freeze.Look i))) s choice l rows told e n = freeze_goes z i (pend_of told) l
+goes_on z (Activity.Rebalance (Rebalance.Freeze (Freeze.Entry i))) s choice l rows told e n = entry_goes z i (told == pend_word l.rebalance.entry) l
+goes_on z (Activity.Rebalance (Rebalance.Freeze (Freeze.Scan i))) s choice l rows told e n = scan_met_goes z i (scan_of told) l
+goes_on z (Activity.Rebalance (Rebalance.Freeze (Freeze.Draw i))) s choice l rows told e n = record { moved = refl; number = refl }
+goes_on z (Activity.Rebalance (Rebalance.Freeze (Freeze.Settle i))) s choice l rows told e n = helped_goes z i (scan_of told) l
+goes_on z (Activity.Rebalance (Rebalance.Gather Gather.Link)) s choice l rows told e n = take_goes z (cell_of_link_word told) l
+goes_on z (Activity.Rebalance (Rebalance.Gather Gather.LeftOverValue)) s choice l rows told e n = left_goes z (least_mark l.rebalance.marks) (keeping z (value_of_word told) l)
+goes_on z (Activity.Rebalance (Rebalance.Gather _)) s choice l rows told e n = record { moved = refl; number = refl }
+goes_on z (Activity.Rebalance (Rebalance.Seek Seek.First)) s choice l rows told e n = seek_first_goes choice l rows told
+goes_on z (Activity.Rebalance (Rebalance.Seek Seek.Next)) s choice l rows told e n = seek_goes rows (state_of told) (seeking l.rebalance.sought l)
+goes_on z (Activity.Rebalance (Rebalance.Seek (Seek.Pass i))) s choice l rows told e n = pass_goes z i rows (pass_of_word told) l
+goes_on z (Activity.Rebalance (Rebalance.Seek Seek.Reclaim)) s choice l rows told e n = record { moved = refl; number = refl }
+goes_on z (Activity.Rebalance (Rebalance.Seek Seek.Take)) s choice l rows told e n = take_row_goes rows (told == state_word Free) l
+goes_on z (Activity.Rebalance (Rebalance.Seek Seek.GiveBack)) s choice l rows told e n = gave_back_goes l
+goes_on z (Activity.Rebalance (Rebalance.Write Write.First)) s choice l rows told e n = write_entry_goes z 0 l
+goes_on z (Activity.Rebalance (Rebalance.Write (Write.Entry i))) s choice l rows told e n = write_entry_goes z (i + 1) l
+goes_on z (Activity.Rebalance (Rebalance.Write (Write.After j))) s choice l rows told e n = write_cell_goes z (j + 1) l
+goes_on z (Activity.Rebalance (Rebalance.Write _)) s choice l rows told e n = record { moved = refl; number = refl }
+goes_on z (Activity.Rebalance (Rebalance.Replace Replace.Start)) s choice l rows told e n = before_goes choice l rows told
+goes_on z (Activity.Rebalance (Rebalance.Replace Replace.GuessedLeast)) s choice l rows told e n = either (nat_lt (key_of_word told) l.lower) (to (Activity.Rebalance (Rebalance.Replace Replace.Next)) (record l { rebalance = record l.rebalance { least = key_of_word told } })) (to (Activity.Rebalance (Rebalance.Replace Replace.First)) (record l { rebalance = record l.rebalance { before = None } })) (record { moved = refl; number = refl }) (record { moved = refl; number = refl })
+goes_on z (Activity.Rebalance (Rebalance.Replace Replace.First)) s choice l rows told e n = first_before_goes (row_or_first (row_linked (link_of told))) l
+goes_on z (Activity.Rebalance (Rebalance.Replace Replace.Next)) s choice l rows told e n = link_before_goes (link_of told) l
+goes_on z (Activity.Rebalance (Rebalance.Replace Replace.NextLeast)) s choice l rows told e n = either (nat_lt (key_of_word told) l.lower) (to (Activity.Rebalance (Rebalance.Replace Replace.Next)) (at_before (Some l.candidate) (key_of_word told) l)) (give_back TryAgain l) (record { moved = refl; number = refl }) (give_back_goes TryAgain l)
+goes_on z (Activity.Rebalance (Rebalance.Replace Replace.Exchange)) s choice l rows told e n = replaced_goes (link_of told) l
+goes_on z (Activity.Rebalance (Rebalance.Replace Replace.Normalise)) s choice l rows told e n = either (has_more l) (to (Activity.Rebalance (Rebalance.Replace Replace.Normalise)) (at_infant (l.rebalance.at + 1) l)) (to (Activity.Rebalance (Rebalance.Replace Replace.Number)) l) (record { moved = refl; number = refl }) (record { moved = refl; number = refl })
+goes_on z (Activity.Rebalance (Rebalance.Replace Replace.Number)) s choice l rows told e n = record { moved = refl; number = refl }
+goes_on z (Activity.Rebalance (Rebalance.Replace Replace.Retire)) s choice l rows told e n = record { moved = refl; number = refl }
 
 -- so an event that ends a call with this reply is one of a seat that was about to leave with an
 -- answer that makes it
-pub ends_leaving : (z : Sizes) (a : Activity) (s : ℕ) (choice : Choice) (l : Local) (rows told : ℕ) (reply : Reply) → is_skipped a choice ≡ false → ((transition z a s choice l).next rows told).done ≡ Ended reply → (answer : Answer) × (a ≡ Leave answer) × (reply ≡ reply_of answer l.pairs)
-ends_leaving z (Leave answer) s choice l rows told reply e d = (answer, refl, (let x : Ended (reply_of answer l.pairs) ≡ Ended reply = d in cc))
+pub ends_leaving : (z : Sizes) (a : Activity) (s : ℕ) (choice : Choice) (l : Local) (rows told : ℕ) (reply : Reply) → is_skipped a choice ≡ false → ((transition z a s choice l).next rows told).done ≡ Ended reply → (answer : Answer) × (a ≡ Activity.Leave answer) × (reply ≡ reply_of answer l.pairs)
+ends_leaving z (Activity.Leave answer) s choice l rows told reply e d = (answer, refl, (let x : Ended (reply_of answer l.pairs) ≡ Ended reply = d in cc))
 ends_leaving z a s choice l rows told reply e d = let x : Moved ≡ Ended reply = sym (goes_on z a s choice l rows told e tt).moved ∙ d in absurd (cc)
 
 -- an event that is not skipped is made
 pub is_made : (z : Sizes) (a : Activity) (s : ℕ) (choice : Choice) (l : Local) (rows told : ℕ) → is_skipped a choice ≡ false → IsMade ((transition z a s choice l).next rows told).done
-is_made z (Leave answer) s choice l rows told e = tt
+is_made z (Activity.Leave answer) s choice l rows told e = tt
 is_made z a s choice l rows told e = subst IsMade (sym (goes_on z a s choice l rows told e tt).moved) tt
 
 -- how many calls a seat has begun rises by one at most
 few_after : (a : Activity) (l : Local) → begun_after a l ≤ l.number + 1
-few_after Idle l = omega arith
+few_after Activity.Idle l = omega arith
 few_after _ l = omega arith
 
 pub begins_few : (z : Sizes) (a : Activity) (s : ℕ) (choice : Choice) (l : Local) (rows told : ℕ) → is_skipped a choice ≡ false → ((transition z a s choice l).next rows told).local.number ≤ l.number + 1
-begins_few z (Leave answer) s choice l rows told e = omega arith
+begins_few z (Activity.Leave answer) s choice l rows told e = omega arith
 begins_few z a s choice l rows told e = omega (arith, (goes_on z a s choice l rows told e tt).number, few_after a l)

@@ -21,7 +21,6 @@ use Rattle.kw_world.specs.Sizes.{Sizes}
 use Rattle.kw_world.specs.WorldView.{WorldView}
 use Rattle.kw_world.specs.Local.{resting, no_rebalance}
 use Rattle.kw_world.specs.declared.activity.Activity.{Activity}
-use Rattle.kw_world.specs.declared.activity.Activity.TheVariants.{Idle}
 use Rattle.kw_world.specs.Opening.{IsOpening, opened, opening_word, link_to}
 use Rattle.kw_world.specs.Sane.{IsSane, IsKnown, IsWord, IsLed, IsHead, IsStateBelow, IsLinkBelow, IsRowState, IsKnownWord, IsGiven, IsEntry, IsPair, IsMark, IsCopy, IsPlaced, IsVersion, IsRebalance, IsRebalanceBelow, HasRebalanceRoom, IsTakingRows}
 use Rattle.kw_world.specs.Step.{word}
@@ -83,7 +82,7 @@ rests_known z rows n sized = record {
     rebalance = none_ranges z;
   };
   below = record { row = omega (arith, sized.some_rows); candidate = omega (arith, sized.some_rows); next = tt; rebalance = none_below rows sized.some_rows };
-  room = record { remembered = omega arith; gathered = omega arith; rebalance = none_room z Idle (λ t. t) };
+  room = record { remembered = omega arith; gathered = omega arith; rebalance = none_room z Activity.Idle (λ t. t) };
 }
 
 -- what every seat knows

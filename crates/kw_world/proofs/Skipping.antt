@@ -1,7 +1,6 @@
 -- An event is skipped exactly where its seat is idle and begins nothing.
 use Rattle.std.proofs.Common.{ℕ, ◌≡◌, ◌↔◌, Bool, true, false, Option, Some, None, refl, ap, sym, ◌∙◌, subst, slice_get}
 use Rattle.kw_world.specs.declared.activity.Activity.{Activity}
-use Rattle.kw_world.specs.declared.activity.Activity.TheVariants.{Idle}
 use Rattle.kw_world.specs.declared.local.Local.{Local}
 use Rattle.kw_world.specs.declared.event.Event.{Event}
 use Rattle.kw_world.specs.declared.event.Choice.{Choice}
@@ -18,10 +17,10 @@ use Rattle.kw_world.proofs.Steps.{step-absent, step-moved, step-skipped}
 
 -- an event that is not skipped is not where its guess is not offered
 pub skipped_offered : (a : Activity) (rows : ℕ) (choice : Choice) → is_skipped a choice ≡ false → is_skipped a (offered rows choice) ≡ false
-skipped_offered Idle rows (Begin call) h = refl
-skipped_offered Idle rows Go h = h
-skipped_offered Idle rows (Guess q) h = let x : true ≡ false = h in absurd (cc)
-skipped_offered Idle rows Stop h = h
+skipped_offered Activity.Idle rows (Begin call) h = refl
+skipped_offered Activity.Idle rows Go h = h
+skipped_offered Activity.Idle rows (Guess q) h = let x : true ≡ false = h in absurd (cc)
+skipped_offered Activity.Idle rows Stop h = h
 skipped_offered _ rows choice h = refl
 
 -- an event that is not skipped is made

@@ -7,7 +7,20 @@ use Rattle.kw_words.specs.declared.count.Count.{Count as Counted}
 use Rattle.kw_words.specs.Layout.{IsWithin}
 use Rattle.kw_words.specs.Count.{count_of}
 use Rattle.kw_world.specs.declared.activity.Activity.{Activity}
-use Rattle.kw_world.specs.declared.activity.Activity.TheVariants.{Idle, Enter, ScanClock, ScanWait, ScanDraw, ScanSettle, Start, Head, GuessMin, Walk, WalkMin, Look, LookKey, LookClock, LookHelp, ListFrom, ListKey, ListVer, ListVal, RestKey, RestVal, ClearScan, PutCount, PutAdd, PutKey, PutValue, Announce, PutClock, Stamp, PutVersion, InsFrom, InsKey, InsVer, InsSet, Insert, PutClear, Leave, Again, AgainEpoch, BalClock, BalEpoch, BalState, BalNormal, Engage, MarkLink, Decide, FreezeCount, FreezeLook, Freeze, ScanLook, HelpDraw, HelpSettle, TakeFrom, TakeKey, TakeVersion, TakeValue, TakeRestKey, TakeRestValue, SeekFirst, Seek, SeekPass, Reclaim, TakeRow, GiveBack, WriteCount, WriteMin, WriteNext, WriteFirst, WritePend, WriteKey, WriteValue, WriteVersion, WriteAfter, Before, BeforeGuess, BeforeHead, BeforeLink, BeforeMin, Replace, Normalise, Number, Retire}
+use Rattle.kw_world.specs.declared.activity.draw.Draw.TheVariants as Draw
+use Rattle.kw_world.specs.declared.activity.rebalance.engage.Engage.TheVariants as Engage
+use Rattle.kw_world.specs.declared.activity.enter.Enter.TheVariants as Enter
+use Rattle.kw_world.specs.declared.activity.rebalance.freeze.Freeze.TheVariants as Freeze
+use Rattle.kw_world.specs.declared.activity.rebalance.gather.Gather.TheVariants as Gather
+use Rattle.kw_world.specs.declared.activity.insert.Insert.TheVariants as Insert
+use Rattle.kw_world.specs.declared.activity.look.Look.TheVariants as Look
+use Rattle.kw_world.specs.declared.activity.put.Put.TheVariants as Put
+use Rattle.kw_world.specs.declared.activity.read.Read.TheVariants as Read
+use Rattle.kw_world.specs.declared.activity.rebalance.Rebalance.TheVariants as Rebalance
+use Rattle.kw_world.specs.declared.activity.rebalance.replace.Replace.TheVariants as Replace
+use Rattle.kw_world.specs.declared.activity.rebalance.seek.Seek.TheVariants as Seek
+use Rattle.kw_world.specs.declared.activity.walk.Walk.TheVariants as Walk
+use Rattle.kw_world.specs.declared.activity.rebalance.write.Write.TheVariants as Write
 use Rattle.kw_world.specs.declared.local.Local.{Local}
 use Rattle.kw_world.specs.declared.event.Event.{Event}
 use Rattle.kw_world.specs.declared.event.Choice.{Choice}
@@ -47,7 +60,8 @@ part-offered rows (Guess r) l = met (nat_lt r rows)
     met false = elsewhere l.activity
       where
         elsewhere : (a : Activity) → part_at a Go l ≡ part_at a (Guess r) l
-        elsewhere Walk = refl
+        elsewhere (Activity.Walk Walk.Next) = refl
+        elsewhere (Activity.Enter Enter.Announce) = refl
         elsewhere _ = refl
 part-offered rows Stop l = refl
 
@@ -78,110 +92,92 @@ replaced_within z rows None h = tt
 
 -- the word of a line is one of the table
 pub within : (z : Sizes) (a : Activity) (rows s : ℕ) (choice : Choice) (l : Local) → IsLocal z l → IsLocalBelow rows l → s < z.seats → IsActivity z a → IsOffered rows choice → IsWithin z.seats z.cells rows (transition z a s choice l).operation.name
-within z Idle rows s choice l i b t o g = tt
-within z Enter rows s choice l i b t o g = t
-within z ScanClock rows s choice l i b t o g = tt
-within z ScanWait rows s choice l i b t o g = t
-within z ScanDraw rows s choice l i b t o g = tt
-within z ScanSettle rows s choice l i b t o g = t
-within z Start rows s choice l i b t o g = starts choice g
+within z Activity.Idle rows s choice l i b t o g = tt
+within z (Activity.Enter Enter.Announce) rows s choice l i b t o g = t
+within z (Activity.Draw Draw.Clock) rows s choice l i b t o g = tt
+within z (Activity.Draw Draw.Wait) rows s choice l i b t o g = t
+within z (Activity.Draw Draw.Version) rows s choice l i b t o g = tt
+within z (Activity.Draw Draw.Settle) rows s choice l i b t o g = t
+within z (Activity.Walk Walk.Start) rows s choice l i b t o g = starts choice g
   where
     starts : (c : Choice) → IsOffered rows c → IsWithin z.seats z.cells rows (start_transition c l).operation.name
     starts (Begin call) h = tt
     starts Go h = tt
     starts (Guess r) h = h
     starts Stop h = tt
-within z Head rows s choice l i b t o g = tt
-within z GuessMin rows s choice l i b t o g = b.row
-within z Walk rows s choice l i b t o g = walks (is_stopped choice l)
+within z (Activity.Walk Walk.First) rows s choice l i b t o g = tt
+within z (Activity.Walk Walk.GuessedLeast) rows s choice l i b t o g = b.row
+within z (Activity.Walk Walk.Next) rows s choice l i b t o g = walks (is_stopped choice l)
   where
     walks : (c : Bool) → IsWithin z.seats z.cells rows (walk_transition c s l).operation.name
     walks true = t
     walks false = b.row
-within z WalkMin rows s choice l i b t o g = b.candidate
-within z (Look k) rows s choice l i b t o g = (b.row, o)
-within z LookKey rows s choice l i b t o g = (b.row, i.met)
-within z LookClock rows s choice l i b t o g = tt
-within z LookHelp rows s choice l i b t o g = (b.row, i.looked)
-within z ListFrom rows s choice l i b t o g = link_within z rows l.row l.link i.link b.row
-within z ListKey rows s choice l i b t o g = (b.row, i.place)
-within z ListVer rows s choice l i b t o g = (b.row, i.place)
-within z ListVal rows s choice l i b t o g = (b.row, i.place)
-within z RestKey rows s choice l i b t o g = (b.row, i.place)
-within z RestVal rows s choice l i b t o g = (b.row, i.place)
-within z (ClearScan answer) rows s choice l i b t o g = t
-within z PutCount rows s choice l i b t o g = b.row
-within z PutAdd rows s choice l i b t o g = b.row
-within z PutKey rows s choice l i b t o g = (b.row, i.cell)
-within z PutValue rows s choice l i b t o g = (b.row, i.cell)
-within z Announce rows s choice l i b t o g = (b.row, t)
-within z PutClock rows s choice l i b t o g = tt
-within z Stamp rows s choice l i b t o g = (b.row, t)
-within z PutVersion rows s choice l i b t o g = (b.row, i.cell)
-within z InsFrom rows s choice l i b t o g = link_within z rows l.row l.link i.link b.row
-within z InsKey rows s choice l i b t o g = (b.row, i.place)
-within z InsVer rows s choice l i b t o g = (b.row, i.place)
-within z InsSet rows s choice l i b t o g = (b.row, i.cell)
-within z Insert rows s choice l i b t o g = link_within z rows l.row l.link i.link b.row
-within z PutClear rows s choice l i b t o g = (b.row, t)
-within z (Leave answer) rows s choice l i b t o g = t
-within z Again rows s choice l i b t o g = t
-within z AgainEpoch rows s choice l i b t o g = tt
-within z BalClock rows s choice l i b t o g = tt
-within z BalEpoch rows s choice l i b t o g = tt
-within z BalState rows s choice l i b t o g = b.row
-within z (BalNormal seat) rows s choice l i b t o g = b.row
-within z Engage rows s choice l i b t o g = b.row
-within z (MarkLink count) rows s choice l i b t o g = b.row
-within z (Decide count) rows s choice l i b t o g = b.row
-within z FreezeCount rows s choice l i b t o g = b.row
-within z (FreezeLook k) rows s choice l i b t o g = (b.row, o)
-within z (Freeze k) rows s choice l i b t o g = (b.row, o)
-within z (ScanLook k) rows s choice l i b t o g = o
-within z (HelpDraw k) rows s choice l i b t o g = tt
-within z (HelpSettle k) rows s choice l i b t o g = o
-within z TakeFrom rows s choice l i b t o g = link_within z rows l.row l.link i.link b.row
-within z TakeKey rows s choice l i b t o g = (b.row, i.place)
-within z TakeVersion rows s choice l i b t o g = (b.row, i.place)
-within z TakeValue rows s choice l i b t o g = (b.row, i.place)
-within z TakeRestKey rows s choice l i b t o g = (b.row, i.place)
-within z TakeRestValue rows s choice l i b t o g = (b.row, i.place)
-within z SeekFirst rows s choice l i b t o g = seeks choice g
+within z (Activity.Walk Walk.NextLeast) rows s choice l i b t o g = b.candidate
+within z (Activity.Look (Look.Entry k)) rows s choice l i b t o g = (b.row, o)
+within z (Activity.Look Look.Key) rows s choice l i b t o g = (b.row, i.met)
+within z (Activity.Look Look.Clock) rows s choice l i b t o g = tt
+within z (Activity.Look Look.Help) rows s choice l i b t o g = (b.row, i.looked)
+within z (Activity.Read Read.Link) rows s choice l i b t o g = link_within z rows l.row l.link i.link b.row
+within z (Activity.Read _) rows s choice l i b t o g = (b.row, i.place)
+within z (Activity.EndScan answer) rows s choice l i b t o g = t
+within z (Activity.Put Put.Count) rows s choice l i b t o g = b.row
+within z (Activity.Put Put.Add) rows s choice l i b t o g = b.row
+within z (Activity.Put Put.Announce) rows s choice l i b t o g = (b.row, t)
+within z (Activity.Put Put.Clock) rows s choice l i b t o g = tt
+within z (Activity.Put Put.Stamp) rows s choice l i b t o g = (b.row, t)
+within z (Activity.Insert Insert.Link) rows s choice l i b t o g = link_within z rows l.row l.link i.link b.row
+within z (Activity.Insert Insert.Key) rows s choice l i b t o g = (b.row, i.place)
+within z (Activity.Insert Insert.Version) rows s choice l i b t o g = (b.row, i.place)
+within z (Activity.Insert Insert.Set) rows s choice l i b t o g = (b.row, i.cell)
+within z (Activity.Insert Insert.Exchange) rows s choice l i b t o g = link_within z rows l.row l.link i.link b.row
+within z (Activity.Put Put.Clear) rows s choice l i b t o g = (b.row, t)
+within z (Activity.Put _) rows s choice l i b t o g = (b.row, i.cell)
+within z (Activity.Leave answer) rows s choice l i b t o g = t
+within z Activity.Retry rows s choice l i b t o g = t
+within z (Activity.Enter Enter.LoadEpoch) rows s choice l i b t o g = tt
+within z (Activity.Rebalance (Rebalance.Engage Engage.Clock)) rows s choice l i b t o g = tt
+within z (Activity.Rebalance (Rebalance.Engage Engage.Epoch)) rows s choice l i b t o g = tt
+within z (Activity.Rebalance (Rebalance.Engage _)) rows s choice l i b t o g = b.row
+within z (Activity.Rebalance (Rebalance.Freeze Freeze.Count)) rows s choice l i b t o g = b.row
+within z (Activity.Rebalance (Rebalance.Freeze (Freeze.Look k))) rows s choice l i b t o g = (b.row, o)
+within z (Activity.Rebalance (Rebalance.Freeze (Freeze.Entry k))) rows s choice l i b t o g = (b.row, o)
+within z (Activity.Rebalance (Rebalance.Freeze (Freeze.Scan k))) rows s choice l i b t o g = o
+within z (Activity.Rebalance (Rebalance.Freeze (Freeze.Draw k))) rows s choice l i b t o g = tt
+within z (Activity.Rebalance (Rebalance.Freeze (Freeze.Settle k))) rows s choice l i b t o g = o
+within z (Activity.Rebalance (Rebalance.Gather Gather.Link)) rows s choice l i b t o g = link_within z rows l.row l.link i.link b.row
+within z (Activity.Rebalance (Rebalance.Gather _)) rows s choice l i b t o g = (b.row, i.place)
+within z (Activity.Rebalance (Rebalance.Seek Seek.First)) rows s choice l i b t o g = seeks choice g
   where
     seeks : (c : Choice) → IsOffered rows c → IsWithin z.seats z.cells rows (seek_first_transition c l).operation.name
     seeks (Begin call) h = b.rebalance.sought
     seeks Go h = b.rebalance.sought
     seeks (Guess r) h = h
     seeks Stop h = b.rebalance.sought
-within z Seek rows s choice l i b t o g = b.rebalance.sought
-within z (SeekPass k) rows s choice l i b t o g = o
-within z Reclaim rows s choice l i b t o g = b.rebalance.sought
-within z TakeRow rows s choice l i b t o g = b.rebalance.sought
-within z GiveBack rows s choice l i b t o g = taken_within rows l.rebalance.taken l.rebalance.at (first_row rows l b) b.rebalance.taken
-within z WriteCount rows s choice l i b t o g = taken_within rows l.rebalance.taken l.rebalance.at (first_row rows l b) b.rebalance.taken
-within z WriteMin rows s choice l i b t o g = taken_within rows l.rebalance.taken l.rebalance.at (first_row rows l b) b.rebalance.taken
-within z WriteNext rows s choice l i b t o g = taken_within rows l.rebalance.taken l.rebalance.at (first_row rows l b) b.rebalance.taken
-within z WriteFirst rows s choice l i b t o g = taken_within rows l.rebalance.taken l.rebalance.at (first_row rows l b) b.rebalance.taken
-within z (WritePend k) rows s choice l i b t o g = (taken_within rows l.rebalance.taken l.rebalance.at (first_row rows l b) b.rebalance.taken, o)
-within z (WriteKey j) rows s choice l i b t o g = (taken_within rows l.rebalance.taken l.rebalance.at (first_row rows l b) b.rebalance.taken, o)
-within z (WriteValue j) rows s choice l i b t o g = (taken_within rows l.rebalance.taken l.rebalance.at (first_row rows l b) b.rebalance.taken, o)
-within z (WriteVersion j) rows s choice l i b t o g = (taken_within rows l.rebalance.taken l.rebalance.at (first_row rows l b) b.rebalance.taken, o)
-within z (WriteAfter j) rows s choice l i b t o g = (taken_within rows l.rebalance.taken l.rebalance.at (first_row rows l b) b.rebalance.taken, o)
-within z Before rows s choice l i b t o g = begins choice g
+within z (Activity.Rebalance (Rebalance.Seek Seek.Next)) rows s choice l i b t o g = b.rebalance.sought
+within z (Activity.Rebalance (Rebalance.Seek (Seek.Pass k))) rows s choice l i b t o g = o
+within z (Activity.Rebalance (Rebalance.Seek Seek.Reclaim)) rows s choice l i b t o g = b.rebalance.sought
+within z (Activity.Rebalance (Rebalance.Seek Seek.Take)) rows s choice l i b t o g = b.rebalance.sought
+within z (Activity.Rebalance (Rebalance.Seek Seek.GiveBack)) rows s choice l i b t o g = taken_within rows l.rebalance.taken l.rebalance.at (first_row rows l b) b.rebalance.taken
+within z (Activity.Rebalance (Rebalance.Write Write.Count)) rows s choice l i b t o g = taken_within rows l.rebalance.taken l.rebalance.at (first_row rows l b) b.rebalance.taken
+within z (Activity.Rebalance (Rebalance.Write Write.Least)) rows s choice l i b t o g = taken_within rows l.rebalance.taken l.rebalance.at (first_row rows l b) b.rebalance.taken
+within z (Activity.Rebalance (Rebalance.Write Write.Next)) rows s choice l i b t o g = taken_within rows l.rebalance.taken l.rebalance.at (first_row rows l b) b.rebalance.taken
+within z (Activity.Rebalance (Rebalance.Write Write.First)) rows s choice l i b t o g = taken_within rows l.rebalance.taken l.rebalance.at (first_row rows l b) b.rebalance.taken
+within z (Activity.Rebalance (Rebalance.Write _)) rows s choice l i b t o g = (taken_within rows l.rebalance.taken l.rebalance.at (first_row rows l b) b.rebalance.taken, o)
+within z (Activity.Rebalance (Rebalance.Replace Replace.Start)) rows s choice l i b t o g = begins choice g
   where
     begins : (c : Choice) → IsOffered rows c → IsWithin z.seats z.cells rows (before_transition c l).operation.name
     begins (Begin call) h = tt
     begins Go h = tt
     begins (Guess r) h = h
     begins Stop h = tt
-within z BeforeGuess rows s choice l i b t o g = row_within rows l.rebalance.before (first_row rows l b) b.rebalance.before
-within z BeforeHead rows s choice l i b t o g = tt
-within z BeforeLink rows s choice l i b t o g = row_within rows l.rebalance.before (first_row rows l b) b.rebalance.before
-within z BeforeMin rows s choice l i b t o g = b.candidate
-within z Replace rows s choice l i b t o g = replaced_within z rows l.rebalance.before b.rebalance.before
-within z Normalise rows s choice l i b t o g = taken_within rows l.rebalance.taken l.rebalance.at (first_row rows l b) b.rebalance.taken
-within z Number rows s choice l i b t o g = tt
-within z Retire rows s choice l i b t o g = b.row
+within z (Activity.Rebalance (Rebalance.Replace Replace.GuessedLeast)) rows s choice l i b t o g = row_within rows l.rebalance.before (first_row rows l b) b.rebalance.before
+within z (Activity.Rebalance (Rebalance.Replace Replace.First)) rows s choice l i b t o g = tt
+within z (Activity.Rebalance (Rebalance.Replace Replace.Next)) rows s choice l i b t o g = row_within rows l.rebalance.before (first_row rows l b) b.rebalance.before
+within z (Activity.Rebalance (Rebalance.Replace Replace.NextLeast)) rows s choice l i b t o g = b.candidate
+within z (Activity.Rebalance (Rebalance.Replace Replace.Exchange)) rows s choice l i b t o g = replaced_within z rows l.rebalance.before b.rebalance.before
+within z (Activity.Rebalance (Rebalance.Replace Replace.Normalise)) rows s choice l i b t o g = taken_within rows l.rebalance.taken l.rebalance.at (first_row rows l b) b.rebalance.taken
+within z (Activity.Rebalance (Rebalance.Replace Replace.Number)) rows s choice l i b t o g = tt
+within z (Activity.Rebalance (Rebalance.Replace Replace.Retire)) rows s choice l i b t o g = b.row
 
 -- a count in range lets one more be added
 added : (w : ℕ) (c : Option Counted) → count_of w ≡ c → IsGiven c → w + 1 < 2 ^ 64
@@ -191,153 +187,137 @@ added w None e h = absurd h
 
 -- the action of a line can happen where the word is in range
 pub can_happen : (z : Sizes) (a : Activity) (s : ℕ) (choice : Choice) (l : Local) (w : ℕ) → IsWord z (transition z a s choice l).operation.name w → CanHappen (transition z a s choice l).operation.action w
-can_happen z ScanDraw s choice l w o = omega (arith, o.1)
-can_happen z PutAdd s choice l w o = added w (count_of w) refl o
-can_happen z (HelpDraw i) s choice l w o = omega (arith, o.1)
-can_happen z Number s choice l w o = omega (arith, o.1)
-can_happen z SeekFirst s choice l w o = seeks choice
+can_happen z (Activity.Draw Draw.Version) s choice l w o = omega (arith, o.1)
+can_happen z (Activity.Put Put.Add) s choice l w o = added w (count_of w) refl o
+can_happen z (Activity.Rebalance (Rebalance.Freeze (Freeze.Draw i))) s choice l w o = omega (arith, o.1)
+can_happen z (Activity.Rebalance (Rebalance.Replace Replace.Number)) s choice l w o = omega (arith, o.1)
+can_happen z (Activity.Rebalance (Rebalance.Seek Seek.First)) s choice l w o = seeks choice
   where
     seeks : (c : Choice) → CanHappen (seek_first_transition c l).operation.action w
     seeks (Begin call) = tt
     seeks Go = tt
     seeks (Guess r) = tt
     seeks Stop = tt
-can_happen z Before s choice l w o = begins choice
+can_happen z (Activity.Rebalance (Rebalance.Replace Replace.Start)) s choice l w o = begins choice
   where
     begins : (c : Choice) → CanHappen (before_transition c l).operation.action w
     begins (Begin call) = tt
     begins Go = tt
     begins (Guess r) = tt
     begins Stop = tt
-can_happen z Start s choice l w o = starts choice
+can_happen z (Activity.Walk Walk.Start) s choice l w o = starts choice
   where
     starts : (c : Choice) → CanHappen (start_transition c l).operation.action w
     starts (Begin call) = tt
     starts Go = tt
     starts (Guess r) = tt
     starts Stop = tt
-can_happen z Walk s choice l w o = walks (is_stopped choice l)
+can_happen z (Activity.Walk Walk.Next) s choice l w o = walks (is_stopped choice l)
   where
     walks : (c : Bool) → CanHappen (walk_transition c s l).operation.action w
     walks true = tt
     walks false = tt
+can_happen z (Activity.Enter Enter.Announce) s choice l w o = tt
+can_happen z (Activity.Look Look.Key) s choice l w o = tt
+can_happen z (Activity.Read Read.Link) s choice l w o = tt
+can_happen z (Activity.Insert Insert.Link) s choice l w o = tt
+can_happen z (Activity.Rebalance (Rebalance.Engage Engage.Clock)) s choice l w o = tt
+can_happen z (Activity.Rebalance (Rebalance.Gather Gather.Link)) s choice l w o = tt
+can_happen z (Activity.Rebalance (Rebalance.Write Write.Count)) s choice l w o = tt
 can_happen z _ s choice l w o = tt
 
 -- what follows from an event does not depend on the number of the seat
 pub next_of-seat : (z : Sizes) (a : Activity) (s t : ℕ) (choice : Choice) (l : Local) → (transition z a s choice l).next ≡ (transition z a t choice l).next
-next_of-seat z Walk s t choice l = walks (is_stopped choice l)
+next_of-seat z (Activity.Walk Walk.Next) s t choice l = walks (is_stopped choice l)
   where
     walks : (c : Bool) → (walk_transition c s l).next ≡ (walk_transition c t l).next
     walks true = refl
     walks false = refl
+next_of-seat z (Activity.Enter Enter.Announce) s t choice l = refl
+next_of-seat z (Activity.Draw Draw.Clock) s t choice l = refl
+next_of-seat z (Activity.Look Look.Key) s t choice l = refl
+next_of-seat z (Activity.Read Read.Link) s t choice l = refl
+next_of-seat z (Activity.Put Put.Count) s t choice l = refl
+next_of-seat z (Activity.Insert Insert.Link) s t choice l = refl
+next_of-seat z (Activity.Rebalance (Rebalance.Engage Engage.Clock)) s t choice l = refl
+next_of-seat z (Activity.Rebalance (Rebalance.Freeze Freeze.Count)) s t choice l = refl
+next_of-seat z (Activity.Rebalance (Rebalance.Gather Gather.Link)) s t choice l = refl
+next_of-seat z (Activity.Rebalance (Rebalance.Seek Seek.Next)) s t choice l = refl
+next_of-seat z (Activity.Rebalance (Rebalance.Write Write.Count)) s t choice l = refl
+next_of-seat z (Activity.Rebalance (Rebalance.Replace Replace.First)) s t choice l = refl
 next_of-seat z _ s t choice l = refl
 
 -- what follows from a store does not depend on the word that it overwrote
 pub store_blind : (z : Sizes) (a : Activity) (s : ℕ) (choice : Choice) (l : Local) (v w : ℕ) → IsStore (transition z a s choice l).operation.action → (rows : ℕ) → (transition z a s choice l).next rows v ≡ (transition z a s choice l).next rows w
-store_blind z Idle s choice l v w h rows = absurd h
-store_blind z Enter s choice l v w h rows = refl
-store_blind z ScanClock s choice l v w h rows = absurd h
-store_blind z ScanWait s choice l v w h rows = refl
-store_blind z ScanDraw s choice l v w h rows = absurd h
-store_blind z ScanSettle s choice l v w h rows = absurd h
-store_blind z Start s choice l v w h rows = absurd (starts choice h)
+store_blind z Activity.Idle s choice l v w h rows = absurd h
+store_blind z (Activity.Enter Enter.Announce) s choice l v w h rows = refl
+store_blind z (Activity.Draw Draw.Wait) s choice l v w h rows = refl
+store_blind z (Activity.Draw _) s choice l v w h rows = absurd h
+store_blind z (Activity.Walk Walk.Start) s choice l v w h rows = absurd (starts choice h)
   where
     starts : (c : Choice) → IsStore (start_transition c l).operation.action → ⊥
     starts (Begin call) h = h
     starts Go h = h
     starts (Guess r) h = h
     starts Stop h = h
-store_blind z Head s choice l v w h rows = absurd h
-store_blind z GuessMin s choice l v w h rows = absurd h
-store_blind z Walk s choice l v w h rows = walks (is_stopped choice l) h
+store_blind z (Activity.Walk Walk.First) s choice l v w h rows = absurd h
+store_blind z (Activity.Walk Walk.GuessedLeast) s choice l v w h rows = absurd h
+store_blind z (Activity.Walk Walk.Next) s choice l v w h rows = walks (is_stopped choice l) h
   where
     walks : (c : Bool) → IsStore (walk_transition c s l).operation.action → (walk_transition c s l).next rows v ≡ (walk_transition c s l).next rows w
     walks true h = refl
     walks false h = absurd h
-store_blind z WalkMin s choice l v w h rows = absurd h
-store_blind z (Look i) s choice l v w h rows = absurd h
-store_blind z LookKey s choice l v w h rows = absurd h
-store_blind z LookClock s choice l v w h rows = absurd h
-store_blind z LookHelp s choice l v w h rows = absurd h
-store_blind z ListFrom s choice l v w h rows = absurd h
-store_blind z ListKey s choice l v w h rows = absurd h
-store_blind z ListVer s choice l v w h rows = absurd h
-store_blind z ListVal s choice l v w h rows = absurd h
-store_blind z RestKey s choice l v w h rows = absurd h
-store_blind z RestVal s choice l v w h rows = absurd h
-store_blind z (ClearScan answer) s choice l v w h rows = refl
-store_blind z PutCount s choice l v w h rows = absurd h
-store_blind z PutAdd s choice l v w h rows = absurd h
-store_blind z PutKey s choice l v w h rows = refl
-store_blind z PutValue s choice l v w h rows = refl
-store_blind z Announce s choice l v w h rows = absurd h
-store_blind z PutClock s choice l v w h rows = absurd h
-store_blind z Stamp s choice l v w h rows = absurd h
-store_blind z PutVersion s choice l v w h rows = refl
-store_blind z InsFrom s choice l v w h rows = absurd h
-store_blind z InsKey s choice l v w h rows = absurd h
-store_blind z InsVer s choice l v w h rows = absurd h
-store_blind z InsSet s choice l v w h rows = refl
-store_blind z Insert s choice l v w h rows = absurd h
-store_blind z PutClear s choice l v w h rows = refl
-store_blind z (Leave answer) s choice l v w h rows = refl
-store_blind z Again s choice l v w h rows = refl
-store_blind z AgainEpoch s choice l v w h rows = absurd h
-store_blind z BalClock s choice l v w h rows = absurd h
-store_blind z BalEpoch s choice l v w h rows = absurd h
-store_blind z BalState s choice l v w h rows = absurd h
-store_blind z (BalNormal seat) s choice l v w h rows = absurd h
-store_blind z Engage s choice l v w h rows = absurd h
-store_blind z (MarkLink count) s choice l v w h rows = absurd h
-store_blind z (Decide count) s choice l v w h rows = absurd h
-store_blind z FreezeCount s choice l v w h rows = absurd h
-store_blind z (FreezeLook i) s choice l v w h rows = absurd h
-store_blind z (Freeze i) s choice l v w h rows = absurd h
-store_blind z (ScanLook i) s choice l v w h rows = absurd h
-store_blind z (HelpDraw i) s choice l v w h rows = absurd h
-store_blind z (HelpSettle i) s choice l v w h rows = absurd h
-store_blind z TakeFrom s choice l v w h rows = absurd h
-store_blind z TakeKey s choice l v w h rows = absurd h
-store_blind z TakeVersion s choice l v w h rows = absurd h
-store_blind z TakeValue s choice l v w h rows = absurd h
-store_blind z TakeRestKey s choice l v w h rows = absurd h
-store_blind z TakeRestValue s choice l v w h rows = absurd h
-store_blind z SeekFirst s choice l v w h rows = absurd (seeks choice h)
+store_blind z (Activity.Walk Walk.NextLeast) s choice l v w h rows = absurd h
+store_blind z (Activity.Look Look.Key) s choice l v w h rows = absurd h
+store_blind z (Activity.Look _) s choice l v w h rows = absurd h
+store_blind z (Activity.Read Read.Link) s choice l v w h rows = absurd h
+store_blind z (Activity.Read _) s choice l v w h rows = absurd h
+store_blind z (Activity.EndScan answer) s choice l v w h rows = refl
+store_blind z (Activity.Put Put.Key) s choice l v w h rows = refl
+store_blind z (Activity.Put Put.Value) s choice l v w h rows = refl
+store_blind z (Activity.Put Put.Version) s choice l v w h rows = refl
+store_blind z (Activity.Insert Insert.Set) s choice l v w h rows = refl
+store_blind z (Activity.Insert _) s choice l v w h rows = absurd h
+store_blind z (Activity.Put Put.Clear) s choice l v w h rows = refl
+store_blind z (Activity.Put _) s choice l v w h rows = absurd h
+store_blind z (Activity.Leave answer) s choice l v w h rows = refl
+store_blind z Activity.Retry s choice l v w h rows = refl
+store_blind z (Activity.Enter Enter.LoadEpoch) s choice l v w h rows = absurd h
+store_blind z (Activity.Rebalance (Rebalance.Engage Engage.Clock)) s choice l v w h rows = absurd h
+store_blind z (Activity.Rebalance (Rebalance.Engage _)) s choice l v w h rows = absurd h
+store_blind z (Activity.Rebalance (Rebalance.Freeze Freeze.Count)) s choice l v w h rows = absurd h
+store_blind z (Activity.Rebalance (Rebalance.Freeze _)) s choice l v w h rows = absurd h
+store_blind z (Activity.Rebalance (Rebalance.Gather Gather.Link)) s choice l v w h rows = absurd h
+store_blind z (Activity.Rebalance (Rebalance.Gather _)) s choice l v w h rows = absurd h
+store_blind z (Activity.Rebalance (Rebalance.Seek Seek.First)) s choice l v w h rows = absurd (seeks choice h)
   where
     seeks : (c : Choice) → IsStore (seek_first_transition c l).operation.action → ⊥
     seeks (Begin call) h = h
     seeks Go h = h
     seeks (Guess r) h = h
     seeks Stop h = h
-store_blind z Seek s choice l v w h rows = absurd h
-store_blind z (SeekPass k) s choice l v w h rows = absurd h
-store_blind z Reclaim s choice l v w h rows = absurd h
-store_blind z TakeRow s choice l v w h rows = absurd h
-store_blind z GiveBack s choice l v w h rows = refl
-store_blind z WriteCount s choice l v w h rows = refl
-store_blind z WriteMin s choice l v w h rows = refl
-store_blind z WriteNext s choice l v w h rows = refl
-store_blind z WriteFirst s choice l v w h rows = refl
-store_blind z (WritePend i) s choice l v w h rows = refl
-store_blind z (WriteKey j) s choice l v w h rows = refl
-store_blind z (WriteValue j) s choice l v w h rows = refl
-store_blind z (WriteVersion j) s choice l v w h rows = refl
-store_blind z (WriteAfter j) s choice l v w h rows = refl
-store_blind z Before s choice l v w h rows = absurd (begins choice h)
+store_blind z (Activity.Rebalance (Rebalance.Seek Seek.Next)) s choice l v w h rows = absurd h
+store_blind z (Activity.Rebalance (Rebalance.Seek (Seek.Pass k))) s choice l v w h rows = absurd h
+store_blind z (Activity.Rebalance (Rebalance.Seek Seek.Reclaim)) s choice l v w h rows = absurd h
+store_blind z (Activity.Rebalance (Rebalance.Seek Seek.Take)) s choice l v w h rows = absurd h
+store_blind z (Activity.Rebalance (Rebalance.Seek Seek.GiveBack)) s choice l v w h rows = refl
+store_blind z (Activity.Rebalance (Rebalance.Write Write.Count)) s choice l v w h rows = refl
+store_blind z (Activity.Rebalance (Rebalance.Write _)) s choice l v w h rows = refl
+store_blind z (Activity.Rebalance (Rebalance.Replace Replace.Start)) s choice l v w h rows = absurd (begins choice h)
   where
     begins : (c : Choice) → IsStore (before_transition c l).operation.action → ⊥
     begins (Begin call) h = h
     begins Go h = h
     begins (Guess r) h = h
     begins Stop h = h
-store_blind z BeforeGuess s choice l v w h rows = absurd h
-store_blind z BeforeHead s choice l v w h rows = absurd h
-store_blind z BeforeLink s choice l v w h rows = absurd h
-store_blind z BeforeMin s choice l v w h rows = absurd h
-store_blind z Replace s choice l v w h rows = absurd h
-store_blind z Normalise s choice l v w h rows = absurd h
-store_blind z Number s choice l v w h rows = absurd h
-store_blind z Retire s choice l v w h rows = refl
+store_blind z (Activity.Rebalance (Rebalance.Replace Replace.GuessedLeast)) s choice l v w h rows = absurd h
+store_blind z (Activity.Rebalance (Rebalance.Replace Replace.First)) s choice l v w h rows = absurd h
+store_blind z (Activity.Rebalance (Rebalance.Replace Replace.Next)) s choice l v w h rows = absurd h
+store_blind z (Activity.Rebalance (Rebalance.Replace Replace.NextLeast)) s choice l v w h rows = absurd h
+store_blind z (Activity.Rebalance (Rebalance.Replace Replace.Exchange)) s choice l v w h rows = absurd h
+store_blind z (Activity.Rebalance (Rebalance.Replace Replace.Normalise)) s choice l v w h rows = absurd h
+store_blind z (Activity.Rebalance (Rebalance.Replace Replace.Number)) s choice l v w h rows = absurd h
+store_blind z (Activity.Rebalance (Rebalance.Replace Replace.Retire)) s choice l v w h rows = refl
 
 -- the word of an event is one of the table
 pub in_table : (z : Sizes) (w : WorldView) (e : Event) (l : Local) → IsSane z w → e.seat < length w.locals → slice_get w.locals e.seat ≡ Some l → IsWithin z.seats z.cells w.rows (transition_at z w e l).operation.name

@@ -9,24 +9,26 @@ use Rattle.kw_words.specs.declared.pend.Pend.{Pend}
 use Rattle.kw_words.specs.declared.pend.Pend.TheVariants.{Idle, Pending, Stamped, Frozen}
 use Rattle.kw_words.specs.declared.scan.ScanWord.{ScanWord}
 use Rattle.kw_words.specs.declared.scan.ScanWord.TheVariants.{Quiet, Waiting, Drawn}
-use Rattle.kw_world.specs.declared.activity.Activity.TheVariants.{FreezeLook, Freeze, ScanLook, HelpDraw}
+use Rattle.kw_world.specs.declared.activity.Activity.TheVariants as Activity
+use Rattle.kw_world.specs.declared.activity.rebalance.freeze.Freeze.TheVariants as Freeze
+use Rattle.kw_world.specs.declared.activity.rebalance.Rebalance.TheVariants as Rebalance
 use Rattle.kw_world.specs.declared.local.Local.{Local}
 use Rattle.kw_world.specs.Sizes.{Sizes}
 use Rattle.kw_world.specs.Marks.{mark_of}
 use Rattle.kw_world.specs.Transition.{Outcome, to}
 use Rattle.kw_world.specs.TakeTransitions.{to_take}
 
--- FreezeCount: the entries are looked at, and no cell is remembered
+-- Freeze::Count: the entries are looked at, and no cell is remembered
 abbrev pub count_frozen : Local → Outcome
-count_frozen l = to (FreezeLook 0) (record l { rebalance = record l.rebalance { marks = [] } })
+count_frozen l = to (Activity.Rebalance (Rebalance.Freeze (Freeze.Look 0))) (record l { rebalance = record l.rebalance { marks = [] } })
 
 -- no version is needed as yet
 abbrev pub to_scans : Local → Outcome
-to_scans l = to (ScanLook 0) (record l { rebalance = record l.rebalance { needed = [] } })
+to_scans l = to (Activity.Rebalance (Rebalance.Freeze (Freeze.Scan 0))) (record l { rebalance = record l.rebalance { needed = [] } })
 
--- FreezeLook(i): the entry of seat i; once all entries are frozen, the scans
+-- Freeze::Look(i): the entry of seat i; once all entries are frozen, the scans
 abbrev pub to_freeze_look : Sizes → ℕ → Local → Outcome
-to_freeze_look z i l = if nat_lt i z.seats then to (FreezeLook i) l else to_scans l
+to_freeze_look z i l = if nat_lt i z.seats then to (Activity.Rebalance (Rebalance.Freeze (Freeze.Look i))) l else to_scans l
 
 -- the cell is remembered with this version
 abbrev pub marking : ℕ → ℕ → Local → Local
@@ -34,9 +36,9 @@ marking cell version l = record l { rebalance = record l.rebalance { marks = l.r
 
 -- the entry is about to be frozen
 abbrev pub freezing : ℕ → Pend → Local → Outcome
-freezing i entry l = to (Freeze i) (record l { rebalance = record l.rebalance { entry = entry } })
+freezing i entry l = to (Activity.Rebalance (Rebalance.Freeze (Freeze.Entry i))) (record l { rebalance = record l.rebalance { entry = entry } })
 
--- FreezeLook(i): an idle or a pending entry is frozen, a stamped cell is remembered, and a frozen
+-- Freeze::Look(i): an idle or a pending entry is frozen, a stamped cell is remembered, and a frozen
 -- entry is passed over
 abbrev pub freeze_met : Sizes → ℕ → Option Pend → Local → Outcome
 freeze_met z i (Some Idle) l = freezing i Idle l
@@ -48,24 +50,25 @@ freeze_met z i None l = to_freeze_look z (i + 1) l
 -- Freeze(i): the exchange was made, or the entry is looked at once more
 abbrev pub entry_tried : Sizes → ℕ → Bool → Local → Outcome
 entry_tried z i true l = to_freeze_look z (i + 1) l
-entry_tried z i false l = to (FreezeLook i) l
+entry_tried z i false l = to (Activity.Rebalance (Rebalance.Freeze (Freeze.Look i))) l
 
--- ScanLook(i): the scan of seat i; once all scans are looked at, the cells of the row
+-- Freeze::Scan(i): the scan of seat i; once all scans are looked at, the cells of the row
 abbrev pub to_scan_look : Sizes → ℕ → Local → Outcome
-to_scan_look z i l = if nat_lt i z.seats then to (ScanLook i) l else to_take l
+to_scan_look z i l = if nat_lt i z.seats then to (Activity.Rebalance (Rebalance.Freeze (Freeze.Scan i))) l else to_take l
 
 -- the version is needed
 abbrev pub needing : ℕ → Local → Local
 needing version l = record l { rebalance = record l.rebalance { needed = l.rebalance.needed ++ version ∷ [] } }
 
--- ScanLook(i): a scan that waits is helped, and the version of one that has drawn is needed
+-- Freeze::Scan(i): a scan that waits is helped, and the version of one that has drawn is needed
 abbrev pub scan_met : Sizes → ℕ → Option ScanWord → Local → Outcome
 scan_met z i (Some Quiet) l = to_scan_look z (i + 1) l
-scan_met z i (Some (Waiting clock)) l = to (HelpDraw i) (record l { rebalance = record l.rebalance { waiting = clock } })
+scan_met z i (Some (Waiting clock)) l = to (Activity.Rebalance (Rebalance.Freeze (Freeze.Draw i))) (record l { rebalance = record l.rebalance { waiting = clock } })
 scan_met z i (Some (Drawn version)) l = to_scan_look z (i + 1) (needing version l)
 scan_met z i None l = to_scan_look z (i + 1) l
 
--- HelpSettle(i): the version that the exchange gave the scan is needed, or the one that was found
+-- Freeze::Settle(i): the version that the exchange gave the scan is needed, or the one that was
+-- found
 abbrev pub scan_helped : Sizes → ℕ → Option ScanWord → Local → Outcome
 scan_helped z i (Some Quiet) l = to_scan_look z (i + 1) l
 scan_helped z i (Some (Waiting clock)) l = to_scan_look z (i + 1) (if clock == l.rebalance.waiting then needing l.rebalance.drawn l else l)

@@ -24,3 +24,13 @@ pub mod TakeTransitions
 pub mod SeekTransitions
 pub mod WriteTransitions
 pub mod ReplaceTransitions
+pub mod EnterLines
+pub mod WalkLines
+pub mod ReadLines
+pub mod PutLines
+pub mod EngageLines
+pub mod FreezeLines
+pub mod GatherLines
+pub mod SeekLines
+pub mod WriteLines
+pub mod ReplaceLines

@@ -2,12 +2,12 @@
 use Rattle.std.specs.Prelude.{ℕ, false, None, []}
 use Rattle.kw_world.specs.declared.local.Local.{Local}
 use Rattle.kw_words.specs.declared.pend.Pend.TheVariants as pend
-use Rattle.kw_world.specs.declared.activity.Activity.TheVariants.{Idle}
-use Rattle.kw_world.specs.declared.rebalance.Rebalance.{Rebalance}
+use Rattle.kw_world.specs.declared.activity.Activity.TheVariants as Activity
+use Rattle.kw_world.specs.declared.rebalance.Rebalancing.{Rebalancing}
 use Rattle.kw_world.specs.declared.rebalance.Afterwards.TheVariants.{TryAgain}
 
 -- nothing of a rebalance
-abbrev pub no_rebalance : Rebalance
+abbrev pub no_rebalance : Rebalancing
 no_rebalance = record {
   after = None;
   entry = pend.Idle;
@@ -31,7 +31,7 @@ no_rebalance = record {
 -- an idle seat that has begun this many calls
 abbrev pub resting : ℕ → Local
 resting number = record {
-  activity = Idle;
+  activity = Activity.Idle;
   call = None;
   number = number;
   epoch = 1;

@@ -3,7 +3,8 @@ use Rattle.std.specs.Prelude.{ℕ, ◌*◌, Bool, true, false, ◌&&◌, nat_lt,
 use Rattle.kw_words.specs.declared.pend.Pend.{Pend}
 use Rattle.kw_words.specs.declared.pend.Pend.TheVariants.{Idle, Pending, Stamped, Frozen}
 use Rattle.kw_words.specs.declared.count.Count.{Count}
-use Rattle.kw_world.specs.declared.activity.Activity.TheVariants.{PutVersion}
+use Rattle.kw_world.specs.declared.activity.Activity.TheVariants as Activity
+use Rattle.kw_world.specs.declared.activity.put.Put.TheVariants as Put
 use Rattle.kw_world.specs.declared.answer.Answer.TheVariants.{Done}
 use Rattle.kw_world.specs.declared.event.Choice.{Choice}
 use Rattle.kw_world.specs.declared.event.Choice.TheVariants.{Begin, Go, Guess, Stop}
@@ -27,8 +28,8 @@ has_room z None = false
 -- is rebalanced
 abbrev pub stamp_met : Option Pend → Local → Outcome
 stamp_met (Some Idle) l = to_rebalance l
-stamp_met (Some (Pending cell)) l = if cell == l.cell then to PutVersion l else to_rebalance l
-stamp_met (Some (Stamped cell version)) l = if cell == l.cell then to PutVersion (record l { version = version }) else to_rebalance l
+stamp_met (Some (Pending cell)) l = if cell == l.cell then to (Activity.Put Put.Version) l else to_rebalance l
+stamp_met (Some (Stamped cell version)) l = if cell == l.cell then to (Activity.Put Put.Version) (record l { version = version }) else to_rebalance l
 stamp_met (Some Frozen) l = to_rebalance l
 stamp_met None l = to_rebalance l
 
@@ -40,6 +41,6 @@ tidies_row rows Go l = false
 tidies_row rows (Guess r) l = (r == l.row) && nat_lt rows (TIDY_SHARE * l.epoch)
 tidies_row rows Stop l = false
 
--- PutClear: the put is done, and leaves; or it tidies: it rebalances its row first
+-- Put::Clear: the put is done, and leaves; or it tidies: it rebalances its row first
 abbrev pub cleared : ℕ → Choice → Local → Outcome
 cleared rows choice l = if tidies_row rows choice l then to_rebalance (record l { tidies = true }) else leave Done l

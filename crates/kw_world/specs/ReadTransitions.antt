@@ -9,7 +9,10 @@ use Rattle.kw_model.specs.declared.call.Call.{Call}
 use Rattle.kw_model.specs.declared.call.Call.TheVariants.{Put, Del, Get, Scan}
 use Rattle.kw_world.specs.declared.answer.Answer.TheVariants.{Pairs}
 use Rattle.kw_world.specs.Answers.{answer_found}
-use Rattle.kw_world.specs.declared.activity.Activity.TheVariants.{Look, LookKey, ListFrom, ListKey, ListVer, ListVal, RestKey, RestVal, ClearScan, Walk}
+use Rattle.kw_world.specs.declared.activity.Activity.TheVariants as Activity
+use Rattle.kw_world.specs.declared.activity.look.Look.TheVariants as Look
+use Rattle.kw_world.specs.declared.activity.read.Read.TheVariants as Read
+use Rattle.kw_world.specs.declared.activity.walk.Walk.TheVariants as Walk
 use Rattle.kw_world.specs.declared.local.Local.{Local}
 use Rattle.kw_world.specs.declared.marks.Mark.{Mark}
 use Rattle.kw_world.specs.declared.limits.TheConstants.{NEWEST}
@@ -22,7 +25,7 @@ use Rattle.kw_world.specs.ListTransitions.{one_more, past_cell}
 -- Look(i): the entry of seat i; once all entries are looked at, the row's list, from its first link
 -- on, at which a reader stands since it came to the row
 abbrev pub to_look : Sizes → ℕ → Local → Outcome
-to_look z i l = if nat_lt i z.seats then to (Look i) l else to ListFrom l
+to_look z i l = if nat_lt i z.seats then to (Activity.Look (Look.Entry i)) l else to (Activity.Read Read.Link) l
 
 -- the cell is remembered with this version
 abbrev pub remembering : ℕ → ℕ → Local → Local
@@ -32,13 +35,13 @@ remembering cell version l = record l { remembered = l.remembered ++ mark_of cel
 -- other entry is passed over
 abbrev pub look_met : Sizes → ℕ → Option Pend → Local → Outcome
 look_met z i (Some Idle) l = to_look z (i + 1) l
-look_met z i (Some (Pending cell)) l = to LookKey (record l { looked = i; met = cell })
+look_met z i (Some (Pending cell)) l = to (Activity.Look Look.Key) (record l { looked = i; met = cell })
 look_met z i (Some (Stamped cell version)) l = to_look z (i + 1) (remembering cell version l)
 look_met z i (Some Frozen) l = to_look z (i + 1) l
 look_met z i None l = to_look z (i + 1) l
 
--- LookHelp: the cell is remembered with the version that the exchange gave it, or with the one that
--- was found
+-- Look::Help: the cell is remembered with the version that the exchange gave it, or with the one
+-- that was found
 abbrev pub help_met : Sizes → Option Pend → Local → Outcome
 help_met z (Some Idle) l = to_look z (l.looked + 1) l
 help_met z (Some (Pending cell)) l = to_look z (l.looked + 1) (if cell == l.met then remembering cell l.helping l else l)
@@ -53,14 +56,14 @@ get_answered key l = leave (answer_found (shown_at l.gathered NEWEST key)) l
 
 -- a scan has all its pairs, and is about to say that it is over
 abbrev pub scan_ended : Local → Outcome
-scan_ended l = to (ClearScan Pairs) l
+scan_ended l = to (Activity.EndScan Pairs) l
 
 -- a scan goes on with the next row, unless there is none or its keys are all above the range
 abbrev pub scan_on : Option ℕ → ℕ → Local → Outcome
 scan_on None upto l = scan_ended l
 scan_on (Some r) upto l =
     if nat_lt upto l.upper then scan_ended l
-    else to Walk (record l { row = r; lower = l.upper; want = l.upper; next = None; upper = 0 })
+    else to (Activity.Walk Walk.Next) (record l { row = r; lower = l.upper; want = l.upper; next = None; upper = 0 })
 
 -- the pairs of the row come after those of the rows before it: each key that is still wanted and
 -- shows a value at the scan's version, by rising key. No cell of the row has a key of the range
@@ -83,7 +86,7 @@ row_read None l = get_answered 0 l
 -- Rest: a remembered cell of the least place is read, and remembered no more; where none is left,
 -- the row is read
 abbrev pub rest_of : Option Mark → Local → Outcome
-rest_of (Some m) l = to RestKey (record l { place = m.cell; place_version = m.version; remembered = unmarked m.cell l.remembered })
+rest_of (Some m) l = to (Activity.Read Read.LeftOverKey) (record l { place = m.cell; place_version = m.version; remembered = unmarked m.cell l.remembered })
 rest_of None l = row_read l.call l
 
 -- the remembered cells that were not met are left
@@ -94,26 +97,26 @@ to_rest l = rest_of (least_mark l.remembered) l
 abbrev pub reaching : Sizes → ℕ → Local → Local
 reaching z cell l = record l { place = cell; walked = one_more z l.walked; remembered = unmarked cell l.remembered }
 
--- ListFrom: the link leads to a cell, which is met, or the list is at its end
+-- Read::Link: the link leads to a cell, which is met, or the list is at its end
 abbrev pub list_met : Sizes → Option ℕ → Local → Outcome
-list_met z (Some cell) l = to ListKey (reaching z cell l)
+list_met z (Some cell) l = to (Activity.Read Read.Key) (reaching z cell l)
 list_met z None l = to_rest l
 
 -- the cell that was met is passed
 abbrev pub list_past : Local → Outcome
-list_past l = to ListFrom (past_cell l)
+list_past l = to (Activity.Read Read.Link) (past_cell l)
 
--- ListKey: a cell below the range is passed, one of the range is read on, and at one above it the
+-- Read::Key: a cell below the range is passed, one of the range is read on, and at one above it the
 -- walk is over
 abbrev pub list_key : ℕ → Local → Outcome
 list_key key l =
     if nat_lt key (first_key l.call) then list_past l
-    else if nat_le key (last_key l.call) then to ListVer (record l { place_key = key })
+    else if nat_le key (last_key l.call) then to (Activity.Read Read.Version) (record l { place_key = key })
     else to_rest l
 
--- ListVer: a cell without a version, of which no list has one, counts as one of version 1
+-- Read::Version: a cell without a version, of which no list has one, counts as one of version 1
 abbrev pub list_version : Option ℕ → Local → Outcome
-list_version version l = to ListVal (record l { place_version = unwrap_or version 1 })
+list_version version l = to (Activity.Read Read.Value) (record l { place_version = unwrap_or version 1 })
 
 -- the cell that was read, with its value
 abbrev pub cell_in_hand : Option ℕ → Local → Cell
@@ -124,6 +127,6 @@ cell_in_hand value l = record { key = l.place_key; version = l.place_version; pl
 abbrev pub gathering : Sizes → Option ℕ → Local → Local
 gathering z value l = record l { gathered = if nat_lt (length l.gathered) z.cells then with_cell (cell_in_hand value l) l.gathered else l.gathered }
 
--- RestKey: a remembered cell is read on if its key is in the range
+-- Read::LeftOverKey: a remembered cell is read on if its key is in the range
 abbrev pub rest_key : ℕ → Local → Outcome
-rest_key key l = if is_in_range l.call key then to RestVal (record l { place_key = key }) else to_rest l
+rest_key key l = if is_in_range l.call key then to (Activity.Read Read.LeftOverValue) (record l { place_key = key }) else to_rest l

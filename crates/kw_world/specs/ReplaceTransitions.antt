@@ -13,7 +13,9 @@ use Rattle.kw_words.specs.declared.state.State.{State}
 use Rattle.kw_words.specs.declared.state.State.TheVariants.{Free, Infant, Normal, Leader, Follower, Retired}
 use Rattle.kw_words.specs.Link.{link_of}
 use Rattle.kw_words.specs.State.{state_of}
-use Rattle.kw_world.specs.declared.activity.Activity.TheVariants.{BeforeGuess, BeforeHead, BeforeLink, BeforeMin, Replace, Normalise, Number}
+use Rattle.kw_world.specs.declared.activity.Activity.TheVariants as Activity
+use Rattle.kw_world.specs.declared.activity.rebalance.Rebalance.TheVariants as Rebalance
+use Rattle.kw_world.specs.declared.activity.rebalance.replace.Replace.TheVariants as Replace
 use Rattle.kw_world.specs.declared.local.Local.{Local}
 use Rattle.kw_world.specs.declared.rebalance.Afterwards.TheVariants.{TryAgain, MoveLeft}
 use Rattle.kw_world.specs.declared.event.Choice.{Choice}
@@ -26,10 +28,10 @@ use Rattle.kw_world.specs.Transition.{Transition, Outcome, at, to, row_linked, r
 abbrev pub at_before : Option ℕ → ℕ → Local → Local
 at_before r least l = record l { rebalance = record l.rebalance { before = r; least = least } }
 
--- BeforeHead, and Before without a guess: the full row may be the first one, and no row stands
--- before it then
+-- Replace::First, and Replace::Start without a guess: the full row may be the first one, and no row
+-- stands before it then
 abbrev pub first_before : ℕ → Local → Outcome
-first_before r l = if r == l.row then to Replace (at_before None 0 l) else to BeforeLink (at_before (Some r) 0 l)
+first_before r l = if r == l.row then to (Activity.Rebalance (Rebalance.Replace Replace.Exchange)) (at_before None 0 l) else to (Activity.Rebalance (Rebalance.Replace Replace.Next)) (at_before (Some r) 0 l)
 
 -- the line of both
 abbrev pub before_head_transition : Local → Transition
@@ -38,13 +40,13 @@ before_head_transition l = at kind.LoadHead name.Head Load (λ w. first_before (
 -- Before with a guess: a row in the normal state is taken, and every other one sends the walk to
 -- the first row
 abbrev pub guess_before : ℕ → Option State → Local → Outcome
-guess_before r (Some Free) l = to BeforeHead l
-guess_before r (Some (Infant seat)) l = to BeforeHead l
-guess_before r (Some Normal) l = to BeforeGuess (record l { rebalance = record l.rebalance { before = Some r } })
-guess_before r (Some (Leader count)) l = to BeforeHead l
-guess_before r (Some (Follower leader)) l = to BeforeHead l
-guess_before r (Some (Retired number)) l = to BeforeHead l
-guess_before r None l = to BeforeHead l
+guess_before r (Some Free) l = to (Activity.Rebalance (Rebalance.Replace Replace.First)) l
+guess_before r (Some (Infant seat)) l = to (Activity.Rebalance (Rebalance.Replace Replace.First)) l
+guess_before r (Some Normal) l = to (Activity.Rebalance (Rebalance.Replace Replace.GuessedLeast)) (record l { rebalance = record l.rebalance { before = Some r } })
+guess_before r (Some (Leader count)) l = to (Activity.Rebalance (Rebalance.Replace Replace.First)) l
+guess_before r (Some (Follower leader)) l = to (Activity.Rebalance (Rebalance.Replace Replace.First)) l
+guess_before r (Some (Retired number)) l = to (Activity.Rebalance (Rebalance.Replace Replace.First)) l
+guess_before r None l = to (Activity.Rebalance (Rebalance.Replace Replace.First)) l
 
 -- Before
 abbrev pub before_transition : Choice → Local → Transition
@@ -53,28 +55,28 @@ before_transition Go l = before_head_transition l
 before_transition (Guess r) l = at kind.LoadState (name.State r) Load (λ w. guess_before r (state_of w) l)
 before_transition Stop l = before_head_transition l
 
--- BeforeGuess: the guessed row serves if its least key is below that of the full row
+-- Replace::GuessedLeast: the guessed row serves if its least key is below that of the full row
 abbrev pub guess_least : ℕ → Local → Outcome
 guess_least least l =
-    if nat_lt least l.lower then to BeforeLink (record l { rebalance = record l.rebalance { least = least } })
-    else to BeforeHead (record l { rebalance = record l.rebalance { before = None } })
+    if nat_lt least l.lower then to (Activity.Rebalance (Rebalance.Replace Replace.Next)) (record l { rebalance = record l.rebalance { least = least } })
+    else to (Activity.Rebalance (Rebalance.Replace Replace.First)) (record l { rebalance = record l.rebalance { before = None } })
 
 -- the link leads to this row, and is marked or not: where that is the full row, it is replaced at
 -- this link, or the row in which the link stands is replaced before it
 abbrev pub row_before : Option ℕ → Bool → Local → Outcome
 row_before (Some r) marked l =
-    if r == l.row then (if marked then give_back MoveLeft l else to Replace l)
-    else to BeforeMin (record l { candidate = r })
+    if r == l.row then (if marked then give_back MoveLeft l else to (Activity.Rebalance (Rebalance.Replace Replace.Exchange)) l)
+    else to (Activity.Rebalance (Rebalance.Replace Replace.NextLeast)) (record l { candidate = r })
 row_before None marked l = give_back TryAgain l
 
--- BeforeLink
+-- Replace::Next
 abbrev pub link_before : Option Link → Local → Outcome
 link_before (Some link) l = row_before link.row link.marked l
 link_before None l = give_back TryAgain l
 
--- BeforeMin: the walk goes on as long as the least key is below that of the full row
+-- Replace::NextLeast: the walk goes on as long as the least key is below that of the full row
 abbrev pub least_before : ℕ → Local → Outcome
-least_before least l = if nat_lt least l.lower then to BeforeLink (at_before (Some l.candidate) least l) else give_back TryAgain l
+least_before least l = if nat_lt least l.lower then to (Activity.Rebalance (Rebalance.Replace Replace.Next)) (at_before (Some l.candidate) least l) else give_back TryAgain l
 
 -- the link that leads to the full row: that after the row before it, or the one to the first row
 abbrev pub replaced_link : Option ℕ → Name
@@ -88,7 +90,7 @@ first_infant l = slice_index l.rebalance.taken 0
 -- the link was found to lead to this row, and marked or not
 abbrev pub row_replaced : Option ℕ → Bool → Local → Outcome
 row_replaced (Some r) marked l =
-    if r == l.row then (if marked then give_back MoveLeft l else to Normalise (at_infant 0 l))
+    if r == l.row then (if marked then give_back MoveLeft l else to (Activity.Rebalance (Rebalance.Replace Replace.Normalise)) (at_infant 0 l))
     else give_back TryAgain l
 row_replaced None marked l = give_back TryAgain l
 
@@ -99,4 +101,4 @@ replaced None l = give_back TryAgain l
 
 -- Normalise: the next of the new rows, and after all of them the number of the full row
 abbrev pub normalised : Local → Outcome
-normalised l = if has_more l then to Normalise (at_infant (l.rebalance.at + 1) l) else to Number l
+normalised l = if has_more l then to (Activity.Rebalance (Rebalance.Replace Replace.Normalise)) (at_infant (l.rebalance.at + 1) l) else to (Activity.Rebalance (Rebalance.Replace Replace.Number)) l

@@ -22,10 +22,15 @@ use Rattle.kw_model.specs.declared.call.Call.TheVariants.{Put, Del, Get, Scan}
 use Rattle.kw_world.specs.declared.answer.Answer.{Answer}
 use Rattle.kw_world.specs.declared.answer.Answer.TheVariants.{Value}
 use Rattle.kw_world.specs.declared.activity.Activity.{Activity}
-use Rattle.kw_world.specs.declared.activity.Activity.TheVariants.{Idle, Look, LookKey, LookClock, LookHelp, ClearScan, Leave, BalNormal, MarkLink, Decide, FreezeLook, Freeze, ScanLook, HelpDraw, HelpSettle, SeekFirst, Seek, SeekPass, Reclaim, TakeRow, WritePend, WriteKey, WriteValue, WriteVersion, WriteAfter}
+use Rattle.kw_world.specs.declared.activity.rebalance.engage.Engage.TheVariants as Engage
+use Rattle.kw_world.specs.declared.activity.rebalance.freeze.Freeze.TheVariants as Freeze
+use Rattle.kw_world.specs.declared.activity.look.Look.TheVariants as Look
+use Rattle.kw_world.specs.declared.activity.rebalance.Rebalance.TheVariants as Rebalance
+use Rattle.kw_world.specs.declared.activity.rebalance.seek.Seek.TheVariants as Seek
+use Rattle.kw_world.specs.declared.activity.rebalance.write.Write.TheVariants as Write
 use Rattle.kw_world.specs.declared.local.Local.{Local}
 use Rattle.kw_world.specs.declared.marks.Mark.{Mark}
-use Rattle.kw_world.specs.declared.rebalance.Rebalance.{Rebalance}
+use Rattle.kw_world.specs.declared.rebalance.Rebalancing.{Rebalancing}
 use Rattle.kw_world.specs.declared.event.Event.{Event}
 use Rattle.kw_world.specs.declared.event.Choice.{Choice}
 use Rattle.kw_world.specs.declared.event.Choice.TheVariants.{Begin, Go, Guess, Stop}
@@ -153,23 +158,23 @@ IsAnswer _ = Unit {0}
 
 -- the seat, the cell, the value or the number of rows that an activity names is in range
 abbrev pub IsActivity : Sizes → Activity → Type 0
-IsActivity z (Look i) = i < z.seats
-IsActivity z (ClearScan answer) = IsAnswer answer
-IsActivity z (Leave answer) = IsAnswer answer
-IsActivity z (BalNormal seat) = seat < z.seats
-IsActivity z (MarkLink count) = count ≤ MOST_GROUP
-IsActivity z (Decide count) = count ≤ MOST_GROUP
-IsActivity z (FreezeLook i) = i < z.seats
-IsActivity z (Freeze i) = i < z.seats
-IsActivity z (ScanLook i) = i < z.seats
-IsActivity z (HelpDraw i) = i < z.seats
-IsActivity z (HelpSettle i) = i < z.seats
-IsActivity z (SeekPass i) = i < z.seats
-IsActivity z (WritePend i) = i < z.seats
-IsActivity z (WriteKey j) = j < z.cells
-IsActivity z (WriteValue j) = j < z.cells
-IsActivity z (WriteVersion j) = j < z.cells
-IsActivity z (WriteAfter j) = j < z.cells
+IsActivity z (Activity.Look (Look.Entry i)) = i < z.seats
+IsActivity z (Activity.EndScan answer) = IsAnswer answer
+IsActivity z (Activity.Leave answer) = IsAnswer answer
+IsActivity z (Activity.Rebalance (Rebalance.Engage (Engage.Normal seat))) = seat < z.seats
+IsActivity z (Activity.Rebalance (Rebalance.Engage (Engage.MarkLink count))) = count ≤ MOST_GROUP
+IsActivity z (Activity.Rebalance (Rebalance.Engage (Engage.Decide count))) = count ≤ MOST_GROUP
+IsActivity z (Activity.Rebalance (Rebalance.Freeze (Freeze.Look i))) = i < z.seats
+IsActivity z (Activity.Rebalance (Rebalance.Freeze (Freeze.Entry i))) = i < z.seats
+IsActivity z (Activity.Rebalance (Rebalance.Freeze (Freeze.Scan i))) = i < z.seats
+IsActivity z (Activity.Rebalance (Rebalance.Freeze (Freeze.Draw i))) = i < z.seats
+IsActivity z (Activity.Rebalance (Rebalance.Freeze (Freeze.Settle i))) = i < z.seats
+IsActivity z (Activity.Rebalance (Rebalance.Seek (Seek.Pass i))) = i < z.seats
+IsActivity z (Activity.Rebalance (Rebalance.Write (Write.Entry i))) = i < z.seats
+IsActivity z (Activity.Rebalance (Rebalance.Write (Write.Key j))) = j < z.cells
+IsActivity z (Activity.Rebalance (Rebalance.Write (Write.Value j))) = j < z.cells
+IsActivity z (Activity.Rebalance (Rebalance.Write (Write.Version j))) = j < z.cells
+IsActivity z (Activity.Rebalance (Rebalance.Write (Write.After j))) = j < z.cells
 IsActivity z _ = Unit {0}
 
 -- the cell, if there is one, is one of the row's
@@ -190,7 +195,7 @@ abbrev pub IsPlaced : Sizes → kw_cell.Cell → Type 0
 IsPlaced z c = c.place < z.cells
 
 -- what a seat knows of its rebalance is in range; rows aside
-pub record IsRebalance (z : Sizes) (b : Rebalance) : Type 0 where
+pub record IsRebalance (z : Sizes) (b : Rebalancing) : Type 0 where
   pub entry : IsEntry z (Some b.entry)
   pub marks : All (IsMark z) b.marks
   pub waiting : IsVersion b.waiting
@@ -233,7 +238,7 @@ pub record IsLocal (z : Sizes) (l : Local) : Type 0 where
   pub rebalance : IsRebalance z l.rebalance
 
 -- the rows that a seat knows of its rebalance are those of the table
-pub record IsRebalanceBelow (rows : ℕ) (b : Rebalance) : Type 0 where
+pub record IsRebalanceBelow (rows : ℕ) (b : Rebalancing) : Type 0 where
   pub after : IsRowBelow rows b.after
   pub taken : All (λ r. r < rows) b.taken
   pub sought : b.sought < rows
@@ -249,38 +254,36 @@ pub record IsLocalBelow (rows : ℕ) (l : Local) : Type 0 where
 
 -- as many cells may be remembered where a seat does this: one for each entry that it has looked at
 abbrev pub marks_by : Sizes → Activity → Local → ℕ
-marks_by z (Look i) l = i
-marks_by z LookKey l = l.looked
-marks_by z LookClock l = l.looked
-marks_by z LookHelp l = l.looked
+marks_by z (Activity.Look (Look.Entry i)) l = i
+marks_by z (Activity.Look _) l = l.looked
 marks_by z _ l = z.seats
 
 -- as many cells may be remembered of a full row where a seat does this: one for each entry that it
 -- has looked at
 abbrev pub frozen_by : Sizes → Activity → ℕ
-frozen_by z (FreezeLook i) = i
-frozen_by z (Freeze i) = i
+frozen_by z (Activity.Rebalance (Rebalance.Freeze (Freeze.Look i))) = i
+frozen_by z (Activity.Rebalance (Rebalance.Freeze (Freeze.Entry i))) = i
 frozen_by z _ = z.seats
 
 -- as many versions may be needed where a seat does this: one for each scan that it has looked at
 abbrev pub needed_by : Sizes → Activity → ℕ
-needed_by z (ScanLook i) = i
-needed_by z (HelpDraw i) = i
-needed_by z (HelpSettle i) = i
+needed_by z (Activity.Rebalance (Rebalance.Freeze (Freeze.Scan i))) = i
+needed_by z (Activity.Rebalance (Rebalance.Freeze (Freeze.Draw i))) = i
+needed_by z (Activity.Rebalance (Rebalance.Freeze (Freeze.Settle i))) = i
 needed_by z _ = z.seats
 
 -- a seat that does this may take one more row
 abbrev pub IsTakingRows : Activity → Type 0
-IsTakingRows SeekFirst = Unit {0}
-IsTakingRows Seek = Unit {0}
-IsTakingRows (SeekPass i) = Unit {0}
-IsTakingRows Reclaim = Unit {0}
-IsTakingRows TakeRow = Unit {0}
+IsTakingRows (Activity.Rebalance (Rebalance.Seek Seek.First)) = Unit {0}
+IsTakingRows (Activity.Rebalance (Rebalance.Seek Seek.Next)) = Unit {0}
+IsTakingRows (Activity.Rebalance (Rebalance.Seek (Seek.Pass i))) = Unit {0}
+IsTakingRows (Activity.Rebalance (Rebalance.Seek Seek.Reclaim)) = Unit {0}
+IsTakingRows (Activity.Rebalance (Rebalance.Seek Seek.Take)) = Unit {0}
 IsTakingRows _ = ⊥
 
 -- the lists of a rebalance have room for what its next event adds, and no more cells are gathered
 -- than a row has
-pub record HasRebalanceRoom (z : Sizes) (a : Activity) (b : Rebalance) : Type 0 where
+pub record HasRebalanceRoom (z : Sizes) (a : Activity) (b : Rebalancing) : Type 0 where
   pub marks : length b.marks ≤ frozen_by z a
   pub needed : length b.needed ≤ needed_by z a
   pub gathered : length b.gathered ≤ z.cells
@@ -314,7 +317,7 @@ pub record IsSane (z : Sizes) (w : WorldView) : Type 0 where
 -- idle seat alone begins one: to any other one the choice to begin counts as `Go`, whatever call it
 -- names
 abbrev pub CanBeginAt : Activity → Choice → Local → Type 0
-CanBeginAt Idle (Begin call) l = IsCall (Some call) × (l.number < MOST_CALLS)
+CanBeginAt Activity.Idle (Begin call) l = IsCall (Some call) × (l.number < MOST_CALLS)
 CanBeginAt _ choice l = Unit {0}
 
 -- the same of a seat that knows l

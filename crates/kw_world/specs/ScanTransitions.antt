@@ -7,7 +7,10 @@ use Rattle.kw_model.specs.declared.call.Call.{Call}
 use Rattle.kw_model.specs.declared.call.Call.TheVariants.{Put, Del, Get, Scan}
 use Rattle.kw_world.specs.declared.answer.Answer.{Answer}
 use Rattle.kw_world.specs.declared.answer.Answer.TheVariants.{Pairs, Spent, Stopped}
-use Rattle.kw_world.specs.declared.activity.Activity.TheVariants.{Enter, ScanClock, ScanWait, Start, ClearScan}
+use Rattle.kw_world.specs.declared.activity.Activity.TheVariants as Activity
+use Rattle.kw_world.specs.declared.activity.draw.Draw.TheVariants as Draw
+use Rattle.kw_world.specs.declared.activity.enter.Enter.TheVariants as Enter
+use Rattle.kw_world.specs.declared.activity.walk.Walk.TheVariants as Walk
 use Rattle.kw_world.specs.declared.local.Local.{Local}
 use Rattle.kw_world.specs.declared.event.Choice.{Choice}
 use Rattle.kw_world.specs.declared.event.Choice.TheVariants.{Begin, Go, Guess, Stop}
@@ -18,41 +21,41 @@ use Rattle.kw_world.specs.Transition.{Outcome, outcome, to, leave}
 -- Idle: the call is begun, and counted. An event with another choice is skipped, and never comes to
 -- this line
 abbrev pub begun : Choice → ℕ → Local → Outcome
-begun (Begin call) epoch l = to Enter (record l { call = Some call; number = l.number + 1; epoch = epoch })
+begun (Begin call) epoch l = to (Activity.Enter Enter.Announce) (record l { call = Some call; number = l.number + 1; epoch = epoch })
 begun Go epoch l = outcome l Skipped
 begun (Guess r) epoch l = outcome l Skipped
 begun Stop epoch l = outcome l Skipped
 
 -- Start, with the key that is wanted first
 abbrev pub to_start : Local → Outcome
-to_start l = to Start (record l { want = first_key l.call })
+to_start l = to (Activity.Walk Walk.Start) (record l { want = first_key l.call })
 
 -- Enter: a scan gets its version first
 abbrev pub entered : Option Call → Local → Outcome
 entered (Some (Put key value)) l = to_start l
 entered (Some (Del key)) l = to_start l
 entered (Some (Get key)) l = to_start l
-entered (Some (Scan from upto)) l = to ScanClock l
+entered (Some (Scan from upto)) l = to (Activity.Draw Draw.Clock) l
 entered None l = to_start l
 
--- ScanClock: from a certain clock on no scan begins
+-- Draw::Clock: from a certain clock on no scan begins
 abbrev pub clock_met : ℕ → Local → Outcome
-clock_met clock l = if nat_le SPENT clock then leave Spent l else to ScanWait (record l { waiting = clock })
+clock_met clock l = if nat_le SPENT clock then leave Spent l else to (Activity.Draw Draw.Wait) (record l { waiting = clock })
 
--- ScanSettle: the version that was set for the scan, else its own
+-- Draw::Settle: the version that was set for the scan, else its own
 abbrev pub version_settled : Option ScanWord → ℕ → ℕ
 version_settled (Some Quiet) drawn = drawn
 version_settled (Some (Waiting clock)) drawn = drawn
 version_settled (Some (Drawn version)) drawn = version
 version_settled None drawn = drawn
 
--- ScanSettle: a scan of no keys is over, and every other one begins its walk
+-- Draw::Settle: a scan of no keys is over, and every other one begins its walk
 abbrev pub settled : ℕ → Local → Outcome
 settled version l =
-    if is_range_empty l.call then to (ClearScan Pairs) (record l { version = version })
+    if is_range_empty l.call then to (Activity.EndScan Pairs) (record l { version = version })
     else to_start (record l { version = version })
 
--- ClearScan(x): the answer, unless the scan is stopped here
+-- EndScan(x): the answer, unless the scan is stopped here
 abbrev pub answer_or_stopped : Answer → Choice → Answer
 answer_or_stopped answer (Begin call) = answer
 answer_or_stopped answer Go = answer

@@ -10,7 +10,10 @@ use Rattle.kw_words.specs.declared.state.State.{State}
 use Rattle.kw_words.specs.declared.state.State.TheVariants.{Free, Infant, Normal, Leader, Follower, Retired}
 use Rattle.kw_words.specs.State.{state_of}
 use Rattle.kw_world.specs.declared.answer.Answer.TheVariants.{NoRows}
-use Rattle.kw_world.specs.declared.activity.Activity.TheVariants.{Seek, SeekPass, Reclaim, TakeRow, GiveBack, WriteCount}
+use Rattle.kw_world.specs.declared.activity.Activity.TheVariants as Activity
+use Rattle.kw_world.specs.declared.activity.rebalance.Rebalance.TheVariants as Rebalance
+use Rattle.kw_world.specs.declared.activity.rebalance.seek.Seek.TheVariants as Seek
+use Rattle.kw_world.specs.declared.activity.rebalance.write.Write.TheVariants as Write
 use Rattle.kw_world.specs.declared.local.Local.{Local}
 use Rattle.kw_world.specs.declared.rebalance.Afterwards.{Afterwards}
 use Rattle.kw_world.specs.declared.rebalance.Afterwards.TheVariants.{TryAgain, Refuse, MoveLeft}
@@ -45,11 +48,11 @@ given_back MoveLeft l = to_rebalance (moved_left l)
 
 -- the taken rows are given back, one by one, and then this follows
 abbrev pub give_back : Afterwards → Local → Outcome
-give_back a l = if nat_lt 0 (length l.rebalance.taken) then to GiveBack (record l { rebalance = record l.rebalance { at = 0; afterwards = a } }) else given_back a l
+give_back a l = if nat_lt 0 (length l.rebalance.taken) then to (Activity.Rebalance (Rebalance.Seek Seek.GiveBack)) (record l { rebalance = record l.rebalance { at = 0; afterwards = a } }) else given_back a l
 
--- GiveBack: the next of them
+-- Seek::GiveBack: the next of them
 abbrev pub gave_back : Local → Outcome
-gave_back l = if has_more l then to GiveBack (at_infant (l.rebalance.at + 1) l) else given_back l.rebalance.afterwards l
+gave_back l = if has_more l then to (Activity.Rebalance (Rebalance.Seek Seek.GiveBack)) (at_infant (l.rebalance.at + 1) l) else given_back l.rebalance.afterwards l
 
 -- the row after a row, round the table
 abbrev pub row_behind : ℕ → ℕ → ℕ
@@ -58,7 +61,7 @@ row_behind rows r = if nat_lt (r + 1) rows then r + 1 else 0
 -- the next row is asked, until all rows were
 abbrev pub to_seek : ℕ → Local → Outcome
 to_seek rows l =
-    if nat_lt l.rebalance.asked rows then to Seek (record l { rebalance = record l.rebalance { sought = row_behind rows l.rebalance.sought; asked = l.rebalance.asked + 1 } })
+    if nat_lt l.rebalance.asked rows then to (Activity.Rebalance (Rebalance.Seek Seek.Next)) (record l { rebalance = record l.rebalance { sought = row_behind rows l.rebalance.sought; asked = l.rebalance.asked + 1 } })
     else give_back Refuse l
 
 -- the number of the retired row that is asked for is known
@@ -67,17 +70,17 @@ numbered number l = record l { rebalance = record l.rebalance { number = number 
 
 -- the pass of this seat is looked at; once all are, the row is freed
 abbrev pub to_pass : Sizes → ℕ → Local → Outcome
-to_pass z i l = if nat_lt i z.seats then to (SeekPass i) l else to Reclaim l
+to_pass z i l = if nat_lt i z.seats then to (Activity.Rebalance (Rebalance.Seek (Seek.Pass i))) l else to (Activity.Rebalance (Rebalance.Seek Seek.Reclaim)) l
 
 -- Seek: a free row is taken, at a retired one the passes are looked at, and every other one is
 -- passed over
 abbrev pub seek_met : ℕ → Option State → Local → Outcome
-seek_met rows (Some Free) l = to TakeRow l
+seek_met rows (Some Free) l = to (Activity.Rebalance (Rebalance.Seek Seek.Take)) l
 seek_met rows (Some (Infant seat)) l = to_seek rows l
 seek_met rows (Some Normal) l = to_seek rows l
 seek_met rows (Some (Leader count)) l = to_seek rows l
 seek_met rows (Some (Follower leader)) l = to_seek rows l
-seek_met rows (Some (Retired number)) l = to (SeekPass 0) (numbered number l)
+seek_met rows (Some (Retired number)) l = to (Activity.Rebalance (Rebalance.Seek (Seek.Pass 0))) (numbered number l)
 seek_met rows None l = to_seek rows l
 
 -- this row is asked
@@ -88,14 +91,14 @@ seeking r l = record l { rebalance = record l.rebalance { sought = r } }
 abbrev pub seek_transition : ℕ → Local → Transition
 seek_transition r l = at_rows kind.LoadState (name.State r) Load (λ rows w. seek_met rows (state_of w) (seeking r l))
 
--- SeekFirst
+-- Seek::First
 abbrev pub seek_first_transition : Choice → Local → Transition
 seek_first_transition (Begin call) l = seek_transition l.rebalance.sought l
 seek_first_transition Go l = seek_transition l.rebalance.sought l
 seek_first_transition (Guess r) l = seek_transition r l
 seek_first_transition Stop l = seek_transition l.rebalance.sought l
 
--- SeekPass: a seat that announces an epoch up to the number may have entered before the row went,
+-- Seek::Pass: a seat that announces an epoch up to the number may have entered before the row went,
 -- and keeps it from being used; any other seat does not
 abbrev pub pass_met : Sizes → ℕ → ℕ → Option ℕ → Local → Outcome
 pass_met z i rows (Some epoch) l = if nat_le epoch l.rebalance.number then to_seek rows l else to_pass z (i + 1) l
@@ -107,9 +110,9 @@ with_row l = record l { rebalance = record l.rebalance { taken = l.rebalance.tak
 
 -- enough rows are taken once there is one for each start
 abbrev pub row_taken : ℕ → Local → Outcome
-row_taken rows l = if nat_lt (length l.rebalance.taken) (length l.rebalance.starts) then to_seek rows l else to WriteCount (at_infant 0 l)
+row_taken rows l = if nat_lt (length l.rebalance.taken) (length l.rebalance.starts) then to_seek rows l else to (Activity.Rebalance (Rebalance.Write Write.Count)) (at_infant 0 l)
 
--- TakeRow: the exchange was made, or somebody else took the row
+-- Seek::Take: the exchange was made, or somebody else took the row
 abbrev pub take_row : ℕ → Bool → Local → Outcome
 take_row rows true l = row_taken rows (with_row l)
 take_row rows false l = to_seek rows l

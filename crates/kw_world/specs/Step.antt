@@ -4,7 +4,6 @@ use Rattle.kw_words.specs.declared.layout.Name.{Name}
 use Rattle.kw_words.specs.declared.kind.Kind.{Kind}
 use Rattle.kw_words.specs.Layout.{place_of}
 use Rattle.kw_world.specs.declared.activity.Activity.{Activity}
-use Rattle.kw_world.specs.declared.activity.Activity.TheVariants.{Idle}
 use Rattle.kw_world.specs.declared.local.Local.{Local}
 use Rattle.kw_world.specs.declared.event.Event.{Event}
 use Rattle.kw_world.specs.declared.event.Choice.{Choice}
@@ -45,10 +44,10 @@ after z w s t = record {
 
 -- the event is skipped: the seat is idle, and begins nothing
 abbrev pub is_skipped : Activity → Choice → Bool
-is_skipped Idle (Begin call) = false
-is_skipped Idle Go = true
-is_skipped Idle (Guess r) = true
-is_skipped Idle Stop = true
+is_skipped Activity.Idle (Begin call) = false
+is_skipped Activity.Idle Go = true
+is_skipped Activity.Idle (Guess r) = true
+is_skipped Activity.Idle Stop = true
 is_skipped _ choice = false
 
 -- the event is skipped, of a seat of this world

@@ -7,7 +7,10 @@ use Rattle.std.specs.Prelude.{ℕ, nat_lt, if◌then◌else◌, Option, Some, No
 use Rattle.kw_cells.specs.Kept.{kept_of}
 use Rattle.kw_cells.specs.Cuts.{starts_of}
 use Rattle.kw_cells.specs.InOrder.{with_cell}
-use Rattle.kw_world.specs.declared.activity.Activity.TheVariants.{TakeFrom, TakeKey, TakeValue, TakeRestKey, SeekFirst}
+use Rattle.kw_world.specs.declared.activity.Activity.TheVariants as Activity
+use Rattle.kw_world.specs.declared.activity.rebalance.gather.Gather.TheVariants as Gather
+use Rattle.kw_world.specs.declared.activity.rebalance.Rebalance.TheVariants as Rebalance
+use Rattle.kw_world.specs.declared.activity.rebalance.seek.Seek.TheVariants as Seek
 use Rattle.kw_world.specs.declared.local.Local.{Local}
 use Rattle.kw_world.specs.declared.marks.Mark.{Mark}
 use Rattle.kw_world.specs.Sizes.{Sizes}
@@ -18,7 +21,7 @@ use Rattle.kw_world.specs.Transition.{Outcome, to}
 
 -- the walk begins at the row's first link, and no cell is gathered
 abbrev pub to_take : Local → Outcome
-to_take l = to TakeFrom (record (at_first l) { rebalance = record l.rebalance { gathered = [] } })
+to_take l = to (Activity.Rebalance (Rebalance.Gather Gather.Link)) (record (at_first l) { rebalance = record l.rebalance { gathered = [] } })
 
 -- which cells the new rows get, and where each row starts among them; no row is taken as yet, and
 -- row 0 is asked first
@@ -37,8 +40,8 @@ planned z l = record l {
 -- a remembered cell of the least place is read, and remembered no more; where none is left, all
 -- cells are gathered: the plan is made, and the search for new rows begins
 abbrev pub left_of : Sizes → Option Mark → Local → Outcome
-left_of z (Some m) l = to TakeRestKey (record l { place = m.cell; place_version = m.version; rebalance = record l.rebalance { marks = unmarked m.cell l.rebalance.marks } })
-left_of z None l = to SeekFirst (planned z l)
+left_of z (Some m) l = to (Activity.Rebalance (Rebalance.Gather Gather.LeftOverKey)) (record l { place = m.cell; place_version = m.version; rebalance = record l.rebalance { marks = unmarked m.cell l.rebalance.marks } })
+left_of z None l = to (Activity.Rebalance (Rebalance.Seek Seek.First)) (planned z l)
 
 -- the remembered cells that were not met are left
 abbrev pub to_left : Sizes → Local → Outcome
@@ -48,14 +51,14 @@ to_left z l = left_of z (least_mark l.rebalance.marks) l
 abbrev pub taking : Sizes → ℕ → Local → Local
 taking z cell l = record l { place = cell; walked = one_more z l.walked; rebalance = record l.rebalance { marks = unmarked cell l.rebalance.marks } }
 
--- TakeFrom: the link leads to a cell, which is met, or the list is at its end
+-- Gather::Link: the link leads to a cell, which is met, or the list is at its end
 abbrev pub take_met : Sizes → Option ℕ → Local → Outcome
-take_met z (Some cell) l = to TakeKey (taking z cell l)
+take_met z (Some cell) l = to (Activity.Rebalance (Rebalance.Gather Gather.Key)) (taking z cell l)
 take_met z None l = to_left z l
 
--- TakeVersion: a cell without a version, of which no list has one, counts as one of version 1
+-- Gather::Version: a cell without a version, of which no list has one, counts as one of version 1
 abbrev pub take_version : Option ℕ → Local → Outcome
-take_version version l = to TakeValue (record l { place_version = unwrap_or version 1 })
+take_version version l = to (Activity.Rebalance (Rebalance.Gather Gather.Value)) (record l { place_version = unwrap_or version 1 })
 
 -- the cell is gathered: put among those that were, in the order of the list. A row has no more
 -- cells than are gathered
@@ -68,4 +71,4 @@ keeping z value l = record l {
 
 -- the walk goes on past the cell that it met
 abbrev pub take_past : Local → Outcome
-take_past l = to TakeFrom (past_cell l)
+take_past l = to (Activity.Rebalance (Rebalance.Gather Gather.Link)) (past_cell l)

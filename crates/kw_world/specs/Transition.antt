@@ -5,7 +5,6 @@ use Rattle.kw_words.specs.declared.layout.Name.{Name}
 use Rattle.kw_words.specs.declared.kind.Kind.{Kind}
 use Rattle.kw_words.specs.declared.link.Link.{Link}
 use Rattle.kw_world.specs.declared.activity.Activity.{Activity}
-use Rattle.kw_world.specs.declared.activity.Activity.TheVariants.{Leave}
 use Rattle.kw_world.specs.declared.answer.Answer.{Answer}
 use Rattle.kw_world.specs.declared.local.Local.{Local}
 use Rattle.kw_world.specs.declared.event.StepDone.{StepDone}
@@ -44,7 +43,7 @@ to a l = outcome (record l { activity = a }) Moved
 
 -- the seat is about to leave with this answer, and forgets every row
 abbrev pub leave : Answer → Local → Outcome
-leave answer l = to (Leave answer) (without_rows l)
+leave answer l = to (Activity.Leave answer) (without_rows l)
 
 -- the call has ended with this answer, and with the pairs that the seat has: it is idle, and knows
 -- how many calls it has begun

@@ -11,7 +11,10 @@ use Rattle.kw_words.specs.Scan.{scan_word}
 use Rattle.kw_model.specs.declared.call.Call.{Call}
 use Rattle.kw_model.specs.declared.call.Call.TheVariants.{Put, Del, Get, Scan}
 use Rattle.kw_world.specs.declared.answer.Answer.TheVariants.{Stopped}
-use Rattle.kw_world.specs.declared.activity.Activity.TheVariants.{Head, GuessMin, Walk, WalkMin, Look, PutCount}
+use Rattle.kw_world.specs.declared.activity.Activity.TheVariants as Activity
+use Rattle.kw_world.specs.declared.activity.look.Look.TheVariants as Look
+use Rattle.kw_world.specs.declared.activity.put.Put.TheVariants as Put
+use Rattle.kw_world.specs.declared.activity.walk.Walk.TheVariants as Walk
 use Rattle.kw_world.specs.declared.local.Local.{Local}
 use Rattle.kw_world.specs.declared.event.Choice.{Choice}
 use Rattle.kw_world.specs.declared.event.Choice.TheVariants.{Begin, Go, Guess, Stop}
@@ -29,18 +32,18 @@ offered rows Stop = Stop
 
 -- Head, and Start without a guess: the walk begins at the first row, whose minimum is 0
 abbrev pub head_transition : Local → Transition
-head_transition l = at kind.LoadHead name.Head Load (λ w. to Walk (record l { row = row_or_first (row_linked (link_of w)); lower = 0 }))
+head_transition l = at kind.LoadHead name.Head Load (λ w. to (Activity.Walk Walk.Next) (record l { row = row_or_first (row_linked (link_of w)); lower = 0 }))
 
 -- Start with a guess: a row in the normal state is taken, and every other one sends the walk to the
 -- first row
 abbrev pub guess_met : ℕ → Option State → Local → Outcome
-guess_met r (Some Free) l = to Head l
-guess_met r (Some (Infant seat)) l = to Head l
-guess_met r (Some Normal) l = to GuessMin (record l { row = r })
-guess_met r (Some (Leader count)) l = to Head l
-guess_met r (Some (Follower leader)) l = to Head l
-guess_met r (Some (Retired number)) l = to Head l
-guess_met r None l = to Head l
+guess_met r (Some Free) l = to (Activity.Walk Walk.First) l
+guess_met r (Some (Infant seat)) l = to (Activity.Walk Walk.First) l
+guess_met r (Some Normal) l = to (Activity.Walk Walk.GuessedLeast) (record l { row = r })
+guess_met r (Some (Leader count)) l = to (Activity.Walk Walk.First) l
+guess_met r (Some (Follower leader)) l = to (Activity.Walk Walk.First) l
+guess_met r (Some (Retired number)) l = to (Activity.Walk Walk.First) l
+guess_met r None l = to (Activity.Walk Walk.First) l
 
 -- Start
 abbrev pub start_transition : Choice → Local → Transition
@@ -49,28 +52,28 @@ start_transition Go l = head_transition l
 start_transition (Guess r) l = at kind.LoadState (name.State r) Load (λ w. guess_met r (state_of w) l)
 start_transition Stop l = head_transition l
 
--- GuessMin: the guessed row serves if the wanted key is not below its minimum
+-- Walk::GuessedLeast: the guessed row serves if the wanted key is not below its minimum
 abbrev pub guess_min : ℕ → Local → Outcome
-guess_min least l = if nat_le least l.want then to Walk (record l { lower = least }) else to Head l
+guess_min least l = if nat_le least l.want then to (Activity.Walk Walk.Next) (record l { lower = least }) else to (Activity.Walk Walk.First) l
 
 -- Arrive has no event: the walk has found the row of the wanted key
 abbrev pub arrive : Option Call → Local → Outcome
-arrive (Some (Put key value)) l = to PutCount l
-arrive (Some (Del key)) l = to PutCount l
-arrive (Some (Get key)) l = to (Look 0) (before_row l)
-arrive (Some (Scan from upto)) l = to (Look 0) (before_row l)
-arrive None l = to (Look 0) (before_row l)
+arrive (Some (Put key value)) l = to (Activity.Put Put.Count) l
+arrive (Some (Del key)) l = to (Activity.Put Put.Count) l
+arrive (Some (Get key)) l = to (Activity.Look (Look.Entry 0)) (before_row l)
+arrive (Some (Scan from upto)) l = to (Activity.Look (Look.Entry 0)) (before_row l)
+arrive None l = to (Activity.Look (Look.Entry 0)) (before_row l)
 
 -- Walk: the last row has no next one; else the minimum of the next one decides
 abbrev pub link_met : Option ℕ → Local → Outcome
 link_met None l = arrive l.call (record l { next = None; upper = 0 })
-link_met (Some r) l = to WalkMin (record l { candidate = r })
+link_met (Some r) l = to (Activity.Walk Walk.NextLeast) (record l { candidate = r })
 
--- WalkMin: the walk goes on to a row whose minimum is at most the wanted key, and else ends before
--- it
+-- Walk::NextLeast: the walk goes on to a row whose minimum is at most the wanted key, and else ends
+-- before it
 abbrev pub walk_min : ℕ → Local → Outcome
 walk_min least l =
-    if nat_le least l.want then to Walk (record l { row = l.candidate; lower = least })
+    if nat_le least l.want then to (Activity.Walk Walk.Next) (record l { row = l.candidate; lower = least })
     else arrive l.call (record l { next = Some l.candidate; upper = least })
 
 -- the choice is to stop

@@ -9,7 +9,10 @@ use Rattle.kw_words.specs.declared.count.Count.{Count}
 use Rattle.kw_words.specs.declared.link.Link.{Link}
 use Rattle.kw_cells.specs.declared.cell.Cell.{Cell}
 use Rattle.kw_cells.specs.Cuts.{end_of}
-use Rattle.kw_world.specs.declared.activity.Activity.TheVariants.{WriteCount, WritePend, WriteKey, WriteVersion, Before}
+use Rattle.kw_world.specs.declared.activity.Activity.TheVariants as Activity
+use Rattle.kw_world.specs.declared.activity.rebalance.Rebalance.TheVariants as Rebalance
+use Rattle.kw_world.specs.declared.activity.rebalance.replace.Replace.TheVariants as Replace
+use Rattle.kw_world.specs.declared.activity.rebalance.write.Write.TheVariants as Write
 use Rattle.kw_world.specs.declared.local.Local.{Local}
 use Rattle.kw_world.specs.Sizes.{Sizes}
 use Rattle.kw_world.specs.SeekTransitions.{at_infant, has_more}
@@ -89,14 +92,14 @@ version_in None = None
 
 -- the next new row is written, until all are
 abbrev pub row_written : Local → Outcome
-row_written l = if has_more l then to WriteCount (at_infant (l.rebalance.at + 1) l) else to Before l
+row_written l = if has_more l then to (Activity.Rebalance (Rebalance.Write Write.Count)) (at_infant (l.rebalance.at + 1) l) else to (Activity.Rebalance (Rebalance.Replace Replace.Start)) l
 
 -- this cell is written: its key first, and its version alone where the row has no cell for it
 abbrev pub to_write_cell : Sizes → ℕ → Local → Outcome
 to_write_cell z j l =
-    if nat_lt j z.cells then (if nat_lt j (length (infant_cells l)) then to (WriteKey j) l else to (WriteVersion j) l)
+    if nat_lt j z.cells then (if nat_lt j (length (infant_cells l)) then to (Activity.Rebalance (Rebalance.Write (Write.Key j))) l else to (Activity.Rebalance (Rebalance.Write (Write.Version j))) l)
     else row_written l
 
 -- this entry is written, and after all entries the cells
 abbrev pub to_write_entry : Sizes → ℕ → Local → Outcome
-to_write_entry z i l = if nat_lt i z.seats then to (WritePend i) l else to_write_cell z 0 l
+to_write_entry z i l = if nat_lt i z.seats then to (Activity.Rebalance (Rebalance.Write (Write.Entry i))) l else to_write_cell z 0 l

@@ -10,12 +10,14 @@ ghost use Rattle.kw_world.specs.WalkTransitions.{is_stopped};
 ghost use Rattle.kw_world.specs.Parts.{part_of};
 
 use crate::activity::Activity;
+use crate::activity::enter::Enter;
+use crate::activity::walk::Walk;
 use crate::calls::is_scan;
 use crate::event::Choice;
 use crate::gathered::Gathered;
 use crate::marks::Marks;
 use crate::part::Part;
-use crate::rebalance::Rebalance;
+use crate::rebalance::Rebalancing;
 use kw_model::call::Call;
 use kw_model::pair_list::PairList;
 use std::alloc::{AllocError, Global};
@@ -92,7 +94,7 @@ pub struct Local {
     pub tidies: bool,
 
     /// The rebalance that it makes.
-    pub rebalance: Rebalance,
+    pub rebalance: Rebalancing,
 }
 
 impl Clone for Local {
@@ -173,7 +175,7 @@ impl Local {
             walked: 0,
             lost: 0,
             tidies: false,
-            rebalance: Rebalance::none(),
+            rebalance: Rebalancing::none(),
         }
     }
 
@@ -246,57 +248,10 @@ impl Local {
         ensures { result ≡ part_of choice self.now }
     {
         match self.activity {
-            Activity::Walk if self.is_stopped(choice) => Part::Put,
-            Activity::Start
-            | Activity::Head
-            | Activity::GuessMin
-            | Activity::Walk
-            | Activity::WalkMin => Part::Rows,
-            Activity::Again
-            | Activity::AgainEpoch
-            | Activity::BalClock
-            | Activity::BalEpoch
-            | Activity::BalState
-            | Activity::BalNormal(_)
-            | Activity::Engage
-            | Activity::MarkLink(_)
-            | Activity::Decide(_)
-            | Activity::FreezeCount
-            | Activity::FreezeLook(_)
-            | Activity::Freeze(_)
-            | Activity::ScanLook(_)
-            | Activity::HelpDraw(_)
-            | Activity::HelpSettle(_)
-            | Activity::TakeFrom
-            | Activity::TakeKey
-            | Activity::TakeVersion
-            | Activity::TakeValue
-            | Activity::TakeRestKey
-            | Activity::TakeRestValue
-            | Activity::SeekFirst
-            | Activity::Seek
-            | Activity::SeekPass(_)
-            | Activity::Reclaim
-            | Activity::TakeRow
-            | Activity::GiveBack
-            | Activity::WriteCount
-            | Activity::WriteMin
-            | Activity::WriteNext
-            | Activity::WriteFirst
-            | Activity::WritePend(_)
-            | Activity::WriteKey(_)
-            | Activity::WriteValue(_)
-            | Activity::WriteVersion(_)
-            | Activity::WriteAfter(_)
-            | Activity::Before
-            | Activity::BeforeGuess
-            | Activity::BeforeHead
-            | Activity::BeforeLink
-            | Activity::BeforeMin
-            | Activity::Replace
-            | Activity::Normalise
-            | Activity::Number
-            | Activity::Retire => Part::Rebalance,
+            Activity::Walk(Walk::Next) if self.is_stopped(choice) => Part::Put,
+            Activity::Walk(_) => Part::Rows,
+            Activity::Retry | Activity::Enter(Enter::LoadEpoch) | Activity::Rebalance(_) =>
+                Part::Rebalance,
             _ => Part::Put,
         }
     }

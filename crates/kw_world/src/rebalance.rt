@@ -25,7 +25,7 @@ pub enum Afterwards {
 
 /// What one seat knows of the rebalance that it makes. Of no rebalance it knows nothing.
 #[derive(Debug, Drop)]
-pub struct Rebalance {
+pub struct Rebalancing {
     /// The row after the full one, to which its marked link leads; none where the full row is the
     /// last.
     pub after: Option<u32>,
@@ -65,14 +65,14 @@ pub struct Rebalance {
     pub afterwards: Afterwards,
 }
 
-impl Clone for Rebalance {
+impl Clone for Rebalancing {
     ghost use Rattle.std.specs.Prelude.{◌≡◌};
 
     ghost is_clone = { λ rebalance copy. copy ≡ rebalance };
 
     // Takes no memory.
-    fn clone(&self) -> Result<Rebalance, AllocError> {
-        Ok(Rebalance {
+    fn clone(&self) -> Result<Rebalancing, AllocError> {
+        Ok(Rebalancing {
             after: self.after,
             entry: self.entry,
             marks: self.marks.clone()?,
@@ -94,12 +94,12 @@ impl Clone for Rebalance {
     }
 }
 
-impl Rebalance {
+impl Rebalancing {
     /// Nothing of a rebalance.
-    pub fn none() -> Rebalance
+    pub fn none() -> Rebalancing
         ensures { result ≡ no_rebalance }
     {
-        Rebalance {
+        Rebalancing {
             after: None,
             entry: Pend::Idle,
             marks: Marks::new(),

@@ -1,7 +1,8 @@
 use Rattle.std.proofs.Common.{Some, arith, sym, subst}
 use Rattle.std.proofs.lemmas.List.Elements.{All-nil}
 use Rattle.kw_model.specs.declared.call.Call.TheVariants.{Scan}
-use Rattle.kw_world.specs.declared.activity.Activity.TheVariants.{RestVal}
+use Rattle.kw_world.specs.declared.activity.Activity.TheVariants as Activity
+use Rattle.kw_world.specs.declared.activity.read.Read.TheVariants as Read
 use Rattle.kw_world.specs.declared.local.Local.{Local}
 use Rattle.kw_world.specs.Local.{resting}
 use Rattle.kw_world.specs.Sane.{IsLocal, IsPair, IsMark, IsCopy}
@@ -11,7 +12,7 @@ use Rattle.kw_core_tests.proofs.put.at_a_value.Goals as goal
 
 -- the scan, from what an idle seat knows
 abbrev reading : Local → Local
-reading l = record l { activity = RestVal; call = Some (Scan 2 9); want = 2; version = 5; place_version = 3; place_key = 4 }
+reading l = record l { activity = Activity.Read Read.LeftOverValue; call = Some (Scan 2 9); want = 2; version = 5; place_version = 3; place_key = 4 }
 
 in_range : IsLocal product (reading (resting 0))
 in_range = record {

@@ -2,7 +2,8 @@ use Rattle.std.proofs.Common.{ℕ, ◌≡◌, ◌<◌, Some, length, slice_get, 
 use Rattle.std.proofs.lemmas.List.{length-replicate}
 use Rattle.std.proofs.lemmas.Option.{same_Some}
 use Rattle.kw_words.specs.Layout.{IsSized}
-use Rattle.kw_world.specs.declared.activity.Activity.TheVariants.{Start}
+use Rattle.kw_world.specs.declared.activity.Activity.TheVariants as Activity
+use Rattle.kw_world.specs.declared.activity.walk.Walk.TheVariants as Walk
 use Rattle.kw_world.specs.declared.local.Local.{Local}
 use Rattle.kw_world.specs.declared.opening.Opening.{Opening}
 use Rattle.kw_world.specs.declared.part.Part.TheVariants as part
@@ -22,7 +23,7 @@ small = record { rows = 3; seats = 2; clock = 7; epoch = 9 }
 
 -- a seat that is about to begin a walk, and knows nothing else
 abbrev starting : Local
-starting = record (resting 0) { activity = Start }
+starting = record (resting 0) { activity = Activity.Walk Walk.Start }
 
 starts_known : (z : Sizes) (rows : ℕ) → IsSized z.seats z.cells rows → IsKnown z rows starting
 starts_known z rows sized =
@@ -55,7 +56,7 @@ starts_known z rows sized =
         rebalance = k.ranges.rebalance;
       };
       below = record { row = k.below.row; candidate = k.below.candidate; next = k.below.next; rebalance = k.below.rebalance };
-      room = record { remembered = k.room.remembered; gathered = k.room.gathered; rebalance = none_room z Start (λ t. t) };
+      room = record { remembered = k.room.remembered; gathered = k.room.gathered; rebalance = none_room z (Activity.Walk Walk.Start) (λ t. t) };
     }
 
 -- what the seat knew at the opening
@@ -70,13 +71,13 @@ returns-clause-sane c =
     let w : WorldView = c.in_ok-world.world in
     let l : Local = c.local_mut.result.now in
     let sane : IsSane product w = c.in_ok-world.ensures.sane in
-    let known : IsKnown product w.rows (record l { activity = Start }) =
-    subst (λ (x : Local). IsKnown product w.rows (record x { activity = Start })) (sym (rested w l c.in_ok-world.ensures.world c.local_mut.ensures.value)) (starts_known product w.rows sane.sized) in
-    with_local-sane product w 1 (record l { activity = Start }) sane (inside w c.in_ok-world.ensures.world) known
+    let known : IsKnown product w.rows (record l { activity = Activity.Walk Walk.Start }) =
+    subst (λ (x : Local). IsKnown product w.rows (record x { activity = Activity.Walk Walk.Start })) (sym (rested w l c.in_ok-world.ensures.world c.local_mut.ensures.value)) (starts_known product w.rows sane.sized) in
+    with_local-sane product w 1 (record l { activity = Activity.Walk Walk.Start }) sane (inside w c.in_ok-world.ensures.world) known
 
 pub returns-clause-part : goal.returns-clause-part
 returns-clause-part c = λ choice k at.
     let w : WorldView = c.in_ok-world.world in
-    let l : Local = record c.local_mut.result.now { activity = Start } in
+    let l : Local = record c.local_mut.result.now { activity = Activity.Walk Walk.Start } in
     let is : l ≡ k = same_Some l k (sym (get-set_same w.locals 1 l (inside w c.in_ok-world.ensures.world)) ∙ at) in
     subst (λ (x : Local). part_of choice x ≡ part.Rows) is refl

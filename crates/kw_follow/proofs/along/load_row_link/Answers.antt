@@ -1,7 +1,8 @@
 use Rattle.std.proofs.Common.{ℕ, refl, subst}
 use Rattle.kw_words.specs.declared.kind.Kind.TheVariants as kind
 use Rattle.kw_words.specs.declared.layout.Name.TheVariants as name
-use Rattle.kw_world.specs.declared.activity.Activity.TheVariants.{Walk}
+use Rattle.kw_world.specs.declared.activity.Activity.TheVariants as Activity
+use Rattle.kw_world.specs.declared.activity.walk.Walk.TheVariants as Walk
 use Rattle.kw_world.specs.declared.event.Choice.TheVariants.{Go}
 use Rattle.kw_world.specs.declared.operation.Action.TheVariants.{Load}
 use Rattle.kw_table.specs.Passes.{operation, Asks}
@@ -10,4 +11,4 @@ use Rattle.kw_follow.proofs.PutEvents.{asks_at}
 use Rattle.kw_follow.proofs.along.load_row_link.Goals as goal
 
 pub load_link-requires : goal.load_link-requires
-load_link-requires c = subst (λ (row : ℕ). Asks c.args.shared.now c.args.pass.now Go (operation kind.LoadLink (name.Next row) Load)) c.requires.2 (asks_at _ _ (walking Walk c.requires.0) Walk c.requires.1 refl tt)
+load_link-requires c = subst (λ (row : ℕ). Asks c.args.shared.now c.args.pass.now Go (operation kind.LoadLink (name.Next row) Load)) c.requires.2 (asks_at _ _ (walking (Activity.Walk Walk.Next) c.requires.0) (Activity.Walk Walk.Next) c.requires.1 refl tt)

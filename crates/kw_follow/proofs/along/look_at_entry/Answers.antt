@@ -1,5 +1,6 @@
 use Rattle.std.proofs.Common.{refl, ◌∙◌, subst}
-use Rattle.kw_world.specs.declared.activity.Activity.TheVariants.{Look}
+use Rattle.kw_world.specs.declared.activity.Activity.TheVariants as Activity
+use Rattle.kw_world.specs.declared.activity.look.Look.TheVariants as Look
 use Rattle.kw_follow.specs.Following.{Follows}
 use Rattle.kw_follow.proofs.PutEvents.{next_at}
 use Rattle.kw_follow.proofs.WayEvents.{entry_below, entry_room}
@@ -15,4 +16,4 @@ pub meet_entry-done-requires-clause-room : goal.meet_entry-done-requires-clause-
 meet_entry-done-requires-clause-room c = entry_room _ _ c.args.local.now _ c.requires.follows c.requires.activity
 
 pub returns-clause-line : goal.returns-clause-line
-returns-clause-line c = c.meet_entry-done.ensures ∙ next_at _ (Look c.args.entry) c.args.local.now _ c.requires.activity
+returns-clause-line c = c.meet_entry-done.ensures ∙ next_at _ (Activity.Look (Look.Entry c.args.entry)) c.args.local.now _ c.requires.activity

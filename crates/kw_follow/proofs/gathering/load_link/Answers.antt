@@ -1,5 +1,7 @@
 use Rattle.std.proofs.Common.{refl, ◌∙◌}
-use Rattle.kw_world.specs.declared.activity.Activity.TheVariants.{TakeFrom}
+use Rattle.kw_world.specs.declared.activity.Activity.TheVariants as Activity
+use Rattle.kw_world.specs.declared.activity.rebalance.gather.Gather.TheVariants as Gather
+use Rattle.kw_world.specs.declared.activity.rebalance.Rebalance.TheVariants as Rebalance
 use Rattle.kw_follow.proofs.BuildEvents.{asks_taken_link, needed_few}
 use Rattle.kw_follow.proofs.OneEvent.{follows_ranges, follows_room}
 use Rattle.kw_follow.proofs.PutEvents.{next_at}
@@ -15,7 +17,7 @@ pub take_from-done-requires-clause-gathered : goal.take_from-done-requires-claus
 take_from-done-requires-clause-gathered c = (follows_room _ _ _ c.requires.follows).rebalance.gathered
 
 pub take_from-done-requires-clause-needed : goal.take_from-done-requires-clause-needed
-take_from-done-requires-clause-needed c = needed_few _ _ c.args.local.now c.requires.follows TakeFrom c.requires.activity refl
+take_from-done-requires-clause-needed c = needed_few _ _ c.args.local.now c.requires.follows (Activity.Rebalance (Rebalance.Gather Gather.Link)) c.requires.activity refl
 
 pub returns-clause-line : goal.returns-clause-line
-returns-clause-line c = c.take_from-done.ensures ∙ next_at _ TakeFrom c.args.local.now _ c.requires.activity
+returns-clause-line c = c.take_from-done.ensures ∙ next_at _ (Activity.Rebalance (Rebalance.Gather Gather.Link)) c.args.local.now _ c.requires.activity

@@ -21,4 +21,4 @@ pub returns-clause-calls : goal.returns-clause-calls
 returns-clause-calls c = keeps c.clear_version.ensures.makes (goes_stay _ (goes_in _ _ _ c.requires.follows (subst IsGoingOn (sym c.requires.over.1) tt)))
 
 pub unreachable-requires : goal.unreachable-requires
-unreachable-requires c = c.in_default.not-ClearScan c.requires.over.0 c.requires.over.1
+unreachable-requires c = c.in_default.not-EndScan c.requires.over.0 c.requires.over.1

@@ -1,5 +1,6 @@
 use Rattle.std.proofs.Common.{refl, ap, ◌∙◌}
-use Rattle.kw_world.specs.declared.activity.Activity.TheVariants.{Announce}
+use Rattle.kw_world.specs.declared.activity.Activity.TheVariants as Activity
+use Rattle.kw_world.specs.declared.activity.put.Put.TheVariants as Put
 use Rattle.kw_words.specs.declared.layout.Name.TheVariants.{Pend}
 use Rattle.kw_follow.proofs.PutEvents.{asks_exchanged, pending_fits, next_at}
 use Rattle.kw_follow.proofs.OneEvent.{follows_ranges}
@@ -9,7 +10,7 @@ pub pack-pending-requires : goal.pack-pending-requires
 pack-pending-requires c = pending_fits c.args.local.now (follows_ranges _ _ _ c.requires.follows)
 
 pub announce-told-requires : goal.announce-told-requires
-announce-told-requires c = asks_exchanged _ _ c.args.local.now Announce _ _ _ _ _ _ _ c.requires.follows c.requires.activity tt (ap (Pend c.args.local.now.row) c.number.ensures) c.pack-idle.ensures.value c.pack-pending.ensures.value refl
+announce-told-requires c = asks_exchanged _ _ c.args.local.now (Activity.Put Put.Announce) _ _ _ _ _ _ _ c.requires.follows c.requires.activity tt (ap (Pend c.args.local.now.row) c.number.ensures) c.pack-idle.ensures.value c.pack-pending.ensures.value refl
 
 pub returns-clause-line : goal.returns-clause-line
-returns-clause-line c = c.announce-done.ensures ∙ next_at _ Announce c.args.local.now _ c.requires.activity
+returns-clause-line c = c.announce-done.ensures ∙ next_at _ (Activity.Put Put.Announce) c.args.local.now _ c.requires.activity

@@ -1,5 +1,6 @@
 use Rattle.std.proofs.Common.{Some, refl, ◌∙◌}
-use Rattle.kw_world.specs.declared.activity.Activity.TheVariants.{Insert}
+use Rattle.kw_world.specs.declared.activity.Activity.TheVariants as Activity
+use Rattle.kw_world.specs.declared.activity.insert.Insert.TheVariants as Insert
 use Rattle.kw_follow.proofs.PutEvents.{asks_exchanged, next_at, cell_below}
 use Rattle.kw_follow.proofs.OneEvent.{follows_ranges}
 use Rattle.kw_follow.proofs.putting.exchange_link.Goals as goal
@@ -11,7 +12,7 @@ pub pack_cell_link-own-requires : goal.pack_cell_link-own-requires
 pack_cell_link-own-requires c = cell_below (Some c.args.local.now.cell) (follows_ranges _ _ _ c.requires.follows).cell
 
 pub insert-told-requires : goal.insert-told-requires
-insert-told-requires c = asks_exchanged _ _ c.args.local.now Insert _ _ _ _ _ _ _ c.requires.follows c.requires.activity tt c.link_name-link.ensures c.pack_cell_link-held.ensures.value c.pack_cell_link-own.ensures.value refl
+insert-told-requires c = asks_exchanged _ _ c.args.local.now (Activity.Insert Insert.Exchange) _ _ _ _ _ _ _ c.requires.follows c.requires.activity tt c.link_name-link.ensures c.pack_cell_link-held.ensures.value c.pack_cell_link-own.ensures.value refl
 
 pub insert-done-requires-clause-held : goal.insert-done-requires-clause-held
 insert-done-requires-clause-held c = (follows_ranges _ _ _ c.requires.follows).held
@@ -20,4 +21,4 @@ pub insert-done-requires-clause-lost : goal.insert-done-requires-clause-lost
 insert-done-requires-clause-lost c = (follows_ranges _ _ _ c.requires.follows).lost
 
 pub returns-clause-line : goal.returns-clause-line
-returns-clause-line c = c.insert-done.ensures ∙ next_at _ Insert c.args.local.now _ c.requires.activity
+returns-clause-line c = c.insert-done.ensures ∙ next_at _ (Activity.Insert Insert.Exchange) c.args.local.now _ c.requires.activity

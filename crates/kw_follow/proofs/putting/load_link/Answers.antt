@@ -1,5 +1,6 @@
 use Rattle.std.proofs.Common.{◌∙◌}
-use Rattle.kw_world.specs.declared.activity.Activity.TheVariants.{InsFrom}
+use Rattle.kw_world.specs.declared.activity.Activity.TheVariants as Activity
+use Rattle.kw_world.specs.declared.activity.insert.Insert.TheVariants as Insert
 use Rattle.kw_follow.proofs.PutEvents.{asks_link, next_at}
 use Rattle.kw_follow.proofs.OneEvent.{follows_ranges}
 use Rattle.kw_follow.proofs.putting.load_link.Goals as goal
@@ -11,4 +12,4 @@ pub insert_from-done-requires : goal.insert_from-done-requires
 insert_from-done-requires c = (follows_ranges _ _ _ c.requires.follows).walked
 
 pub returns-clause-line : goal.returns-clause-line
-returns-clause-line c = c.insert_from-done.ensures ∙ next_at _ InsFrom c.args.local.now _ c.requires.activity
+returns-clause-line c = c.insert_from-done.ensures ∙ next_at _ (Activity.Insert Insert.Link) c.args.local.now _ c.requires.activity

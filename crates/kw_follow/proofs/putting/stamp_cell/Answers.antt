@@ -1,5 +1,6 @@
 use Rattle.std.proofs.Common.{refl, ap, ◌∙◌}
-use Rattle.kw_world.specs.declared.activity.Activity.TheVariants.{Stamp}
+use Rattle.kw_world.specs.declared.activity.Activity.TheVariants as Activity
+use Rattle.kw_world.specs.declared.activity.put.Put.TheVariants as Put
 use Rattle.kw_words.specs.declared.layout.Name.TheVariants.{Pend}
 use Rattle.kw_follow.proofs.PutEvents.{asks_exchanged, pending_fits, stamped_fits, next_at}
 use Rattle.kw_follow.proofs.OneEvent.{follows_ranges}
@@ -12,7 +13,7 @@ pub pack-stamped-requires : goal.pack-stamped-requires
 pack-stamped-requires c = stamped_fits c.args.local.now (follows_ranges _ _ _ c.requires.follows)
 
 pub stamp-told-requires : goal.stamp-told-requires
-stamp-told-requires c = asks_exchanged _ _ c.args.local.now Stamp _ _ _ _ _ _ _ c.requires.follows c.requires.activity tt (ap (Pend c.args.local.now.row) c.number.ensures) c.pack-pending.ensures.value c.pack-stamped.ensures.value refl
+stamp-told-requires c = asks_exchanged _ _ c.args.local.now (Activity.Put Put.Stamp) _ _ _ _ _ _ _ c.requires.follows c.requires.activity tt (ap (Pend c.args.local.now.row) c.number.ensures) c.pack-pending.ensures.value c.pack-stamped.ensures.value refl
 
 pub returns-clause-line : goal.returns-clause-line
-returns-clause-line c = c.stamp-done.ensures ∙ next_at _ Stamp c.args.local.now _ c.requires.activity
+returns-clause-line c = c.stamp-done.ensures ∙ next_at _ (Activity.Put Put.Stamp) c.args.local.now _ c.requires.activity

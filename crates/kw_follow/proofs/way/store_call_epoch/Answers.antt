@@ -1,6 +1,7 @@
 use Rattle.std.proofs.Common.{ap, refl, subst, sym}
 use Rattle.kw_words.specs.declared.layout.Name.TheVariants.{Pass}
-use Rattle.kw_world.specs.declared.activity.Activity.TheVariants.{Enter}
+use Rattle.kw_world.specs.declared.activity.Activity.TheVariants as Activity
+use Rattle.kw_world.specs.declared.activity.enter.Enter.TheVariants as Enter
 use Rattle.kw_follow.specs.Ways.{entering}
 use Rattle.kw_follow.proofs.Growing.{IsStaying, keeps}
 use Rattle.kw_follow.proofs.OneEvent.{follows_ranges, same_activity, went_follows}
@@ -13,7 +14,7 @@ pub pack_pass-requires : goal.pack_pass-requires
 pack_pass-requires c = (follows_ranges _ _ _ c.requires).epoch.0
 
 pub store_pass-requires : goal.store_pass-requires
-store_pass-requires c = asks_stored_at _ _ (entering c.args.key c.args.epoch) Enter _ _ _ _ _ c.requires refl tt (ap Pass c.number.ensures) c.pack_pass.ensures.value refl
+store_pass-requires c = asks_stored_at _ _ (entering c.args.key c.args.epoch) (Activity.Enter Enter.Announce) _ _ _ _ _ c.requires refl tt (ap Pass c.number.ensures) c.pack_pass.ensures.value refl
 
 pub returns-clause-goes : goal.returns-clause-goes
 returns-clause-goes c = goes_by _ _ _ _ _ c.store_pass.ensures

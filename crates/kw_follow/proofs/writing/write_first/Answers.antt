@@ -1,5 +1,7 @@
 use Rattle.std.proofs.Common.{refl, ap, ◌∙◌}
-use Rattle.kw_world.specs.declared.activity.Activity.TheVariants.{WriteFirst}
+use Rattle.kw_world.specs.declared.activity.Activity.TheVariants as Activity
+use Rattle.kw_world.specs.declared.activity.rebalance.Rebalance.TheVariants as Rebalance
+use Rattle.kw_world.specs.declared.activity.rebalance.write.Write.TheVariants as Write
 use Rattle.kw_words.specs.declared.layout.Name.TheVariants.{First}
 use Rattle.kw_follow.proofs.OneEvent.{follows_ranges}
 use Rattle.kw_follow.proofs.PutEvents.{asks_stored_at, next_at}
@@ -9,10 +11,10 @@ pub first_word-first-requires : goal.first_word-first-requires
 first_word-first-requires c = follows_ranges _ _ _ c.requires.follows
 
 pub store_infant-told-requires : goal.store_infant-told-requires
-store_infant-told-requires c = asks_stored_at _ _ c.args.local.now WriteFirst _ _ _ _ _ c.requires.follows c.requires.activity tt (ap First c.infant.ensures) c.first_word-first.ensures refl
+store_infant-told-requires c = asks_stored_at _ _ c.args.local.now (Activity.Rebalance (Rebalance.Write Write.First)) _ _ _ _ _ c.requires.follows c.requires.activity tt (ap First c.infant.ensures) c.first_word-first.ensures refl
 
 pub to_write_entry-done-requires : goal.to_write_entry-done-requires
 to_write_entry-done-requires c = follows_ranges _ _ _ c.requires.follows
 
 pub returns-clause-line : goal.returns-clause-line
-returns-clause-line c = c.to_write_entry-done.ensures ∙ next_at _ WriteFirst c.args.local.now _ c.requires.activity
+returns-clause-line c = c.to_write_entry-done.ensures ∙ next_at _ (Activity.Rebalance (Rebalance.Write Write.First)) c.args.local.now _ c.requires.activity

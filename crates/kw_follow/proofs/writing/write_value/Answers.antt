@@ -1,5 +1,7 @@
 use Rattle.std.proofs.Common.{refl, ap, ◌∙◌}
-use Rattle.kw_world.specs.declared.activity.Activity.TheVariants.{WriteValue}
+use Rattle.kw_world.specs.declared.activity.Activity.TheVariants as Activity
+use Rattle.kw_world.specs.declared.activity.rebalance.Rebalance.TheVariants as Rebalance
+use Rattle.kw_world.specs.declared.activity.rebalance.write.Write.TheVariants as Write
 use Rattle.kw_words.specs.declared.layout.Name.TheVariants.{Value}
 use Rattle.kw_follow.proofs.OneEvent.{follows_ranges}
 use Rattle.kw_follow.proofs.PutEvents.{asks_stored_at, next_at}
@@ -9,7 +11,7 @@ pub value_word-value-requires : goal.value_word-value-requires
 value_word-value-requires c = follows_ranges _ _ _ c.requires.follows
 
 pub store_infant-told-requires : goal.store_infant-told-requires
-store_infant-told-requires c = asks_stored_at _ _ c.args.local.now (WriteValue c.args.cell) _ _ _ _ _ c.requires.follows c.requires.activity tt (ap (λ row. Value row c.args.cell) c.infant.ensures) c.value_word-value.ensures refl
+store_infant-told-requires c = asks_stored_at _ _ c.args.local.now (Activity.Rebalance (Rebalance.Write (Write.Value c.args.cell))) _ _ _ _ _ c.requires.follows c.requires.activity tt (ap (λ row. Value row c.args.cell) c.infant.ensures) c.value_word-value.ensures refl
 
 pub returns-clause-line : goal.returns-clause-line
-returns-clause-line c = c.to-done.ensures ∙ next_at _ (WriteValue c.args.cell) c.args.local.now _ c.requires.activity
+returns-clause-line c = c.to-done.ensures ∙ next_at _ (Activity.Rebalance (Rebalance.Write (Write.Value c.args.cell))) c.args.local.now _ c.requires.activity

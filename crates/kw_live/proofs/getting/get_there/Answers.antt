@@ -1,7 +1,8 @@
 use Rattle.std.proofs.Common.{arith, ◌∙◌, ◌<◌, ap, length, refl, subst, sym}
 use Rattle.kw_words.specs.declared.sizes.TheConstants.{SEATS}
 use Rattle.kw_words.specs.Pend.{pend_of}
-use Rattle.kw_world.specs.declared.activity.Activity.TheVariants.{Look}
+use Rattle.kw_world.specs.declared.activity.Activity.TheVariants as Activity
+use Rattle.kw_world.specs.declared.activity.look.Look.TheVariants as Look
 use Rattle.kw_world.specs.declared.local.Local.{Local}
 use Rattle.kw_world.specs.ReadTransitions.{look_met}
 use Rattle.kw_world.specs.Sizes.{product}
@@ -14,22 +15,22 @@ use Rattle.kw_live.proofs.LookStages.{last_line, looked_from}
 use Rattle.kw_live.proofs.getting.get_there.Goals as goal
 
 pub look_along-seen-requires : goal.look_along-seen-requires
-look_along-seen-requires c = (on_way (Look 0) c.args.way, c.requires.follows, refl)
+look_along-seen-requires c = (on_way (Activity.Look (Look.Entry 0)) c.args.way, c.requires.follows, refl)
 
 pub overflow_add-seen : goal.overflow_add-seen
 overflow_add-seen c =
-    let up = c.look_along-seen.ensures (on_way (Look 0) c.args.way) c.requires.follows refl in
-    grind (arith, entry_below _ _ (looking c.look_along-seen.result.entry (on_way (Look 0) c.args.way)) _ up.on.follows refl)
+    let up = c.look_along-seen.ensures (on_way (Activity.Look (Look.Entry 0)) c.args.way) c.requires.follows refl in
+    grind (arith, entry_below _ _ (looking c.look_along-seen.result.entry (on_way (Activity.Look (Look.Entry 0)) c.args.way)) _ up.on.follows refl)
 
 pub read_newest-value-requires : goal.read_newest-value-requires
 read_newest-value-requires c =
-    let up = c.look_along-seen.ensures (on_way (Look 0) c.args.way) c.requires.follows refl in
-    (looked_from refl up (last_line (on_way (Look 0) c.args.way) _ _ (sym c.is_idle.ensures ∙ c.if-is_idle.true) c.if-seen-ge-SEAT_COUNT.true)).follows
+    let up = c.look_along-seen.ensures (on_way (Activity.Look (Look.Entry 0)) c.args.way) c.requires.follows refl in
+    (looked_from refl up (last_line (on_way (Activity.Look (Look.Entry 0)) c.args.way) _ _ (sym c.is_idle.ensures ∙ c.if-is_idle.true) c.if-seen-ge-SEAT_COUNT.true)).follows
 
 pub returns-then-is_idle : goal.returns-then-is_idle
 returns-then-is_idle c =
-    let up = c.look_along-seen.ensures (on_way (Look 0) c.args.way) c.requires.follows refl in
-    let looked = looked_from refl up (last_line (on_way (Look 0) c.args.way) _ _ (sym c.is_idle.ensures ∙ c.if-is_idle.true) c.if-seen-ge-SEAT_COUNT.true) in
+    let up = c.look_along-seen.ensures (on_way (Activity.Look (Look.Entry 0)) c.args.way) c.requires.follows refl in
+    let looked = looked_from refl up (last_line (on_way (Activity.Look (Look.Entry 0)) c.args.way) _ _ (sym c.is_idle.ensures ∙ c.if-is_idle.true) c.if-seen-ge-SEAT_COUNT.true) in
     let read = c.read_newest-value.ensures in
     got_after (reaches_trans (looks_done looked) read.gets) (record {
       goes = c.end_resting.ensures.goes;
@@ -42,32 +43,32 @@ returns-then-is_idle c =
 
 pub meet_entry-requires-clause-entry : goal.meet_entry-requires-clause-entry
 meet_entry-requires-clause-entry c =
-    let up = c.look_along-seen.ensures (on_way (Look 0) c.args.way) c.requires.follows refl in
-    entry_below _ _ (looking c.look_along-seen.result.entry (on_way (Look 0) c.args.way)) _ up.on.follows refl
+    let up = c.look_along-seen.ensures (on_way (Activity.Look (Look.Entry 0)) c.args.way) c.requires.follows refl in
+    entry_below _ _ (looking c.look_along-seen.result.entry (on_way (Activity.Look (Look.Entry 0)) c.args.way)) _ up.on.follows refl
 
 pub meet_entry-requires-clause-room : goal.meet_entry-requires-clause-room
 meet_entry-requires-clause-room c =
-    let up = c.look_along-seen.ensures (on_way (Look 0) c.args.way) c.requires.follows refl in
+    let up = c.look_along-seen.ensures (on_way (Activity.Look (Look.Entry 0)) c.args.way) c.requires.follows refl in
     subst (λ (l : Local). length l.remembered < SEATS) (sym c.write.ensures)
-    (entry_room _ _ (looking c.look_along-seen.result.entry (on_way (Look 0) c.args.way)) _ up.on.follows refl)
+    (entry_room _ _ (looking c.look_along-seen.result.entry (on_way (Activity.Look (Look.Entry 0)) c.args.way)) _ up.on.follows refl)
 
 pub get_slowly-requires-clause-follows : goal.get_slowly-requires-clause-follows
 get_slowly-requires-clause-follows c =
-    let up = c.look_along-seen.ensures (on_way (Look 0) c.args.way) c.requires.follows refl in
+    let up = c.look_along-seen.ensures (on_way (Activity.Look (Look.Entry 0)) c.args.way) c.requires.follows refl in
     (looked_from refl up (c.meet_entry.ensures ∙ ap (look_met product c.look_along-seen.result.entry (pend_of c.look_along-seen.result.found)) c.write.ensures)).follows
 
 pub get_slowly-requires-clause-stage : goal.get_slowly-requires-clause-stage
 get_slowly-requires-clause-stage c =
-    let up = c.look_along-seen.ensures (on_way (Look 0) c.args.way) c.requires.follows refl in
+    let up = c.look_along-seen.ensures (on_way (Activity.Look (Look.Entry 0)) c.args.way) c.requires.follows refl in
     (looked_from refl up (c.meet_entry.ensures ∙ ap (look_met product c.look_along-seen.result.entry (pend_of c.look_along-seen.result.found)) c.write.ensures)).looks.stage
 
 pub get_slowly-requires-clause-call : goal.get_slowly-requires-clause-call
 get_slowly-requires-clause-call c =
-    let up = c.look_along-seen.ensures (on_way (Look 0) c.args.way) c.requires.follows refl in
+    let up = c.look_along-seen.ensures (on_way (Activity.Look (Look.Entry 0)) c.args.way) c.requires.follows refl in
     (looked_from refl up (c.meet_entry.ensures ∙ ap (look_met product c.look_along-seen.result.entry (pend_of c.look_along-seen.result.found)) c.write.ensures)).looks.call
 
 pub returns : goal.returns
 returns c =
-    let up = c.look_along-seen.ensures (on_way (Look 0) c.args.way) c.requires.follows refl in
+    let up = c.look_along-seen.ensures (on_way (Activity.Look (Look.Entry 0)) c.args.way) c.requires.follows refl in
     let looked = looked_from refl up (c.meet_entry.ensures ∙ ap (look_met product c.look_along-seen.result.entry (pend_of c.look_along-seen.result.found)) c.write.ensures) in
     got_after (looks_done looked) c.get_slowly.ensures

@@ -1,4 +1,5 @@
-use Rattle.kw_world.specs.declared.activity.Activity.TheVariants.{Look}
+use Rattle.kw_world.specs.declared.activity.Activity.TheVariants as Activity
+use Rattle.kw_world.specs.declared.activity.look.Look.TheVariants as Look
 use Rattle.kw_world.specs.declared.local.Local.{Local}
 use Rattle.kw_world.specs.Sizes.{product}
 use Rattle.kw_follow.specs.Following.{Follows}
@@ -10,4 +11,4 @@ abbrev pub invariant-loop-at : goal.invariant-loop-at
 invariant-loop-at l = (k : Local) → Follows l.shared l.initial.pass (looking l.entry k) → IsLookingOn l.shared l.initial.pass (looking l.entry k) l.pass (looking l.at k)
 
 abbrev pub decreases-loop-at : goal.decreases-loop-at
-decreases-loop-at l = look_ahead product (Look l.at) 0
+decreases-loop-at l = look_ahead product (Activity.Look (Look.Entry l.at)) 0

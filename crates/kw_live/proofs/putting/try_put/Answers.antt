@@ -1,5 +1,5 @@
 use Rattle.std.proofs.Common.{ap, ◌∙◌, refl, subst, sym}
-use Rattle.kw_world.specs.declared.activity.Activity.TheVariants.{Leave}
+use Rattle.kw_world.specs.declared.activity.Activity.TheVariants as Activity
 use Rattle.kw_core.specs.Stages.{IsBusy}
 use Rattle.kw_follow.proofs.CallStays.{call_stays}
 use Rattle.kw_live.proofs.PutStages.{HasFound, leaves_done, stands_full, tries_first, tries_further, tries_on}
@@ -11,11 +11,8 @@ go_put-requires-clause-putting c = sym c.is_putting.ensures ∙ c.loop-pass-test
 pub loop-pass-init : goal.loop-pass-init
 loop-pass-init c = tries_first _ _ _ c.requires.follows c.requires.activity
 
-pub loop-pass-smaller-in-InsFrom : goal.loop-pass-smaller-in-InsFrom
-loop-pass-smaller-in-InsFrom c = (tries_further _ _ _ _ _ _ c.loop-pass.invariant c.pass_lesser.ensures).fewer
-
-pub loop-pass-preserved-in-InsFrom : goal.loop-pass-preserved-in-InsFrom
-loop-pass-preserved-in-InsFrom c = (tries_further _ _ _ _ _ _ c.loop-pass.invariant c.pass_lesser.ensures).trying
+pub loop-pass-preserved-in-Link-1 : goal.loop-pass-preserved-in-Link-1
+loop-pass-preserved-in-Link-1 c = (tries_further _ _ _ _ _ _ c.loop-pass.invariant c.pass_lesser.ensures).trying
 
 pub loop-pass-smaller : goal.loop-pass-smaller
 loop-pass-smaller c =
@@ -28,7 +25,7 @@ loop-pass-preserved c =
     one.trying
 
 pub returns-in-Leave-clause-stands : goal.returns-in-Leave-clause-stands
-returns-in-Leave-clause-stands c = c.in-Leave.is ∙ ap Leave (leaves_done c.args.pass.now c.loop-pass.pass _ (subst (HasFound c.args.pass.now c.loop-pass.pass) c.in-Leave.is c.loop-pass.invariant.found))
+returns-in-Leave-clause-stands c = c.in-Leave.is ∙ ap Activity.Leave (leaves_done c.args.pass.now c.loop-pass.pass _ (subst (HasFound c.args.pass.now c.loop-pass.pass) c.in-Leave.is c.loop-pass.invariant.found))
 
 pub returns-in-Leave-clause-call : goal.returns-in-Leave-clause-call
 returns-in-Leave-clause-call c = call_stays _ _ _ _ _ c.requires.follows c.loop-pass.invariant.follows c.loop-pass.invariant.calls (subst IsBusy (sym c.requires.activity) tt) (subst IsBusy (sym c.in-Leave.is) tt)

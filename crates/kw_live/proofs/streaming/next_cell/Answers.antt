@@ -1,5 +1,6 @@
 use Rattle.std.proofs.Common.{ap, refl, sym, ◌∙◌}
-use Rattle.kw_world.specs.declared.activity.Activity.TheVariants.{ListFrom, ListKey}
+use Rattle.kw_world.specs.declared.activity.Activity.TheVariants as Activity
+use Rattle.kw_world.specs.declared.activity.read.Read.TheVariants as Read
 use Rattle.kw_world.specs.declared.local.Local.{Local}
 use Rattle.kw_follow.specs.Cursors.{with_cursor}
 use Rattle.kw_live.proofs.CellStream.{stream_above, stream_begins, stream_counts, stream_ends, stream_led, stream_passes, stream_passes_fewer, stream_ranged, stream_reads, stream_versioned}
@@ -15,7 +16,7 @@ load_link-link-requires c =
 
 pub returns-in_default : goal.returns-in_default
 returns-in_default c = λ cells streams. stream_ends c.args.first c.args.upto c.requires.scan c.requires.leads cells (c.loop-cell.invariant.1 cells streams) c.load_link-link.ensures _ _
-    (c.write.ensures ∙ ap (λ (y : Local). with_cursor ListFrom c.loop-cell.cursor y) c.loop-cell.invariant.0) (sym c.unpack_cell_link.ensures.value ∙ c.in_default.is) c.go_to_rest.ensures
+    (c.write.ensures ∙ ap (λ (y : Local). with_cursor (Activity.Read Read.Link) c.loop-cell.cursor y) c.loop-cell.invariant.0) (sym c.unpack_cell_link.ensures.value ∙ c.in_default.is) c.go_to_rest.ensures
 
 pub reach-met-requires : goal.reach-met-requires
 reach-met-requires c =
@@ -57,4 +58,4 @@ returns-then-key-upto c = λ cells streams. (
 
 pub returns-else-key-upto : goal.returns-else-key-upto
 returns-else-key-upto c = λ cells streams. stream_above c.args.first c.args.upto c.requires.scan c.requires.leads cells (c.loop-cell.invariant.1 cells streams) c.load_link-link.ensures c.reach-met.result c.in-Some.cell c.reach-met.ensures (sym c.unpack_cell_link.ensures.value ∙ c.in-Some.is) c.unpack_key-key.result c.unpack_key-key.ensures.value c.load_key-word.ensures _ _
-    (c.write-else-key-upto.ensures ∙ ap (λ (y : Local). with_cursor ListKey c.reach-met.result y) c.loop-cell.invariant.0) c.if-key-first.false c.if-key-upto.false c.go_to_rest-else-key-upto.ensures
+    (c.write-else-key-upto.ensures ∙ ap (λ (y : Local). with_cursor (Activity.Read Read.Key) c.reach-met.result y) c.loop-cell.invariant.0) c.if-key-first.false c.if-key-upto.false c.go_to_rest-else-key-upto.ensures

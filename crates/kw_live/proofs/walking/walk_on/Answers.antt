@@ -1,8 +1,8 @@
 use Rattle.kw_live.proofs.WalkStages.{walk_goes}
 use Rattle.kw_live.proofs.walking.walk_on.Goals as goal
 
-pub returns-in-GuessMin : goal.returns-in-GuessMin
-returns-in-GuessMin c =
+pub returns-in-Walk-GuessedLeast : goal.returns-in-Walk-GuessedLeast
+returns-in-Walk-GuessedLeast c =
     let on = walk_goes _ _ _ _ _ _ _ c.go_guess_min.ensures.goes c.go_guess_min.ensures.met c.go_guess_min.ensures.line c.requires.walking in
     record {
       goes = c.go_guess_min.ensures.goes;

@@ -15,7 +15,7 @@ loop-preserved g c = record {
     follows = c.go.ensures.follows;
     calls = c.go.ensures.calls ∙ c.loop.invariant.on.calls;
     held = c.go.ensures.held refl ∙ c.loop.invariant.on.held;
-    stands = finishes_on _ _ _ _ c.go.ensures.line c.loop.invariant.on.untidied c.loop.invariant.on.stands c.in_default.not-Again;
-    untidied = finishes_untidied _ _ _ _ c.go.ensures.line c.loop.invariant.on.untidied c.loop.invariant.on.stands c.in_default.not-Again;
+    stands = finishes_on _ _ _ _ c.go.ensures.line c.loop.invariant.on.untidied c.loop.invariant.on.stands c.in_default.not-Retry;
+    untidied = finishes_untidied _ _ _ _ c.go.ensures.line c.loop.invariant.on.untidied c.loop.invariant.on.stands c.in_default.not-Retry;
   };
 }

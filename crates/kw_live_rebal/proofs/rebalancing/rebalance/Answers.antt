@@ -21,16 +21,16 @@ loop-preserved g c = record {
     follows = c.go_on.ensures.follows;
     calls = c.go_on.ensures.calls ∙ c.loop.invariant.on.calls;
     held = c.go_on.ensures.held c.choice_at-choice.ensures ∙ c.loop.invariant.on.held;
-    untidied = stays_untidied c.args.pass.now c.loop.pass c.loop.local c.go_on.new.local c.choice_at-choice.result (view c.loop.pass).opening.rows _ c.go_on.ensures.line c.loop.invariant.on.met c.in_default.not-Again c.in_default.not-Leave c.loop.invariant.on.untidied;
-    met = keeps_met _ _ _ _ _ _ _ _ _ c.loop.invariant.on.goes c.go_on.ensures.goes c.go_on.ensures.met c.go_on.ensures.line c.loop.invariant.on.untidied c.loop.invariant.on.met c.in_default.not-Normalise c.in_default.not-Again c.in_default.not-Leave;
+    untidied = stays_untidied c.args.pass.now c.loop.pass c.loop.local c.go_on.new.local c.choice_at-choice.result (view c.loop.pass).opening.rows _ c.go_on.ensures.line c.loop.invariant.on.met c.in_default.not-Retry c.in_default.not-Leave c.loop.invariant.on.untidied;
+    met = keeps_met _ _ _ _ _ _ _ _ _ c.loop.invariant.on.goes c.go_on.ensures.goes c.go_on.ensures.met c.go_on.ensures.line c.loop.invariant.on.untidied c.loop.invariant.on.met (c.has_won.ensures.other (search rules)) c.in_default.not-Retry c.in_default.not-Leave;
   };
 }
 
-pub returns-in-Again-clause-cause : goal.returns-in-Again-clause-cause
-returns-in-Again-clause-cause g c = subst (λ (a : Activity). HasMet c.args.pass.now c.loop.pass a c.loop.local) c.in-Again.is c.loop.invariant.on.met
+pub returns-in-Retry-clause-cause : goal.returns-in-Retry-clause-cause
+returns-in-Retry-clause-cause g c = subst (λ (a : Activity). HasMet c.args.pass.now c.loop.pass a c.loop.local) c.in-Retry.is c.loop.invariant.on.met
 
-pub returns-in-Again-clause-call : goal.returns-in-Again-clause-call
-returns-in-Again-clause-call g c = call_stays _ _ _ _ _ c.requires.follows c.loop.invariant.on.follows c.loop.invariant.on.calls (subst IsBusy (sym c.requires.activity) tt) (subst IsBusy (sym c.in-Again.is) tt)
+pub returns-in-Retry-clause-call : goal.returns-in-Retry-clause-call
+returns-in-Retry-clause-call g c = call_stays _ _ _ _ _ c.requires.follows c.loop.invariant.on.follows c.loop.invariant.on.calls (subst IsBusy (sym c.requires.activity) tt) (subst IsBusy (sym c.in-Retry.is) tt)
 
 pub returns-in-Leave-clause-stands : goal.returns-in-Leave-clause-stands
 returns-in-Leave-clause-stands g c =
@@ -43,11 +43,11 @@ returns-in-Leave-clause-cause g c =
 pub returns-in-Leave-clause-call : goal.returns-in-Leave-clause-call
 returns-in-Leave-clause-call g c = call_stays _ _ _ _ _ c.requires.follows c.loop.invariant.on.follows c.loop.invariant.on.calls (subst IsBusy (sym c.requires.activity) tt) (subst IsBusy (sym c.in-Leave.is) tt)
 
-pub returns-in-Normalise-clause-goes : goal.returns-in-Normalise-clause-goes
-returns-in-Normalise-clause-goes g c = goes_trans _ _ _ _ c.loop.invariant.on.goes c.finish.ensures.goes
+pub returns-then-has_won-clause-goes : goal.returns-then-has_won-clause-goes
+returns-then-has_won-clause-goes g c = goes_trans _ _ _ _ c.loop.invariant.on.goes c.finish.ensures.goes
 
-pub returns-in-Normalise-clause-call : goal.returns-in-Normalise-clause-call
-returns-in-Normalise-clause-call g c = call_stays _ _ _ _ _ c.requires.follows c.finish.ensures.follows (c.finish.ensures.calls ∙ c.loop.invariant.on.calls) (subst IsBusy (sym c.requires.activity) tt) (subst IsBusy (sym c.finish.ensures.again) tt)
+pub returns-then-has_won-clause-call : goal.returns-then-has_won-clause-call
+returns-then-has_won-clause-call g c = call_stays _ _ _ _ _ c.requires.follows c.finish.ensures.follows (c.finish.ensures.calls ∙ c.loop.invariant.on.calls) (subst IsBusy (sym c.requires.activity) tt) (subst IsBusy (sym c.finish.ensures.again) tt)
 
-pub returns-in-Normalise-clause-cause : goal.returns-in-Normalise-clause-cause
-returns-in-Normalise-clause-cause g c = won_on c.args.pass.now c.finish.ensures.goes (subst (λ (a : Activity). HasMet c.args.pass.now c.loop.pass a c.loop.local) c.in-Normalise.is c.loop.invariant.on.met)
+pub returns-then-has_won-clause-cause : goal.returns-then-has_won-clause-cause
+returns-then-has_won-clause-cause g c = won_on c.args.pass.now c.finish.ensures.goes (subst (λ (a : Activity). HasMet c.args.pass.now c.loop.pass a c.loop.local) (c.has_won.ensures.won (search rules)) c.loop.invariant.on.met)

@@ -1,12 +1,13 @@
 use Rattle.std.proofs.Common.{refl}
-use Rattle.kw_world.specs.declared.activity.Activity.TheVariants.{ListKey}
+use Rattle.kw_world.specs.declared.activity.Activity.TheVariants as Activity
+use Rattle.kw_world.specs.declared.activity.read.Read.TheVariants as Read
 use Rattle.kw_follow.specs.Cursors.{with_cursor}
 use Rattle.kw_follow.proofs.PutEvents.{asks_at}
 use Rattle.kw_follow.proofs.ReadEvents.{reads_word}
 use Rattle.kw_follow.proofs.cursor.Cursor.load_key.Goals as goal
 
 pub load_key-requires : goal.load_key-requires
-load_key-requires c = asks_at _ _ (with_cursor ListKey c.args.self c.requires.0) ListKey c.requires.1 refl tt
+load_key-requires c = asks_at _ _ (with_cursor (Activity.Read Read.Key) c.args.self c.requires.0) (Activity.Read Read.Key) c.requires.1 refl tt
 
 pub returns : goal.returns
-returns c = λ l f. reads_word _ _ _ (with_cursor ListKey c.args.self l) _ f c.load_key.ensures tt
+returns c = λ l f. reads_word _ _ _ (with_cursor (Activity.Read Read.Key) c.args.self l) _ f c.load_key.ensures tt

@@ -1,12 +1,13 @@
 use Rattle.std.proofs.Common.{refl}
-use Rattle.kw_world.specs.declared.activity.Activity.TheVariants.{ListVer}
+use Rattle.kw_world.specs.declared.activity.Activity.TheVariants as Activity
+use Rattle.kw_world.specs.declared.activity.read.Read.TheVariants as Read
 use Rattle.kw_follow.specs.Cursors.{with_cursor}
 use Rattle.kw_follow.proofs.PutEvents.{asks_at}
 use Rattle.kw_follow.proofs.ReadEvents.{reads_word}
 use Rattle.kw_follow.proofs.cursor.Cursor.load_version.Goals as goal
 
 pub load_version-requires : goal.load_version-requires
-load_version-requires c = asks_at _ _ (with_cursor ListVer c.args.self c.requires.0) ListVer c.requires.1 refl tt
+load_version-requires c = asks_at _ _ (with_cursor (Activity.Read Read.Version) c.args.self c.requires.0) (Activity.Read Read.Version) c.requires.1 refl tt
 
 pub returns : goal.returns
-returns c = λ l f. reads_word _ _ _ (with_cursor ListVer c.args.self l) _ f c.load_version.ensures tt
+returns c = λ l f. reads_word _ _ _ (with_cursor (Activity.Read Read.Version) c.args.self l) _ f c.load_version.ensures tt

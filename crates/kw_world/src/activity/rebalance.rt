@@ -1,0 +1,33 @@
+//! A full row is replaced by new ones.
+//!
+//! The families below are its parts, one after the other.
+pub mod engage;
+pub mod freeze;
+pub mod gather;
+pub mod replace;
+pub mod seek;
+pub mod write;
+
+use crate::activity::rebalance::engage::Engage;
+use crate::activity::rebalance::freeze::Freeze;
+use crate::activity::rebalance::gather::Gather;
+use crate::activity::rebalance::replace::Replace;
+use crate::activity::rebalance::seek::Seek;
+use crate::activity::rebalance::write::Write;
+
+/// A full row is replaced by new ones.
+#[derive(Clone, Copy, Debug, PartialEq, Eq)]
+pub enum Rebalance {
+    /// A full row is engaged.
+    Engage(Engage),
+    /// The full row is frozen.
+    Freeze(Freeze),
+    /// The cells of the full row are gathered.
+    Gather(Gather),
+    /// Free rows are sought and taken.
+    Seek(Seek),
+    /// A new row is written, word by word.
+    Write(Write),
+    /// The full row is replaced.
+    Replace(Replace),
+}

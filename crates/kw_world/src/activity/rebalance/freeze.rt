@@ -1,0 +1,21 @@
+//! The full row is frozen.
+//!
+//! Its count, then each entry; and each scan that waits gets its version, so that what the scans
+//! need is known.
+
+/// The full row is frozen.
+#[derive(Clone, Copy, Debug, PartialEq, Eq)]
+pub enum Freeze {
+    /// Freezes the count of the full row.
+    Count,
+    /// Loads the entry of this seat in the full row, below the number of seats.
+    Look(u32),
+    /// Exchanges that entry, which was found idle or pending, for a frozen one.
+    Entry(u32),
+    /// Loads the scan of this seat, below the number of seats.
+    Scan(u32),
+    /// Draws a version for the scan of this seat, which waits.
+    Draw(u32),
+    /// Exchanges the waiting scan of this seat for one with that version.
+    Settle(u32),
+}

@@ -1,0 +1,20 @@
+//! The cells of the full row are gathered.
+//!
+//! First along its list, then those that were remembered of the entries and not met there.
+
+/// The cells of the full row are gathered.
+#[derive(Clone, Copy, Debug, PartialEq, Eq)]
+pub enum Gather {
+    /// Loads the link of the full row's list at which the seat stands, to gather all its cells.
+    Link,
+    /// Loads the key of the cell that was met there.
+    Key,
+    /// Loads the version of that cell.
+    Version,
+    /// Loads the value of that cell.
+    Value,
+    /// Loads the key of a remembered cell that was not met.
+    LeftOverKey,
+    /// Loads the value of that cell.
+    LeftOverValue,
+}
