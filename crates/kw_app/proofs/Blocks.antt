@@ -12,7 +12,7 @@ use Rattle.kw_world.specs.declared.event.Event.{Event}
 use Rattle.kw_world.specs.declared.opening.Opening.{Opening}
 use Rattle.kw_table.specs.declared.pass.Pass.{Pass}
 use Rattle.kw_table.specs.Passes.{view}
-use Rattle.kw_table.specs.Meetings.{AtEach, MeetsAt, front_seen}
+use Rattle.kw_map.specs.Meetings.{AtEach, MeetsAt, front_seen}
 use Rattle.kw_table.proofs.Prefixes.{prefix_self}
 use Rattle.kw_follow.specs.Following.{GoesTo}
 use Rattle.kw_map.specs.declared.kiwi.Kiwi.{Kiwi}
@@ -39,7 +39,7 @@ if_ok r P v is h = subst (λ x. IfOk x P) is h
 worked_one : (m : Kiwi) (b : Dealt) (p q : Pass) (d : Done) (v : Vec Answer Global) → IsDone m b p d → d.pass ≡ q → d.answers ≡ Ok v → Worked m b p q v.items
 worked_one m b p q d v done pass answers = record {
   idle = subst (IsIdle m) pass done.idle;
-  goes = subst (λ (x : Pass). GoesTo m.shared p x) pass done.goes;
+  goes = subst (λ (x : Pass). GoesTo m p x) pass done.goes;
   works = subst (λ (x : Pass). Works p x (part b.workers (view p).number b.lines) v.items) pass
       (if_ok d.answers (λ x. Works p d.pass (part b.workers (view p).number b.lines) x.items) v answers done.works);
 }
@@ -65,18 +65,18 @@ worked_each m b ps ds (Ok r) n same e dones len passes parts = λ i d f lt.
 
 -- the whole block: what all workers did, in the list that all passes then have seen
 pub grew : (m : Kiwi) (b : Dealt) (ps qs rs : List Pass) (parts : List (Vec Answer Global)) (E E' : List Event) (answers : List Answer) → AreTogether m b.workers E ps → length qs ≡ length ps
-    → WorkedEach m b ps qs parts → AtEach (MeetsAt m.shared E') qs rs → answers ≡ merge b.workers (answers_of parts) no_answer [] b.lines
-    → Grew m.shared.opening b.workers b.lines E E' answers
+    → WorkedEach m b ps qs parts → AtEach (MeetsAt m E') qs rs → answers ≡ merge b.workers (answers_of parts) no_answer [] b.lines
+    → Grew m.opening b.workers b.lines E E' answers
 grew m b ps qs rs parts E E' answers together same worked met is = record {
   longer = (one 0 together.some).longer;
   calls = λ w lt. (one w lt).calls;
   asks_are = λ w lt. (one w lt).asks_are;
   within = λ w lt. (one w lt).within;
   are_replies = λ w lt. (one w lt).are_replies;
-  prints = is ∙ collected_is_printed b.workers (answers_of parts) (more_calls m.shared.opening E E') b.lines together.some (λ w lt. (one w lt).answers_are) (λ w lt. as_many (more_calls m.shared.opening E E' w) (part b.workers w b.lines) (one w lt).asks_are);
+  prints = is ∙ collected_is_printed b.workers (answers_of parts) (more_calls m.opening E E') b.lines together.some (λ w lt. (one w lt).answers_are) (λ w lt. as_many (more_calls m.opening E E' w) (part b.workers w b.lines) (one w lt).asks_are);
 }
   where
-    one : (w : ℕ) → w < b.workers → OneGrew m.shared.opening b.workers b.lines E E' w (answers_of parts w)
+    one : (w : ℕ) → w < b.workers → OneGrew m.opening b.workers b.lines E E' w (answers_of parts w)
     one w lt =
         let len = together.len in
         let p = element_at ps w (omega arith) in
@@ -85,7 +85,7 @@ grew m b ps qs rs parts E E' answers together same worked met is = record {
 
 -- the passes are together again
 pub together_again : (m : Kiwi) (b : Dealt) (ps qs rs : List Pass) (parts : List (Vec Answer Global)) (E E' : List Event) → AreTogether m b.workers E ps → length qs ≡ length ps → length rs ≡ length qs
-    → WorkedEach m b ps qs parts → AtEach (MeetsAt m.shared E') qs rs → AreTogether m b.workers E' rs
+    → WorkedEach m b ps qs parts → AtEach (MeetsAt m E') qs rs → AreTogether m b.workers E' rs
 together_again m b ps qs rs parts E E' together same again worked met = record {
   some = together.some;
   len = again ∙ (same ∙ together.len);

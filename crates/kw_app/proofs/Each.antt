@@ -3,7 +3,7 @@ use Rattle.std.proofs.Common.{◌≡◌, ◌≢◌, ℕ, zero, suc, ◌+◌, ◌
 use Rattle.std.proofs.lemmas.Bool.{cases_eq}
 use Rattle.std.proofs.lemmas.List.{get_or_append_left, get_or_push, length_push}
 use mathlib.Core.Logic.{⊎_elim}
-use Rattle.kw_table.specs.Meetings.{AtEach}
+use Rattle.kw_map.specs.Meetings.{AtEach}
 
 -- the element at a place
 pub element_at : {X : Type 0} (xs : List X) (i : ℕ) → i < length xs → (x : X) × ((d : X) → slice_index_or xs i d ≡ x)

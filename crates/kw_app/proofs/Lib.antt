@@ -4,7 +4,6 @@ pub mod Records
 pub mod Ended
 pub mod Streams
 pub mod Each
-pub mod Gathered
 pub mod Works
 pub mod Merging
 pub mod Seats

@@ -13,7 +13,7 @@ use Rattle.kw_laws.proofs.SeatCalls.{calls_still}
 use Rattle.kw_table.specs.declared.pass.Pass.{Pass}
 use Rattle.kw_table.specs.Passes.{view}
 use Rattle.kw_table.specs.Views.{Meets}
-use Rattle.kw_table.specs.Meetings.{MeetsAt}
+use Rattle.kw_map.specs.Meetings.{MeetsAt}
 use Rattle.kw_table.proofs.Prefixes.{prefix_trans}
 use Rattle.kw_table.proofs.Stepping.{rest_is_others}
 use Rattle.kw_follow.specs.Calling.{calls_in, now_in}
@@ -39,15 +39,15 @@ calls_met q r meets =
     ∙ calls_still product o n (view q).seen meets.seen.0 q.known.opens (ap (is_valid product o) meets.seen.1 ∙ valid) (rest_is_others (view q) es n meets.seen mine)))
 
 -- the calls of a seated pass are those of its number in the list
-calls_seated : (m : Kiwi) (E : List Event) (i : ℕ) (p : Pass) → IsSeated m E i p → calls_in p ≡ seat_calls m.shared.opening E i
+calls_seated : (m : Kiwi) (E : List Event) (i : ℕ) (p : Pass) → IsSeated m E i p → calls_in p ≡ seat_calls m.opening E i
 calls_seated m E i p at =
     ap (λ (o : Opening). calls_seen product o (view p).number (view p).seen) at.idle.of_map.1
-    ∙ (ap (λ n. calls_seen product m.shared.opening n (view p).seen) at.number ∙ ap (λ es. calls_seen product m.shared.opening i es) at.seen)
+    ∙ (ap (λ n. calls_seen product m.opening n (view p).seen) at.number ∙ ap (λ es. calls_seen product m.opening i es) at.seen)
 
 -- the pass that met is seated again
-pub seated_again : (m : Kiwi) (b : Dealt) (E E' : List Event) (i : ℕ) (p q r : Pass) (answers : List Answer) → IsSeated m E i p → Worked m b p q answers → MeetsAt m.shared E' q r → IsSeated m E' i r
+pub seated_again : (m : Kiwi) (b : Dealt) (E E' : List Event) (i : ℕ) (p q r : Pass) (answers : List Answer) → IsSeated m E i p → Worked m b p q answers → MeetsAt m E' q r → IsSeated m E' i r
 seated_again m b E E' i p q r answers at worked met = record {
-  idle = record { of_map = met.of_table; idle = ap (λ (l : Local). l.activity) met.meets.local ∙ worked.idle.idle; holds = (worked.idle.holds.0, met.keeps ∙ worked.idle.holds.1, worked.idle.holds.2) };
+  idle = record { of_map = met.of_table; idle = ap (λ (l : Local). l.activity) met.meets.local ∙ worked.idle.idle };
   number = met.meets.number ∙ (worked.goes.number ∙ at.number);
   seen = met.seen;
 }
@@ -62,10 +62,10 @@ pub record OneGrew (o : Opening) (n : ℕ) (lines : List Line) (E E' : List Even
   pub answers_are : answers ≡ answered_by (part n w lines) (more_calls o E E' w)
 
 -- it is what the worker's pass knew when it had answered its lines
-pub one_grew : (m : Kiwi) (b : Dealt) (E E' : List Event) (w : ℕ) (p q r : Pass) (answers : List Answer) → IsSeated m E w p → Worked m b p q answers → MeetsAt m.shared E' q r
-    → OneGrew m.shared.opening b.workers b.lines E E' w answers
+pub one_grew : (m : Kiwi) (b : Dealt) (E E' : List Event) (w : ℕ) (p q r : Pass) (answers : List Answer) → IsSeated m E w p → Worked m b p q answers → MeetsAt m E' q r
+    → OneGrew m.opening b.workers b.lines E E' w answers
 one_grew m b E E' w p q r answers at worked met =
-    let o : Opening = m.shared.opening in
+    let o : Opening = m.opening in
     let there : IsSeated m E' w r = seated_again m b E E' w p q r answers at worked met in
     let works : Works p q (part b.workers (view p).number b.lines) answers = worked.works in
     let made : List CallSeen = works.made in

@@ -11,7 +11,7 @@ use Rattle.kw_world.specs.Opening.{IsOpening}
 use Rattle.kw_world.specs.Sizes.{product}
 use Rattle.kw_table.specs.declared.pass.Pass.{Pass}
 use Rattle.kw_table.specs.Passes.{view}
-use Rattle.kw_table.specs.Meetings.{front_seen}
+use Rattle.kw_map.specs.Meetings.{front_seen}
 use Rattle.kw_map.specs.declared.kiwi.Kiwi.{Kiwi}
 use Rattle.kw_map.specs.Refusals.{HasReason}
 use Rattle.kw_map.proofs.Refusals.{seat_caused}
@@ -36,7 +36,7 @@ all_caused o E opens valid w i d lt =
     subst (HasReason o E w) (sym (get_or_from_slice_get (seat_calls o E w) i c.0 d c.1)) (seat_caused o E opens valid w i c.0 c.1)
 
 -- what the first pass shows
-shows_first : (m : Kiwi) (o : Opening) (items : List Item) (answers : List Answer) (ps : List Pass) → m.shared.opening ≡ o → AreTogether m o.seats (front_seen ps) ps → Ran o o.seats (blocks_of 1 items) (front_seen ps) answers
+shows_first : (m : Kiwi) (o : Opening) (items : List Item) (answers : List Answer) (ps : List Pass) → m.opening ≡ o → AreTogether m o.seats (front_seen ps) ps → Ran o o.seats (blocks_of 1 items) (front_seen ps) answers
     → IfFirst ps (λ p. Shows o items answers (view p))
 shows_first m o items answers [] is together ran = tt
 shows_first m o items answers (p ∷ ps) is together ran =
@@ -58,7 +58,7 @@ shows_first m o items answers (p ∷ ps) is together ran =
     }
 
 -- the same, of blocks that are those of the items
-pub shows : (m : Kiwi) (o : Opening) (items : List Item) (ps : List Pass) (answers : List Answer) (blocks : List (List Line)) → m.shared.opening ≡ o → blocks ≡ blocks_of 1 items
-    → AreTogether m o.seats (front_seen ps) ps → Ran m.shared.opening o.seats blocks (front_seen ps) answers → IfFirst ps (λ p. Shows o items answers (view p))
+pub shows : (m : Kiwi) (o : Opening) (items : List Item) (ps : List Pass) (answers : List Answer) (blocks : List (List Line)) → m.opening ≡ o → blocks ≡ blocks_of 1 items
+    → AreTogether m o.seats (front_seen ps) ps → Ran m.opening o.seats blocks (front_seen ps) answers → IfFirst ps (λ p. Shows o items answers (view p))
 shows m o items ps answers blocks is same together ran =
-    shows_first m o items answers ps is together (subst (λ (x : Opening). Ran x o.seats (blocks_of 1 items) (front_seen ps) answers) is (subst (λ x. Ran m.shared.opening o.seats x (front_seen ps) answers) same ran))
+    shows_first m o items answers ps is together (subst (λ (x : Opening). Ran x o.seats (blocks_of 1 items) (front_seen ps) answers) is (subst (λ x. Ran m.opening o.seats x (front_seen ps) answers) same ran))

@@ -17,7 +17,8 @@ use Rattle.kw_work.specs.declared.line.Line.{Line}
 use Rattle.kw_work.specs.Dealing.{part, worker_of}
 use Rattle.kw_work.proofs.Shares.{part-nil, line_in, line_out}
 use Rattle.kw_app.specs.Recorded.{asked, asks, line_forms, reply_of, AreReplies, EndsBefore, IsWithin}
-use Rattle.kw_app.specs.Working.{LineAnswered, Works}
+use Rattle.kw_ask.specs.Asking.{LineAnswered}
+use Rattle.kw_app.specs.Working.{Works}
 
 -- the answers to more lines
 pub answers_for-append : (ls ms : List Line) (cs ds : List CallSeen) → length cs ≡ length ls

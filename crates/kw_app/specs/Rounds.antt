@@ -21,13 +21,13 @@ use Rattle.kw_app.specs.Working.{Works}
 -- what a pass did in its thread: it answered the lines of the block that are dealt to it
 pub record IsDone (m : Kiwi) (b : Dealt) (p : Pass) (d : Done) : Type 0 where
   pub idle : IsIdle m d.pass
-  pub goes : GoesTo m.shared p d.pass
+  pub goes : GoesTo m p d.pass
   pub works : IfOk d.answers (λ v. Works p d.pass (part b.workers (view p).number b.lines) v.items)
 
 -- p became q by the lines of the block that are dealt to it, and has these answers
 pub record Worked (m : Kiwi) (b : Dealt) (p q : Pass) (answers : List Answer) : Type 0 where
   pub idle : IsIdle m q
-  pub goes : GoesTo m.shared p q
+  pub goes : GoesTo m p q
   pub works : Works p q (part b.workers (view p).number b.lines) answers
 
 -- so did each of the passes

@@ -1,16 +1,14 @@
 //! The input of a command: read whole, or why the command has no text.
 //!
-//! Each reader of lines has errors of its own; here they become one [`InputError`], so that `run`
-//! need not know which command it was.
+//! What the reading of the source tells and what the readers of lines tell becomes one
+//! [`InputError`], so that `run` need not know which command it was.
 ghost use Rattle.std.specs.Prelude.{◌≡◌, ◌≤◌, ◌<◌, ℕ, length, IfOk, IfSome, IsErrOf};
 ghost use Rattle.kw_model.specs.Counts.{CountRose};
 
 use kw_io::{ReadError, Source, read_all};
-use kw_judge::record::RecordError;
-use kw_line::item::LineError;
+use kw_line::error::LineError;
 use kw_line::parse::MOST_BYTES;
 use kw_model::memory::Memory;
-use kw_sim::command::ScriptError;
 use std::alloc::Global;
 
 /// How many bytes an input may have, as a limit of reading.
@@ -38,34 +36,6 @@ impl From<LineError> for InputError {
         match error {
             LineError::Bad { line } => InputError::Bad { line },
             LineError::Memory => InputError::Memory,
-        }
-    }
-}
-
-impl From<ScriptError> for InputError {
-    ghost use Rattle.std.specs.Prelude.{◌≡◌};
-    ghost use Rattle.kw_app.specs.Inputs.{of_script};
-
-    ghost from_gives = { λ given made. made ≡ of_script given };
-
-    fn from(error: ScriptError) -> InputError {
-        match error {
-            ScriptError::Bad { line } => InputError::Bad { line },
-            ScriptError::Memory => InputError::Memory,
-        }
-    }
-}
-
-impl From<RecordError> for InputError {
-    ghost use Rattle.std.specs.Prelude.{◌≡◌};
-    ghost use Rattle.kw_app.specs.Inputs.{of_record};
-
-    ghost from_gives = { λ given made. made ≡ of_record given };
-
-    fn from(error: RecordError) -> InputError {
-        match error {
-            RecordError::Bad { line } => InputError::Bad { line },
-            RecordError::Memory => InputError::Memory,
         }
     }
 }

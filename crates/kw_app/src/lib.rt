@@ -8,18 +8,17 @@
 //! - `replay` makes the text of the replies to an input's lines, `simulating` that of a script, and
 //!   `judging` that of a verdict; `gen_command`, `generate` and `summary` the summary of the
 //!   replies to generated lines. `printed` is what they make, and `crew` has who answers lines.
-//! - `running`, `rounds`, `working` and `asking` run lines on the concurrent map: all blocks, one
-//!   block, one worker, one line. Block after block, each worker answers in a thread of its own the
-//!   lines that are dealt to it; then all passes meet, so that all have seen one list of events,
-//!   and the next block begins. That workers run beside each other is no clause, and that a put
-//!   ends is none: tests show it.
+//! - `running`, `rounds` and `working` run lines on the concurrent map: all blocks, one block, one
+//!   worker; `kw_ask`, a crate of its own, asks one line. Block after block, each worker answers in
+//!   a thread of its own the lines that are dealt to it; then all passes meet, so that all have
+//!   seen one list of events, and the next block begins. That workers run beside each other is no
+//!   clause, and that a put ends is none: tests show it.
 //! - `outcome` and `fault` say how a run ended, and `faultless` that a run on streams that never
 //!   fail is never told of a fault.
 //!
 //! The tests are in `kw_app_tests`, since a crate with tests is proved twice.
 #![tactic(auto)]
 
-mod asking;
 mod crew;
 pub mod fault;
 pub mod faultless;

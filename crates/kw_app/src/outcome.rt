@@ -3,7 +3,7 @@ ghost use Rattle.std.specs.Prelude.{◌≡◌, None};
 ghost use Rattle.kw_app.specs.Status.{named_line, status_code, status_of};
 
 use crate::input::InputError;
-use kw_table::Pass;
+use kw_map::Pass;
 
 /// How a run ended. The causes are tested in this order: bad words, a read fault, bad input, a
 /// write fault; want of memory may come at any place before the first byte is written. That a

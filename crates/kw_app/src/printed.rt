@@ -6,7 +6,7 @@ ghost use Rattle.kw_app.specs.Answering.{some_refused};
 ghost use Rattle.kw_app.specs.Ending.{refusal_ending};
 
 use kw_line::answer::Answer;
-use kw_table::Pass;
+use kw_map::Pass;
 
 /// What is to be said of a text once it was written whole.
 #[derive(Clone, Copy, Debug, PartialEq, Eq)]

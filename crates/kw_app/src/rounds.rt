@@ -5,8 +5,8 @@
 //! that are the answers collected, so a block's calls have all ended before anything of a later
 //! one.
 ghost use Rattle.std.specs.Prelude.{◌≡◌, All, IfOk, Ok, vec_len};
-ghost use Rattle.kw_table.specs.Meetings.{AtEach, MeetsAt, front_seen};
-ghost use Rattle.kw_table.specs.Passes.{IsPassOf};
+ghost use Rattle.kw_map.specs.Meetings.{AtEach, MeetsAt, front_seen};
+ghost use Rattle.kw_table.specs.Passes.{IsPassOf, opening_of};
 ghost use Rattle.kw_follow.specs.Following.{GoesTo};
 ghost use Rattle.kw_map.specs.Kiwi.{IsIdle};
 ghost use Rattle.kw_work.specs.Dealing.{IsLine};
@@ -14,9 +14,9 @@ ghost use Rattle.kw_app.specs.Rounds.{AreTogether, Grew, IsDone};
 
 use crate::working::{Gate, work};
 use kw_line::answer::Answer;
+use kw_map::Pass;
 use kw_map::kiwi::Kiwi;
 use kw_model::memory::Memory;
-use kw_table::Pass;
 use kw_work::block::Block;
 use kw_work::collect::collect;
 use std::alloc::{AllocError, Global};
@@ -82,9 +82,9 @@ fn parted(alloc: Global, dones: Vec<Done>) -> Result<(Vec<Pass>, Vec<Vec<Answer>
 
 /// The passes, which have then all seen one list of events.
 fn met(kiwi: &Kiwi, passes: Vec<Pass>) -> Vec<Pass>
-    requires { All (IsPassOf kiwi.now.shared) passes.items }
+    requires { All (IsPassOf kiwi.now) passes.items }
     ensures len { vec_len result ≡ vec_len passes }
-    ensures each { AtEach (MeetsAt kiwi.now.shared (front_seen result.items)) passes.items
+    ensures each { AtEach (MeetsAt kiwi.now (front_seen result.items)) passes.items
         result.items }
 {
     let mut passes = passes;
@@ -110,7 +110,7 @@ pub(crate) fn play<R: Threads + Wait + Sync, G: Gate + Sync>(
     requires lines { All IsLine block.now.lines }
     ensures together { IfOk result (λ both. AreTogether kiwi.now block.now.workers
         (front_seen both.0.items) both.0.items) }
-    ensures grew { IfOk result (λ both. Grew kiwi.now.shared.opening block.now.workers
+    ensures grew { IfOk result (λ both. Grew (opening_of kiwi.now) block.now.workers
         block.now.lines (front_seen passes.items) (front_seen both.0.items) both.1.items) }
 {
     if block.is_empty() {

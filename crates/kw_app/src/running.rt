@@ -6,7 +6,8 @@
 ghost use Rattle.std.specs.Prelude.{◌≡◌, ◌<◌, ◌^◌, [], length, map, All, IfOk};
 ghost use Rattle.std.specs.List.{AllByRecursion};
 ghost use Rattle.kw_line.specs.Line.{IsItem};
-ghost use Rattle.kw_table.specs.Meetings.{front_seen};
+ghost use Rattle.kw_table.specs.Passes.{opening_of};
+ghost use Rattle.kw_map.specs.Meetings.{front_seen};
 ghost use Rattle.kw_work.specs.Dealing.{IsLine};
 ghost use Rattle.kw_app.specs.Answering.{IsRun, opening};
 ghost use Rattle.kw_app.specs.Rounds.{AreTogether};
@@ -18,9 +19,9 @@ use crate::working::Gate;
 use kw_beside::joined::joined;
 use kw_line::answer::Answer;
 use kw_line::item::Item;
+use kw_map::Pass;
 use kw_map::kiwi::Kiwi;
 use kw_model::memory::Memory;
-use kw_table::Pass;
 use kw_work::block::Block;
 use kw_work::deal::deal;
 use std::alloc::Global;
@@ -42,7 +43,7 @@ fn play_all<R: Threads + Wait + Sync, G: Gate + Sync>(
     requires lines { All (λ block. All IsLine block.lines) blocks.now }
     ensures together { IfOk result (λ both.
         AreTogether kiwi.now crew.now.workers (front_seen both.0.items) both.0.items) }
-    ensures ran { IfOk result (λ both. Ran kiwi.now.shared.opening crew.now.workers
+    ensures ran { IfOk result (λ both. Ran (opening_of kiwi.now) crew.now.workers
         (map (λ block. block.lines) blocks.now) (front_seen both.0.items) both.1.items) }
 {
     let mut passes = passes;

@@ -9,11 +9,11 @@ ghost use Rattle.kw_map.specs.Kiwi.{IsIdle};
 ghost use Rattle.kw_work.specs.Dealing.{IsLine, part};
 ghost use Rattle.kw_app.specs.Working.{Works};
 
-use crate::asking::ask;
+use kw_ask::asking::ask;
 use kw_line::answer::Answer;
+use kw_map::Pass;
 use kw_map::kiwi::Kiwi;
 use kw_model::memory::Memory;
-use kw_table::Pass;
 use kw_work::block::Block;
 use std::alloc::Global;
 use std::sync::Wait;
@@ -55,7 +55,7 @@ pub fn work<R: Wait, G: Gate>(
     requires idle { IsIdle kiwi.now pass.old }
     requires lines { All IsLine block.now.lines }
     ensures idle { IsIdle kiwi.now pass.new }
-    ensures goes { GoesTo kiwi.now.shared pass.old pass.new }
+    ensures goes { GoesTo kiwi.now pass.old pass.new }
     ensures works { IfOk result (λ answers. Works pass.old pass.new
         (part block.now.workers (view pass.old).number block.now.lines) answers.items) }
 {
@@ -66,7 +66,7 @@ pub fn work<R: Wait, G: Gate>(
         let line = block.line(at);
         if line.worker(workers) == worker {
             gate.before(worker, line.number);
-            let answer = ask(rt, alloc, kiwi, pass, line)?;
+            let answer = ask(rt, alloc, kiwi, pass, line.call, line.form)?;
             answers.push(answer)?;
             gate.after(worker, line.number);
         }

@@ -3,9 +3,9 @@ ghost use Rattle.std.specs.Prelude.{All};
 ghost use Rattle.kw_map.specs.Kiwi.{IsIdle};
 
 use crate::load::Load;
+use kw_map::Pass;
 use kw_map::gather_numbers::SumGather;
 use kw_map::kiwi::Kiwi;
-use kw_table::Pass;
 use std::alloc::AllocError;
 use std::sync::Wait;
 use std::thread;

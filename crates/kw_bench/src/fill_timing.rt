@@ -4,8 +4,8 @@ ghost use Rattle.kw_map.specs.Kiwi.{IsIdle};
 
 use crate::map_load::{Order, ROWS};
 use crate::timing::opened;
+use kw_map::Pass;
 use kw_map::kiwi::Kiwi;
-use kw_table::Pass;
 use kw_words::sizes::BUILT_COUNT;
 use std::io;
 use std::sync::Wait;

@@ -3,8 +3,8 @@ ghost use Rattle.std.specs.Prelude.{All, IfOk};
 ghost use Rattle.kw_map.specs.Kiwi.{IsIdle};
 
 use crate::map_load::{KEYS, scattered};
+use kw_map::Pass;
 use kw_map::kiwi::Kiwi;
-use kw_table::Pass;
 use std::alloc::AllocError;
 use std::sync::Wait;
 use std::sync::atomic::{AtomicBool, Ordering};

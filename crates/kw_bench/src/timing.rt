@@ -5,9 +5,9 @@ ghost use Rattle.kw_map.specs.Kiwi.{IsIdle};
 
 use crate::asking::{Task, put_cells, read_by_each};
 use crate::load::Load;
+use kw_map::Pass;
 use kw_map::kiwi::Kiwi;
 use kw_model::memory::Memory;
-use kw_table::Pass;
 use std::alloc::Global;
 use std::io;
 use std::sync::Wait;

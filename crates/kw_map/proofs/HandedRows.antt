@@ -11,7 +11,7 @@ use Rattle.kw_cells.specs.Cells.{pairs_of}
 use Rattle.kw_model.specs.Counts.{CountRose}
 use Rattle.kw_model.specs.Map.{Pairs}
 use Rattle.kw_world.specs.declared.activity.Activity.{Activity}
-use Rattle.kw_world.specs.declared.activity.Activity.TheVariants.{ListFrom}
+use Rattle.kw_world.specs.declared.activity.read.Read.TheVariants as Read
 use Rattle.kw_world.specs.declared.local.Local.{Local}
 use Rattle.kw_table.specs.declared.pass.Pass.{Pass}
 use Rattle.kw_table.specs.declared.shared.Shared.{Shared}
@@ -119,7 +119,7 @@ pub record IsHandingOn {S : Type 0} (g : GathererWords S) (s : Shared) (o : Pass
   pub took : HasTaken g old (pairs_of cells l.want upto l.version) low ended new
 
 -- at first no cell was read
-pub handed_begins : {S : Type 0} (g : GathererWords S) (s : Shared) (p : Pass) (l : Local) (upto : ℕ) (into : S) (w : Cursor) (low : ℕ) → Follows s p l → l.activity ≡ ListFrom → l.gathered ≡ [] → with_cursor l.activity w l ≡ l → low ≡ l.want → IsBelow (g.last into) l.want
+pub handed_begins : {S : Type 0} (g : GathererWords S) (s : Shared) (p : Pass) (l : Local) (upto : ℕ) (into : S) (w : Cursor) (low : ℕ) → Follows s p l → l.activity ≡ Activity.Read Read.Link → l.gathered ≡ [] → with_cursor l.activity w l ≡ l → low ≡ l.want → IsBelow (g.last into) l.want
     → IsHandingOn g s p l upto into p l w low (Ok tt) into
 handed_begins g s p l upto into w low f lists none is wanted above = record {
   cells = [];

@@ -6,7 +6,7 @@ pub mod WholeCalls
 pub mod RowStages
 pub mod ReadRows
 pub mod ScanEnds
-pub mod Lending
+pub mod Meetings
 pub mod Refusals
 pub mod HandedCells
 pub mod HandedRows

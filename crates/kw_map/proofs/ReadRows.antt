@@ -7,7 +7,8 @@ use Rattle.kw_model.specs.Counts.{CountRose}
 use Rattle.kw_model.specs.Map.{Pairs}
 use Rattle.kw_model.specs.declared.call.Call.TheVariants.{Scan}
 use Rattle.kw_world.specs.declared.answer.Answer.TheVariants as answer
-use Rattle.kw_world.specs.declared.activity.Activity.TheVariants.{ClearScan, Look}
+use Rattle.kw_world.specs.declared.activity.Activity.TheVariants as Activity
+use Rattle.kw_world.specs.declared.activity.look.Look.TheVariants as Look
 use Rattle.kw_world.specs.declared.local.Local.{Local}
 use Rattle.kw_table.specs.declared.pass.Pass.{Pass}
 use Rattle.kw_table.specs.declared.shared.Shared.{Shared}
@@ -52,7 +53,7 @@ Hands w p l a q m b ended = HandsOn w.last w.stands w.stops p l a q m b ended
 pub record IsHandingRows {S : Type 0} (w : GathererWords S) (s : Shared) (p : Pass) (l : Local) (a : S) (q : Pass) (m : Local) (b : S) (ended : Result Unit Stop) : Type 0 where
   pub goes : GoesTo s p q
   pub follows : Follows s q m
-  pub stage : m.activity ≡ Look 0
+  pub stage : m.activity ≡ Activity.Look (Look.Entry 0)
   pub hands : Hands w p l a q m b ended
 
 -- at first a scan has no pairs more
@@ -125,7 +126,7 @@ hands_behind w p q r l m n a b c so_far ended fine h k =
 
 -- what a scan has read in its last row, where the version is that of its start
 pub scan_read : (l m n : Local) (before after : Pairs) (upto : ℕ) → m.version ≡ l.version → (from : ℕ) × (m.call ≡ Some (Scan from upto)) → HasRead m n before after
-    → (GoesOn m.want upto l.version n ⊎ (n.activity ≡ ClearScan answer.Pairs)) × (after ≡ before ++ pairs_of n.gathered m.want upto l.version)
+    → (GoesOn m.want upto l.version n ⊎ (n.activity ≡ Activity.EndScan answer.Pairs)) × (after ≡ before ++ pairs_of n.gathered m.want upto l.version)
 scan_read l m n before after upto version scan read =
     subst (λ v. HasReadAs (Some (Scan scan.0 upto)) m.want v n before after) version (subst (λ call. HasReadAs call m.want m.version n before after) scan.1 read)
 

@@ -10,7 +10,7 @@ use Rattle.kw_model.specs.Map.{Pairs}
 use Rattle.kw_model.specs.declared.call.Call.{Call}
 use Rattle.kw_model.specs.declared.call.Call.TheVariants.{Scan}
 use Rattle.kw_world.specs.declared.answer.Answer.TheVariants as answer
-use Rattle.kw_world.specs.declared.activity.Activity.TheVariants.{ClearScan}
+use Rattle.kw_world.specs.declared.activity.Activity.TheVariants as Activity
 use Rattle.kw_world.specs.declared.local.Local.{Local}
 use Rattle.kw_world.specs.declared.opening.Opening.{Opening}
 use Rattle.kw_core.specs.Stages.{is_walking}
@@ -80,7 +80,7 @@ rows_ahead true want upto = suc (upto - want)
 rows_ahead false want upto = 0
 
 -- after a row the scan is between rows again
-pub between_rows : {S : Type 0} (last : S → Option ℕ) (stands : S → Pairs → Type 0) (old new : S) (want upto version : ℕ) (m : Local) → IsBelow (last old) want → GoesOn want upto version m ⊎ (m.activity ≡ ClearScan answer.Pairs) →
+pub between_rows : {S : Type 0} (last : S → Option ℕ) (stands : S → Pairs → Type 0) (old new : S) (want upto version : ℕ) (m : Local) → IsBelow (last old) want → GoesOn want upto version m ⊎ (m.activity ≡ Activity.EndScan answer.Pairs) →
     Takes last stands old (pairs_of m.gathered want upto version) new → IsBetween last new m
 between_rows last stands old new want upto version m above (inl g) t =
     let earlier : want ≤ m.want = omega (arith, g.rises) in
@@ -88,7 +88,7 @@ between_rows last stands old new want upto version m above (inl g) t =
 between_rows last stands old new want upto version m above (inr e) t = inr e
 
 -- after a row fewer rows are ahead
-pub fewer_rows : (low upto version : ℕ) (l m : Local) → is_walking l.activity ≡ true → l.want ≤ low → GoesOn low upto version m ⊎ (m.activity ≡ ClearScan answer.Pairs) → rows_ahead (is_walking m.activity) m.want upto < rows_ahead (is_walking l.activity) l.want upto
+pub fewer_rows : (low upto version : ℕ) (l m : Local) → is_walking l.activity ≡ true → l.want ≤ low → GoesOn low upto version m ⊎ (m.activity ≡ Activity.EndScan answer.Pairs) → rows_ahead (is_walking m.activity) m.want upto < rows_ahead (is_walking l.activity) l.want upto
 fewer_rows low upto version l m walks rises (inl g) =
     let before : rows_ahead (is_walking l.activity) l.want upto ≡ suc (upto - l.want) = ap (λ b. rows_ahead b l.want upto) walks in
     let after : rows_ahead (is_walking m.activity) m.want upto ≡ suc (upto - m.want) = ap (λ b. rows_ahead b m.want upto) (ap is_walking g.activity) in
@@ -107,7 +107,7 @@ knew_then s o r goes =
     ∙ ap (λ (x : Opening). local_of (world product x (view r).seen) (view r).number) (sym goes.opening)
 
 -- up to some key a scan between its rows has the pairs of its range at the version that it drew
-covers_so_far : (s : Shared) (r : Pass) (l : Local) (want upto version : ℕ) (scan : (from : ℕ) × (l.call ≡ Some (Scan from upto))) → Follows s r l → GoesOn want upto version l ⊎ (l.activity ≡ ClearScan answer.Pairs)
+covers_so_far : (s : Shared) (r : Pass) (l : Local) (want upto version : ℕ) (scan : (from : ℕ) × (l.call ≡ Some (Scan from upto))) → Follows s r l → GoesOn want upto version l ⊎ (l.activity ≡ Activity.EndScan answer.Pairs)
     → (bound : ℕ) × IsDrawnCover (history product (view r).opening (view r).seen) (view r).number (local_in (view r)) bound (held r)
 covers_so_far s r l want upto version scan follows stage = at stage
   where
@@ -117,13 +117,13 @@ covers_so_far s r l want upto version scan follows stage = at stage
     is_a_scan : is_scan (local_in (view r)).call ≡ true
     is_a_scan = ap is_scan (sym (ap (λ (k : Local). k.call) follows.carries) ∙ scan.1)
 
-    at : GoesOn want upto version l ⊎ (l.activity ≡ ClearScan answer.Pairs) → (bound : ℕ) × IsDrawnCover (history product (view r).opening (view r).seen) (view r).number (local_in (view r)) bound (held r)
+    at : GoesOn want upto version l ⊎ (l.activity ≡ Activity.EndScan answer.Pairs) → (bound : ℕ) × IsDrawnCover (history product (view r).opening (view r).seen) (view r).number (local_in (view r)) bound (held r)
     at (inl g) = ((local_in (view r)).want, laws.covers (view r).number (local_in (view r)) (stands r) is_a_scan (subst IsCovering (sym (same_activity s r l follows ∙ g.activity)) tt))
     at (inr e) = (asked.last_key (local_in (view r)).call + 1, laws.covered (view r).number (local_in (view r)) (stands r) is_a_scan (same_activity s r l follows ∙ e))
 
 -- a scan that stops where the gatherer did
 pub stopped_here : (Took : Pairs → Type 0) (s : Shared) (o r q : Pass) (l : Local) (call : Option Call) (want upto version : ℕ) → GoesTo s o r → GoesTo s r q
-    → Follows s r l → l.call ≡ call → (from : ℕ) × (l.call ≡ Some (Scan from upto)) → GoesOn want upto version l ⊎ (l.activity ≡ ClearScan answer.Pairs) → (n : ℕ) × Took (take n (held r)) → StoppedAt Took o q call
+    → Follows s r l → l.call ≡ call → (from : ℕ) × (l.call ≡ Some (Scan from upto)) → GoesOn want upto version l ⊎ (l.activity ≡ Activity.EndScan answer.Pairs) → (n : ℕ) × Took (take n (held r)) → StoppedAt Took o q call
 stopped_here Took s o r q l call want upto version before after follows is scan stage took =
     let e = knew_then s o r before in
     let cover = covers_so_far s r l want upto version scan follows stage in

@@ -4,7 +4,7 @@ use Rattle.kw_model.specs.declared.call.Call.TheVariants.{Scan}
 use Rattle.kw_world.specs.declared.answer.Answer.{Answer}
 use Rattle.kw_world.specs.declared.answer.Answer.TheVariants as answer
 use Rattle.kw_world.specs.declared.activity.Activity.{Activity}
-use Rattle.kw_world.specs.declared.activity.Activity.TheVariants.{Start, ClearScan, Leave}
+use Rattle.kw_world.specs.declared.activity.walk.Walk.TheVariants as Walk
 use Rattle.kw_world.specs.declared.local.Local.{Local}
 use Rattle.kw_world.specs.Calls.{first_key, is_scan}
 use Rattle.kw_world.specs.Sizes.{product}
@@ -34,11 +34,11 @@ pass_local p =
     ∙ world-local product (view p).opening (view p).seen (view p).number (seat_within p)
 
 -- a scan that is to begin its walk wants no key below its range
-wants_from : (s : Shared) (p : Pass) (l : Local) (from upto : ℕ) → Follows s p l → l.call ≡ Some (Scan from upto) → l.activity ≡ Start → from ≤ l.want
+wants_from : (s : Shared) (p : Pass) (l : Local) (from upto : ℕ) → Follows s p l → l.call ≡ Some (Scan from upto) → l.activity ≡ Activity.Walk Walk.Start → from ≤ l.want
 wants_from s p l from upto f call start =
     let k : Local = local_in (view p) in
     let asks : k.call ≡ Some (Scan from upto) = sym (ap (λ (x : Local). x.call) f.carries) ∙ call in
-    let at : k.activity ≡ Start = sym (ap (λ (x : Local). x.activity) f.carries) ∙ start in
+    let at : k.activity ≡ (Activity.Walk Walk.Start) = sym (ap (λ (x : Local). x.activity) f.carries) ∙ start in
     let wants : l.want ≡ k.want = ap (λ (x : Local). x.want) f.carries in
     let below = (laws_hold product (view p).opening p.known.opens (view p).seen p.known.valid).below (view p).number k (pass_local p) (ap is_scan asks) (subst IsCovering (sym at) tt) in
     let least : from ≤ k.want = subst (λ x. first_key x ≤ k.want) asks below.from in
@@ -46,19 +46,19 @@ wants_from s p l from upto f call start =
 
 -- a scan that has entered, and does not leave, is between rows
 pub entered_between : {S : Type 0} (last : S → Option ℕ) (into : S) (s : Shared) (p : Pass) (l : Local) (from upto : ℕ) → Follows s p l → l.call ≡ Some (Scan from upto) → HasEntered (Scan from upto) l.activity →
-    ((x : Answer) → l.activity ≡ Leave x → ⊥) → IsBelow (last into) from → IsBetween last into l
+    ((x : Answer) → l.activity ≡ Activity.Leave x → ⊥) → IsBelow (last into) from → IsBetween last into l
 entered_between {S} last into s p l from upto f call entered stays above = met l.activity refl entered
   where
     met : (a : Activity) → l.activity ≡ a → HasEntered (Scan from upto) a → IsBetween last into l
-    met Start is h = inl (ap is_walking is, IsBelow-le (last into) from l.want (wants_from s p l from upto f call is) above)
-    met (ClearScan answer.Pairs) is h = inr is
-    met (Leave r) is h = absurd (stays r is)
+    met (Activity.Walk Walk.Start) is h = inl (ap is_walking is, IsBelow-le (last into) from l.want (wants_from s p l from upto f call is) above)
+    met (Activity.EndScan answer.Pairs) is h = inr is
+    met (Activity.Leave r) is h = absurd (stays r is)
     met _ is h = absurd h
 
 -- one that leaves has found the versions spent
-pub entered_spent : (from upto : ℕ) (l : Local) (r : Answer) → l.activity ≡ Leave r → HasEntered (Scan from upto) l.activity → l.activity ≡ Leave answer.Spent
-entered_spent from upto l r is entered = is ∙ ap Leave (met r (subst (HasEntered (Scan from upto)) is entered))
+pub entered_spent : (from upto : ℕ) (l : Local) (r : Answer) → l.activity ≡ Activity.Leave r → HasEntered (Scan from upto) l.activity → l.activity ≡ Activity.Leave answer.Spent
+entered_spent from upto l r is entered = is ∙ ap Activity.Leave (met r (subst (HasEntered (Scan from upto)) is entered))
   where
-    met : (x : Answer) → HasEntered (Scan from upto) (Leave x) → x ≡ answer.Spent
+    met : (x : Answer) → HasEntered (Scan from upto) (Activity.Leave x) → x ≡ answer.Spent
     met answer.Spent h = refl
     met _ h = absurd h

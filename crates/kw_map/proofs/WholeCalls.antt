@@ -4,7 +4,9 @@ use Rattle.std.proofs.Common.{ℕ, ◌≡◌, true, false, Option, Some, None, E
 use Rattle.kw_model.specs.declared.call.Call.{Call}
 use Rattle.kw_model.specs.declared.call.Call.TheVariants.{Put, Del, Get, Scan}
 use Rattle.kw_world.specs.declared.activity.Activity.{Activity}
-use Rattle.kw_world.specs.declared.activity.Activity.TheVariants.{BalClock, Leave, Start}
+use Rattle.kw_world.specs.declared.activity.rebalance.engage.Engage.TheVariants as Engage
+use Rattle.kw_world.specs.declared.activity.rebalance.Rebalance.TheVariants as Rebalance
+use Rattle.kw_world.specs.declared.activity.walk.Walk.TheVariants as Walk
 use Rattle.kw_world.specs.Answers.{reply_of}
 use Rattle.kw_world.specs.declared.answer.Answer.{Answer}
 use Rattle.kw_world.specs.declared.answer.Answer.TheVariants as answer
@@ -28,27 +30,27 @@ use Rattle.kw_follow.proofs.OwnEvents.{met_later}
 -- The begin.
 
 -- a pass that was just made is idle
-pub fresh_idle : (m : Kiwi) (n : ℕ) (p : Pass) → IsFresh m.shared n p → IsIdle m p
-fresh_idle m n p fresh = record { of_map = fresh.of_table; idle = ap (λ (l : Local). l.activity) fresh.local; holds = fresh.holds }
+pub fresh_idle : (m : Kiwi) (n : ℕ) (p : Pass) → IsFresh m n p → IsIdle m p
+fresh_idle m n p fresh = record { of_map = fresh.of_table; idle = ap (λ (l : Local). l.activity) fresh.local }
 
 -- The call.
 
 -- a put or a delete that has entered is to begin its walk
-pub put_starts : (call : Call) (a : Activity) → is_put (Some call) ≡ true → HasEntered call a → a ≡ Start
-put_starts (Put key value) Start is entered = refl
+pub put_starts : (call : Call) (a : Activity) → is_put (Some call) ≡ true → HasEntered call a → a ≡ Activity.Walk Walk.Start
+put_starts (Put key value) (Activity.Walk Walk.Start) is entered = refl
 put_starts (Put key value) _ is entered = absurd entered
-put_starts (Del key) Start is entered = refl
+put_starts (Del key) (Activity.Walk Walk.Start) is entered = refl
 put_starts (Del key) _ is entered = absurd entered
 put_starts (Get key) a is entered = let x : false ≡ true = is in absurd (cc)
 put_starts (Scan from upto) a is entered = let x : false ≡ true = is in absurd (cc)
 
 -- where a put or a delete is not done at its row, it is about to rebalance that
-pub is_full : (tried : TryPut) (a : Activity) → (tried ≡ try_put.Done → ⊥) → a ≡ put_stands tried → a ≡ BalClock
+pub is_full : (tried : TryPut) (a : Activity) → (tried ≡ try_put.Done → ⊥) → a ≡ put_stands tried → a ≡ Activity.Rebalance (Rebalance.Engage Engage.Clock)
 is_full try_put.Done a none e = absurd (none refl)
 is_full (try_put.RowFull row) a none e = e
 
 -- where it made room and was not refused, it is to begin its walk
-pub begins_anew : (made : Option PutEnd) (a : Activity) → ((end : PutEnd) → made ≡ Some end → ⊥) → a ≡ stands_after made → a ≡ Start
+pub begins_anew : (made : Option PutEnd) (a : Activity) → ((end : PutEnd) → made ≡ Some end → ⊥) → a ≡ stands_after made → a ≡ Activity.Walk Walk.Start
 begins_anew None a none e = e
 begins_anew (Some end) a none e = absurd (none end refl)
 
@@ -61,6 +63,6 @@ clock_later {s} {p} {q} {r} m after = record { met = met_later p q r m.met after
 -- What it replies.
 
 -- a put or a delete that is refused is about to leave with its refusal
-pub ends_with : (end : PutEnd) (a : Activity) (pairs : List (ℕ × ℕ)) → a ≡ stands_after (Some end) → (answer : Answer) × (a ≡ Leave answer) × (reply_of answer pairs ≡ put_reply (Err end))
+pub ends_with : (end : PutEnd) (a : Activity) (pairs : List (ℕ × ℕ)) → a ≡ stands_after (Some end) → (answer : Answer) × (a ≡ Activity.Leave answer) × (reply_of answer pairs ≡ put_reply (Err end))
 ends_with NoRows a pairs e = (answer.NoRows, e, refl)
 ends_with Spent a pairs e = (answer.Spent, e, refl)

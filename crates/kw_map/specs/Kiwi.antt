@@ -8,7 +8,7 @@ use Rattle.kw_model.specs.declared.call.Reply.{Reply}
 use Rattle.kw_model.specs.declared.call.Reply.TheVariants as reply
 use Rattle.kw_model.specs.Map.{Pairs}
 use Rattle.kw_world.specs.declared.activity.Activity.{Activity}
-use Rattle.kw_world.specs.declared.activity.Activity.TheVariants.{Idle, Start, Leave}
+use Rattle.kw_world.specs.declared.activity.walk.Walk.TheVariants as Walk
 use Rattle.kw_world.specs.declared.answer.Answer.TheVariants as answer
 use Rattle.kw_world.specs.declared.event.Event.{Event}
 use Rattle.kw_world.specs.declared.opening.Opening.{Opening}
@@ -23,7 +23,7 @@ use Rattle.kw_order.specs.OrderLaws.{OrderLaws}
 use Rattle.kw_order.specs.Trace.{GivesTops}
 use Rattle.kw_table.specs.declared.pass.Pass.{Pass}
 use Rattle.kw_table.specs.declared.pass.View.{View}
-use Rattle.kw_table.specs.Passes.{Holds, IsPassOf, view}
+use Rattle.kw_table.specs.Passes.{IsPassOf, view}
 use Rattle.kw_follow.specs.Calling.{Calls}
 use Rattle.kw_follow.specs.Following.{activity_in}
 use Rattle.kw_live.specs.Meeting.{MetClock}
@@ -34,11 +34,10 @@ use Rattle.kw_map.specs.declared.kiwi.ScanEnd.{ScanEnd}
 use Rattle.kw_map.specs.declared.kiwi.ScanEnd.TheVariants.{Stopped, Spent}
 use Rattle.kw_map.specs.Scanning.{StoppedAt}
 
--- the pass is one of the map, makes no call, and has its local with it
+-- the pass is one of the map, and makes no call
 pub record IsIdle (m : Kiwi) (p : Pass) : Type 0 where
-  pub of_map : IsPassOf m.shared p
-  pub idle : activity_in p ≡ Idle
-  pub holds : Holds p
+  pub of_map : IsPassOf m p
+  pub idle : activity_in p ≡ Activity.Idle
 
 -- the reply of a put or a delete that ended so
 abbrev pub put_reply : Result Unit PutEnd → Reply
@@ -48,9 +47,9 @@ put_reply (Err put_end.Spent) = reply.Spent
 
 -- where a put or a delete stands that made room, or is refused
 abbrev pub stands_after : Option PutEnd → Activity
-stands_after None = Start
-stands_after (Some put_end.NoRows) = Leave answer.NoRows
-stands_after (Some put_end.Spent) = Leave answer.Spent
+stands_after None = Activity.Walk Walk.Start
+stands_after (Some put_end.NoRows) = Activity.Leave answer.NoRows
+stands_after (Some put_end.Spent) = Activity.Leave answer.Spent
 
 -- what the view's seat found between the first and the last event of its call, which was refused so
 abbrev pub IsCause : PutEnd → View → Call → ℕ → ℕ → Type 0

@@ -5,3 +5,4 @@ pub mod GatherList
 pub mod Scanning
 pub mod Refusals
 pub mod Kiwi
+pub mod Meetings

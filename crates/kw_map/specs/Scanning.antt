@@ -3,7 +3,7 @@ use Rattle.std.specs.Prelude.{◌≡◌, ◌⊎◌, ◌≤◌, ◌++◌, ℕ, tr
 use mathlib.Core.List.{IsPrefix}
 use Rattle.kw_model.specs.declared.call.Call.{Call}
 use Rattle.kw_world.specs.declared.answer.Answer.TheVariants as answer
-use Rattle.kw_world.specs.declared.activity.Activity.TheVariants.{ClearScan}
+use Rattle.kw_world.specs.declared.activity.Activity.TheVariants as Activity
 use Rattle.kw_world.specs.declared.event.Event.{Event}
 use Rattle.kw_world.specs.declared.local.Local.{Local}
 use Rattle.kw_world.specs.Sizes.{product}
@@ -23,7 +23,7 @@ use Rattle.kw_map.specs.declared.gather.Stop.{Stop}
 -- the scan is on its way to the row of the key that it wants, and the gatherer took no key from
 -- there on; or it has all its pairs
 abbrev pub IsBetween : {S : Type 0} → (S → Option ℕ) → S → Local → Type 0
-IsBetween last s l = ((is_walking l.activity ≡ true) × IsBelow (last s) l.want) ⊎ (l.activity ≡ ClearScan answer.Pairs)
+IsBetween last s l = ((is_walking l.activity ≡ true) × IsBelow (last s) l.want) ⊎ (l.activity ≡ Activity.EndScan answer.Pairs)
 
 -- the pairs that it had then
 abbrev pub had : Pass → List Event → List (ℕ × ℕ)
@@ -46,7 +46,7 @@ pub record StoppedAt (Took : List (ℕ × ℕ) → Type 0) (p q : Pass) (call : 
 pub record ReadsRows {S : Type 0} (last : S → Option ℕ) (stands : S → Pairs → Type 0) (stops : S → ℕ) (upto : ℕ) (p : Pass) (l : Local) (old : S) (q : Pass) (m : Local) (new : S) (ended : Result Unit Stop) : Type 0 where
   pub low : ℕ
   pub rises : l.want ≤ low
-  pub stage : GoesOn low upto l.version m ⊎ (m.activity ≡ ClearScan answer.Pairs)
+  pub stage : GoesOn low upto l.version m ⊎ (m.activity ≡ Activity.EndScan answer.Pairs)
   pub pairs : Pairs
   pub held : held q ≡ held p ++ pairs
   pub all : OnOk ended (Takes last stands old pairs new)

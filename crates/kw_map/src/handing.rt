@@ -19,6 +19,8 @@ use kw_live::{leads_on, look_at_row, next_cell, pass_rows};
 use kw_model::call::Call;
 use kw_table::{Pass, Shared};
 use kw_world::activity::Activity;
+use kw_world::activity::look::Look;
+use kw_world::activity::read::Read;
 use kw_world::calls::first_key;
 use kw_world::local::Local;
 
@@ -35,12 +37,12 @@ pub(crate) fn hand_rows<G: Gather>(
     into: &mut G,
 ) -> Result<(), Stop>
     requires follows { Follows shared.now pass.old local.old }
-    requires stage { local.old.activity ≡ Activity.Look 0 }
+    requires stage { local.old.activity ≡ Activity.Look (Look.Entry 0) }
     requires scan { (from : ℕ) × (local.old.call ≡ Some (Call.Scan from upto)) }
     requires above { IsBelow (G.last into.old) local.old.want }
     ensures goes { GoesTo shared.now pass.old pass.new }
     ensures follows { Follows shared.now pass.new local.new }
-    ensures activity { local.new.activity ≡ Activity.ListFrom }
+    ensures activity { local.new.activity ≡ Activity.Read Read.Link }
     ensures hands { HandsOn G.last G.stands G.stops pass.old local.old into.old pass.new local.new into.new result }
 {
     let mut ended = Ok(());
@@ -66,14 +68,14 @@ fn hand_row<G: Gather>(
     into: &mut G,
 ) -> Result<(), Stop>
     requires follows { Follows shared.now pass.old local.old }
-    requires stage { local.old.activity ≡ Activity.ListFrom }
+    requires stage { local.old.activity ≡ Activity.Read Read.Link }
     requires scan { (from : ℕ) × (local.old.call ≡ Some (Call.Scan from upto)) }
     requires leads { LeadsOn upto local.old }
     requires none { local.old.gathered ≡ [] }
     requires above { IsBelow (G.last into.old) local.old.want }
     ensures goes { GoesTo shared.now pass.old pass.new }
     ensures follows { Follows shared.now pass.new local.new }
-    ensures activity { local.new.activity ≡ Activity.Look 0 }
+    ensures activity { local.new.activity ≡ Activity.Look (Look.Entry 0) }
     ensures rises { local.old.want < local.new.want }
     ensures within { local.new.want ≤ upto }
     ensures hands { HandsOn G.last G.stands G.stops pass.old local.old into.old pass.new local.new into.new result }

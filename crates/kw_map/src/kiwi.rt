@@ -1,40 +1,45 @@
 //! The concurrent map, and its calls.
 //!
-//! A `Kiwi` is the shared table; a caller asks it with a pass, its seat. Each call here is put
-//! together from `kw_live`'s functions, by the local that the pass lends it: enter, find the row,
-//! put into it or read it, leave; a get is whole there. A put or a delete that finds its row full
-//! has the row rebalanced (`kw_live_rebal`) and tries again. These two take the runtime, since they
-//! may come to wait for others; a get and a scan never do. So all events are the core's, and the
+//! A `Kiwi` is the shared table and an index of its rows; a caller asks it with a pass. Each call
+//! here is put together from `kw_live`'s functions, on what the pass has: enter, find the row, put
+//! into it or read it, leave; a get is whole there. A put or a delete that finds its row full has
+//! the row rebalanced (`kw_live_rebal`) and tries again. These two take the runtime, since they may
+//! come to wait for others; a get and a scan never do. So all events are the core's, and the
 //! clauses say what follows: the call is the pass's next one, it has ended, its answer is the
 //! recorded reply, and the order of all calls that the pass has seen is legal.
 ghost use Rattle.std.specs.Prelude.{◌≡◌, ℕ, ◌<◌, ◌≤◌, true, false, Some, IfOk, vec_len, slice_index_or, All};
 ghost use Rattle.kw_words.specs.declared.sizes.TheConstants.{VALUE_END};
 ghost use Rattle.kw_core.specs.Events.{is_call_in_range};
 ghost use Rattle.kw_core.specs.Stages.{is_put};
-ghost use Rattle.kw_world.specs.Local.{resting};
 ghost use Rattle.kw_world.specs.Opening.{IsOpening};
 ghost use Rattle.kw_world.specs.Sizes.{product};
 ghost use Rattle.kw_model.specs.Counts.{CountRose};
 ghost use Rattle.kw_model.specs.Map.{found};
-ghost use Rattle.kw_table.specs.Meetings.{AtEach, MeetsAt, front_seen};
-ghost use Rattle.kw_table.specs.Passes.{IsFresh, IsPassOf, view};
+ghost use Rattle.kw_table.specs.Passes.{IsFresh, IsPassOf, opening_of, view};
 ghost use Rattle.kw_table.specs.Views.{Meets};
 ghost use Rattle.kw_follow.specs.Calling.{Calls, KeepsCalls};
-ghost use Rattle.kw_follow.specs.Following.{Follows, GoesTo, activity_in};
+ghost use Rattle.kw_follow.specs.Following.{Follows, GoesTo};
 ghost use Rattle.kw_map.specs.Gather.{IsBelow, Takes};
 ghost use Rattle.kw_map.specs.Kiwi.{AnswersScan, HasCause, IsIdle, IsOrdered, put_reply, stands_after};
+ghost use Rattle.kw_map.specs.Meetings.{AtEach, MeetsAt, front_seen};
 
 use crate::gather::{Gather, Stop};
+use crate::meeting;
+use crate::pass::Pass;
 use crate::scanning::gather_rows;
+use kw_index::hints::Hints;
 use kw_index::index::Index;
 use kw_live::{TryPut, enter, enter_anew, get, leave, locate, try_put};
-use kw_live_rebal::{Rebalanced, rebalance};
+use kw_live_rebal::{Rebalanced, guess, rebalance};
 use kw_model::call::Call;
 use kw_model::memory::Memory;
-use kw_table::{Hints, Pass, Shared};
+use kw_table::{Pass as Seat, Shared};
 use kw_world::activity::Activity;
+use kw_world::activity::rebalance::Rebalance;
+use kw_world::activity::rebalance::engage::Engage;
 use kw_world::local::Local;
 use std::alloc::Global;
+use std::marker::Model;
 use std::sync::Wait;
 use thiserror::Error;
 
@@ -64,11 +69,19 @@ pub enum ScanEnd {
 /// pass of its own.
 ///
 /// Beside the table it has an index, which names a row to begin at for each key; no clause rests on
-/// that.
+/// that. A contract sees of a map its table alone.
 #[derive(Drop)]
 pub struct Kiwi {
-    pub(crate) shared: Shared,
-    pub(crate) index: Index,
+    shared: Shared,
+    index: Index,
+}
+
+impl Model for Kiwi {
+    ghost use Rattle.kw_table.specs.declared.shared.Shared.{Shared};
+
+    ghost Value = { Shared };
+
+    ghost view = { λ m. m.shared };
 }
 
 impl Kiwi {
@@ -79,11 +92,11 @@ impl Kiwi {
     pub fn open(alloc: Global, rows: u32, passes: u32) -> Result<(Kiwi, Vec<Pass>), Memory>
         requires { IsOpening product
             (record { rows = rows; seats = passes; clock = 1; epoch = 1 }) }
-        ensures opening { IfOk result (λ made. made.0.shared.opening
+        ensures opening { IfOk result (λ made. opening_of made.0
             ≡ record { rows = rows; seats = passes; clock = 1; epoch = 1 }) }
         ensures len { IfOk result (λ made. vec_len made.1 ≡ passes) }
         ensures each { IfOk result (λ made. (i : ℕ) (d : _) → i < vec_len made.1 →
-            IsFresh made.0.shared i (slice_index_or made.1.items i d)) }
+            IsFresh made.0 i (slice_index_or made.1.items i d)) }
         ensures idle { IfOk result (λ made. All (IsIdle made.0) made.1.items) }
     {
         Kiwi::open_at(alloc, rows, passes, 1, 1)
@@ -99,15 +112,16 @@ impl Kiwi {
     ) -> Result<(Kiwi, Vec<Pass>), Memory>
         requires { IsOpening product
             (record { rows = rows; seats = passes; clock = clock; epoch = epoch }) }
-        ensures opening { IfOk result (λ made. made.0.shared.opening
+        ensures opening { IfOk result (λ made. opening_of made.0
             ≡ record { rows = rows; seats = passes; clock = clock; epoch = epoch }) }
         ensures len { IfOk result (λ made. vec_len made.1 ≡ passes) }
         ensures each { IfOk result (λ made. (i : ℕ) (d : _) → i < vec_len made.1 →
-            IsFresh made.0.shared i (slice_index_or made.1.items i d)) }
+            IsFresh made.0 i (slice_index_or made.1.items i d)) }
         ensures idle { IfOk result (λ made. All (IsIdle made.0) made.1.items) }
     {
-        let (shared, passes) = Shared::open(alloc, rows, passes, clock, epoch)?;
-        let index = index_of(alloc, rows)?;
+        let (shared, seats) = Shared::open(alloc, rows, passes, clock, epoch)?;
+        let index = Index::new(alloc, rows)?;
+        let passes = passes_at(alloc, seats, rows, rows / passes)?;
         Ok((Kiwi { shared, index }, passes))
     }
 
@@ -117,15 +131,13 @@ impl Kiwi {
     pub fn get(&self, pass: &mut Pass, key: u32) -> Option<u64>
         requires { IsIdle self.now pass.old }
         ensures idle { IsIdle self.now pass.new }
-        ensures goes { GoesTo self.now.shared pass.old pass.new }
+        ensures goes { GoesTo self.now pass.old pass.new }
         ensures calls { Calls pass.old pass.new (Call.Get key) (found result) }
         ensures ordered { IsOrdered (view pass.new) }
     {
-        let mut local = pass.lend();
-        let guess = pass.guess(&self.shared, &self.index, key);
-        let found = get(&self.shared, pass, &mut local, key, guess);
-        pass.give(local);
-        found
+        let Pass { seat, local, hints } = pass;
+        let row = guess(&self.shared, &self.index, hints, key);
+        get(&self.shared, seat, local, key, row)
     }
 
     /// Sets the value of a key, which is below `VALUE_END`.
@@ -140,7 +152,7 @@ impl Kiwi {
         requires idle { IsIdle self.now pass.old }
         requires value { value < VALUE_END }
         ensures idle { IsIdle self.now pass.new }
-        ensures goes { GoesTo self.now.shared pass.old pass.new }
+        ensures goes { GoesTo self.now pass.old pass.new }
         ensures calls { Calls pass.old pass.new (Call.Put key value) (put_reply result) }
         ensures cause { HasCause pass.old pass.new (Call.Put key value) result }
         ensures ordered { IsOrdered (view pass.new) }
@@ -152,7 +164,7 @@ impl Kiwi {
     pub fn delete<R: Wait>(&self, rt: &R, pass: &mut Pass, key: u32) -> Result<(), PutEnd>
         requires { IsIdle self.now pass.old }
         ensures idle { IsIdle self.now pass.new }
-        ensures goes { GoesTo self.now.shared pass.old pass.new }
+        ensures goes { GoesTo self.now pass.old pass.new }
         ensures calls { Calls pass.old pass.new (Call.Del key) (put_reply result) }
         ensures cause { HasCause pass.old pass.new (Call.Del key) result }
         ensures ordered { IsOrdered (view pass.new) }
@@ -182,168 +194,124 @@ impl Kiwi {
         requires idle { IsIdle self.now pass.old }
         requires above { IsBelow (G.last into.old) from }
         ensures idle { IsIdle self.now pass.new }
-        ensures goes { GoesTo self.now.shared pass.old pass.new }
+        ensures goes { GoesTo self.now pass.old pass.new }
         ensures answers { AnswersScan (λ pairs. Takes G.last G.stands into.old pairs into.new)
             (CountRose (G.stops into.old) (G.stops into.new)) (into.new ≡ into.old)
             pass.old pass.new from to result }
         ensures ordered { IsOrdered (view pass.new) }
     {
-        let mut local = pass.lend();
-        let guess = pass.guess(&self.shared, &self.index, from);
-        let scanned = self.scan_by(pass, &mut local, from, to, guess, into);
-        pass.give(local);
-        scanned
+        let Pass { seat, local, hints } = pass;
+        let local: &mut Local = local;
+        let row = guess(&self.shared, &self.index, hints, from);
+        enter(&self.shared, seat, local, Call::Scan(from, to));
+        if let Activity::Leave(_) = local.activity {
+            leave(&self.shared, seat, local);
+            return Err(ScanEnd::Spent);
+        }
+        let gathered = gather_rows(&self.shared, seat, local, row, to, into);
+        leave(&self.shared, seat, local);
+        // each arm returns by itself, so that the prover is asked for each end apart
+        match gathered {
+            Ok(()) => return Ok(()),
+            Err(Stop) => return Err(ScanEnd::Stopped),
+        }
     }
 
     /// Both passes have then seen one list of events, which both old ones begin. No event is made,
     /// and no memory taken; a pass that was idle is idle.
     pub fn meet(&self, a: &mut Pass, b: &mut Pass)
-        requires one { IsPassOf self.now.shared a.old }
-        requires other { IsPassOf self.now.shared b.old }
-        ensures one { IsPassOf self.now.shared a.new × Meets (view a.old) (view a.new) }
-        ensures other { IsPassOf self.now.shared b.new × Meets (view b.old) (view b.new) }
+        requires one { IsPassOf self.now a.old }
+        requires other { IsPassOf self.now b.old }
+        ensures one { IsPassOf self.now a.new × Meets (view a.old) (view a.new) }
+        ensures other { IsPassOf self.now b.new × Meets (view b.old) (view b.new) }
         ensures same { (view a.new).seen ≡ (view b.new).seen }
         ensures idle { (IsIdle self.now a.old → IsIdle self.now a.new)
             × (IsIdle self.now b.old → IsIdle self.now b.new) }
     {
-        kw_table::meet(&self.shared, a, b);
+        kw_table::meet(&self.shared, &mut a.seat, &mut b.seat);
     }
 
     /// The same, of all passes in a slice.
     pub fn meet_all(&self, passes: &mut [Pass])
-        requires { All (IsPassOf self.now.shared) passes.old }
-        ensures { AtEach (MeetsAt self.now.shared (front_seen passes.new)) passes.old passes.new }
+        requires { All (IsPassOf self.now) passes.old }
+        ensures { AtEach (MeetsAt self.now (front_seen passes.new)) passes.old passes.new }
     {
-        kw_table::meet_all(&self.shared, passes);
+        meeting::meet_all(&self.shared, passes);
     }
 }
 
-// The calls, by the local that the pass lent. It is at rest before and afterwards.
+// A put or a delete.
 impl Kiwi {
-    // A put or a delete.
+    // It tries at its row until it is done or refused: where the row is full it makes room, and
+    // tries again at the row that then has the key.
+    #[tactic(auto, using(crate::proofs::WholeCalls::put_starts))]
     fn update<R: Wait>(&self, rt: &R, pass: &mut Pass, call: Call) -> Result<(), PutEnd>
         requires idle { IsIdle self.now pass.old }
         requires update { is_put (Some call) ≡ true }
         requires range { is_call_in_range call ≡ true }
         ensures idle { IsIdle self.now pass.new }
-        ensures goes { GoesTo self.now.shared pass.old pass.new }
+        ensures goes { GoesTo self.now pass.old pass.new }
         ensures calls { Calls pass.old pass.new call (put_reply result) }
     {
-        let mut local = pass.lend();
-        let mut hints = pass.lend_hints();
-        let done = self.update_by(rt, pass, &mut local, &mut hints, call);
-        pass.give_hints(hints);
-        pass.give(local);
-        done
-    }
-
-    // It tries at its row until it is done or refused: where the row is full it makes room, and
-    // tries again at the row that then has the key.
-    #[tactic(auto, using(crate::proofs::WholeCalls::put_starts))]
-    fn update_by<R: Wait>(
-        &self,
-        rt: &R,
-        pass: &mut Pass,
-        local: &mut Local,
-        hints: &mut Option<Box<Hints>>,
-        call: Call,
-    ) -> Result<(), PutEnd>
-        requires table { IsPassOf self.now.shared pass.old }
-        requires idle { activity_in pass.old ≡ Activity.Idle }
-        requires rested { local.old ≡ resting 0 }
-        requires update { is_put (Some call) ≡ true }
-        requires range { is_call_in_range call ≡ true }
-        ensures idle { activity_in pass.new ≡ Activity.Idle }
-        ensures rests { local.new ≡ resting 0 }
-        ensures goes { GoesTo self.now.shared pass.old pass.new }
-        ensures calls { Calls pass.old pass.new call (put_reply result) }
-    {
-        enter(&self.shared, pass, local, call);
+        let Pass { seat, local, hints } = pass;
+        let local: &mut Local = local;
+        enter(&self.shared, seat, local, call);
         for _ in rt.forever() {
-            let row = self.shared.guess(hints, &self.index, local.want);
-            locate(&self.shared, pass, local, row);
-            if let TryPut::Done = try_put(&self.shared, pass, local) {
-                leave(&self.shared, pass, local);
+            let row = guess(&self.shared, &self.index, hints, local.want);
+            locate(&self.shared, seat, local, row);
+            if let TryPut::Done = try_put(&self.shared, seat, local) {
+                leave(&self.shared, seat, local);
                 return Ok(());
             }
-            if let Some(end) = self.make_room(rt, pass, local, hints) {
-                leave(&self.shared, pass, local);
+            if let Some(end) = make_room(rt, &self.shared, &self.index, hints, seat, local) {
+                leave(&self.shared, seat, local);
                 return Err(end);
             }
         }
         unreachable!()
     }
+}
 
-    // Rebalances the full row of a put or a delete, and begins the call anew; or says why it can't,
-    // and the call is about to leave with that.
-    fn make_room<R: Wait>(
-        &self,
-        rt: &R,
-        pass: &mut Pass,
-        local: &mut Local,
-        hints: &mut Option<Box<Hints>>,
-    ) -> Option<PutEnd>
-        requires follows { Follows self.now.shared pass.old local.old }
-        requires activity { local.old.activity ≡ Activity.BalClock }
-        requires untidied { local.old.tidies ≡ false }
-        requires update { is_put local.old.call ≡ true }
-        ensures goes { GoesTo self.now.shared pass.old pass.new }
-        ensures follows { Follows self.now.shared pass.new local.new }
-        ensures stands { local.new.activity ≡ stands_after result }
-        ensures call { local.new.call ≡ local.old.call }
-        ensures calls { KeepsCalls pass.old pass.new }
-    {
-        match rebalance(rt, &self.shared, &self.index, hints, pass, local) {
-            Rebalanced::Done | Rebalanced::Again => {
-                enter_anew(&self.shared, pass, local);
-                None
-            }
-            Rebalanced::NoRows => Some(PutEnd::NoRows),
-            Rebalanced::Spent => Some(PutEnd::Spent),
+// Rebalances the full row of a put or a delete, and begins the call anew; or says why it can't, and
+// the call is about to leave with that.
+fn make_room<R: Wait>(
+    rt: &R,
+    shared: &Shared,
+    index: &Index,
+    hints: &mut Hints,
+    pass: &mut Seat,
+    local: &mut Local,
+) -> Option<PutEnd>
+    requires follows { Follows shared.now pass.old local.old }
+    requires activity { local.old.activity ≡ Activity.Rebalance (Rebalance.Engage Engage.Clock) }
+    requires untidied { local.old.tidies ≡ false }
+    requires update { is_put local.old.call ≡ true }
+    ensures goes { GoesTo shared.now pass.old pass.new }
+    ensures follows { Follows shared.now pass.new local.new }
+    ensures stands { local.new.activity ≡ stands_after result }
+    ensures call { local.new.call ≡ local.old.call }
+    ensures calls { KeepsCalls pass.old pass.new }
+{
+    match rebalance(rt, shared, index, hints, pass, local) {
+        Rebalanced::Done | Rebalanced::Again => {
+            enter_anew(shared, pass, local);
+            None
         }
-    }
-
-    // A scan, whose walk to its first row begins at the guess, if there is one.
-    fn scan_by<G: Gather>(
-        &self,
-        pass: &mut Pass,
-        local: &mut Local,
-        from: u32,
-        to: u32,
-        guess: Option<u32>,
-        into: &mut G,
-    ) -> Result<(), ScanEnd>
-        requires table { IsPassOf self.now.shared pass.old }
-        requires idle { activity_in pass.old ≡ Activity.Idle }
-        requires rested { local.old ≡ resting 0 }
-        requires above { IsBelow (G.last into.old) from }
-        ensures idle { activity_in pass.new ≡ Activity.Idle }
-        ensures rests { local.new ≡ resting 0 }
-        ensures goes { GoesTo self.now.shared pass.old pass.new }
-        ensures answers { AnswersScan (λ pairs. Takes G.last G.stands into.old pairs into.new)
-            (CountRose (G.stops into.old) (G.stops into.new)) (into.new ≡ into.old)
-            pass.old pass.new from to result }
-    {
-        enter(&self.shared, pass, local, Call::Scan(from, to));
-        if let Activity::Leave(_) = local.activity {
-            leave(&self.shared, pass, local);
-            return Err(ScanEnd::Spent);
-        }
-        let gathered = gather_rows(&self.shared, pass, local, guess, to, into);
-        leave(&self.shared, pass, local);
-        match gathered {
-            Ok(()) => Ok(()),
-            Err(Stop) => Err(ScanEnd::Stopped),
-        }
+        Rebalanced::NoRows => Some(PutEnd::NoRows),
+        Rebalanced::Spent => Some(PutEnd::Spent),
     }
 }
 
-// The index of a map of this many rows, at least 1.
-fn index_of(alloc: Global, rows: u32) -> Result<Index, Memory>
-    requires { 1 ≤ rows }
+// A pass for each seat, in a map of so many rows: the first one searches for free rows from row 0
+// on, and each other one so many rows behind the one before it.
+fn passes_at(alloc: Global, seats: Vec<Seat>, rows: u32, apart: u32) -> Result<Vec<Pass>, Memory>
+    ensures { IfOk result (λ passes. passes.items ≡ seats.items) }
 {
-    match Index::new(alloc, rows) {
-        Ok(index) => Ok(index),
-        Err(_) => Err(Memory),
+    let mut passes = Vec::new(alloc);
+    let mut first: u32 = 0;
+    for seat in seats {
+        passes.push(Pass::new(alloc, seat, rows, first)?)?;
+        first = first.saturating_add(apart);
     }
+    Ok(passes)
 }

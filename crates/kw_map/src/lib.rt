@@ -1,6 +1,7 @@
 //! The concurrent map, and what its scans hand their pairs to.
 //!
-//! `kiwi` has the map and its calls, and `scanning` the rows of a scan, one after the other;
+//! `kiwi` has the map and its calls, `pass` what a caller has for these, and `meeting` how passes
+//! come to have seen one list; `scanning` has the rows of a scan, one after the other, and
 //! `handing` hands on the pairs of a row while it is read, where a next row is known to follow. All
 //! are put together from the functions of `kw_live` and `kw_live_rebal`, by their contracts.
 //! `gather` has the trait of whatever takes the pairs of a scan, and the walk that hands it the
@@ -11,21 +12,24 @@
 //! rebalance that won tells it of the new rows. It makes walks short, and no reply depends on it.
 //!
 //! What a call says of the pass that made it stands in `specs/Kiwi.antt`, why a call was refused in
-//! `specs/Refusals.antt`, what it is to take a list of pairs in `specs/Gather.antt`, and for which
-//! lists a gatherer of a number stands in `specs/GatherNumbers.antt`. `get`, `scan` and the
-//! meetings take no handle, so their types say that they return whatever others do; `put` and
-//! `delete` take the runtime with `Wait`. Only `open` and the gatherer of all pairs take memory.
+//! `specs/Refusals.antt`, what passes know that met in `specs/Meetings.antt`, what it is to take a
+//! list of pairs in `specs/Gather.antt`, and for which lists a gatherer of a number stands in
+//! `specs/GatherNumbers.antt`. `get`, `scan` and the meetings take no handle, so their types say
+//! that they return whatever others do; `put` and `delete` take the runtime with `Wait`. Only
+//! `open` and the gatherer of all pairs take memory.
 //!
 //! # For a caller
 //!
 //! A crate that stands on `kw_map` needs no other of ours (`kw_example` is a whole program):
 //!
 //! ```text
-//! let (kiwi, mut passes) = Kiwi::open(rt.alloc(), 64, 2)?;      // 64 rows, two callers // threads
-//! share `&kiwi`, and each takes one of the passes kiwi.put(&rt, &mut pass, 1001, 250)?;
-//! // or a PutEnd: nothing has changed let value = kiwi.get(&mut pass, 1001);
-//! // Some(250) let mut sum = SumGather::new(); kiwi.scan(&mut pass, 1000, 1999, &mut sum)?;
-//! // all values of the range, as they stood at one moment let total = sum.total();
+//! let (kiwi, mut passes) = Kiwi::open(rt.alloc(), 64, 2)?; // 64 rows, two callers
+//! // threads share `&kiwi`, and each takes one of the passes
+//! kiwi.put(&rt, &mut pass, 1001, 250)?; // or a PutEnd: nothing has changed
+//! let value = kiwi.get(&mut pass, 1001); // Some(250)
+//! let mut sum = SumGather::new();
+//! kiwi.scan(&mut pass, 1000, 1999, &mut sum)?;
+//! let total = sum.total(); // of all values of the range, as they stood at one moment
 //! ```
 //!
 //! Each call asks that its pass is one of this map and makes no call (`IsIdle`), and leaves it so;
@@ -42,10 +46,12 @@ pub mod gather_list;
 pub mod gather_numbers;
 mod handing;
 pub mod kiwi;
+mod meeting;
+pub mod pass;
 mod scanning;
 
 pub use crate::gather::{Gather, Stop};
 pub use crate::gather_list::ListGather;
 pub use crate::gather_numbers::{CountGather, GreatestGather, LeastGather, SumGather};
 pub use crate::kiwi::{Kiwi, PutEnd, ScanEnd};
-pub use kw_table::Pass;
+pub use crate::pass::Pass;

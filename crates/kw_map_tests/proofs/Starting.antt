@@ -3,22 +3,27 @@ use Rattle.std.proofs.Common.{◌≡◌, true, Option, Some, None, refl}
 use Rattle.kw_model.specs.declared.call.Call.{Call}
 use Rattle.kw_model.specs.declared.call.Call.TheVariants.{Put, Del, Get, Scan}
 use Rattle.kw_world.specs.declared.activity.Activity.{Activity}
-use Rattle.kw_world.specs.declared.activity.Activity.TheVariants.{Start, PutCount}
+use Rattle.kw_world.specs.declared.activity.Activity.TheVariants as Activity
+use Rattle.kw_world.specs.declared.activity.put.Put.TheVariants as Put
+use Rattle.kw_world.specs.declared.activity.walk.Walk.TheVariants as Walk
+use Rattle.kw_world.specs.declared.activity.rebalance.Rebalance.TheVariants as Rebalance
+use Rattle.kw_world.specs.declared.activity.rebalance.replace.Replace.TheVariants as Replace
 use Rattle.kw_core.specs.Stages.{is_put, is_walking}
 use Rattle.kw_puts.proofs.Owners.{true_false}
 use Rattle.kw_live.specs.Stages.{HasEntered, arrived}
 
 -- a put or a delete that has entered is to begin its walk
 pub update_starts : (call : Call) (a : Activity) → is_put (Some call) ≡ true → HasEntered call a → is_walking a ≡ true
-update_starts (Put key value) Start is h = refl
+update_starts (Put key value) (Activity.Walk Walk.Start) is h = refl
 update_starts (Put key value) _ is h = absurd h
-update_starts (Del key) Start is h = refl
+update_starts (Del key) (Activity.Walk Walk.Start) is h = refl
 update_starts (Del key) _ is h = absurd h
+update_starts (Get key) (Activity.Rebalance (Rebalance.Replace Replace.First)) is h = true_false is refl
 update_starts (Get key) a is h = true_false is refl
 update_starts (Scan from upto) a is h = true_false is refl
 
 -- one that has arrived is at its row, and is to load the count
-pub put_arrives : (call : Option Call) → is_put call ≡ true → arrived call ≡ PutCount
+pub put_arrives : (call : Option Call) → is_put call ≡ true → arrived call ≡ Activity.Put Put.Count
 put_arrives (Some (Put key value)) e = refl
 put_arrives (Some (Del key)) e = refl
 put_arrives (Some (Get key)) e = true_false e refl

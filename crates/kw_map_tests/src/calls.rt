@@ -6,9 +6,8 @@ ghost use Rattle.kw_world.specs.Sizes.{product};
 ghost use Rattle.kw_map.specs.Kiwi.{IsIdle};
 
 use crate::gatherers::Roomy;
-use kw_map::{CountGather, Kiwi, PutEnd, ScanEnd, Stop, SumGather};
+use kw_map::{CountGather, Kiwi, Pass, PutEnd, ScanEnd, Stop, SumGather};
 use kw_model::memory::Memory;
-use kw_table::Pass;
 use std::alloc::Global;
 use std::process::Abort;
 use std::sync::Wait;

@@ -2,8 +2,7 @@
 ghost use Rattle.kw_map.specs.Kiwi.{IsIdle};
 
 use crate::calls::{open_one, sum_of};
-use kw_map::{Kiwi, PutEnd};
-use kw_table::Pass;
+use kw_map::{Kiwi, Pass, PutEnd};
 use std::sync::Wait;
 use std::test::Fail;
 

@@ -15,6 +15,7 @@ use kw_model::memory::Memory;
 use kw_model::pair_list::PairList;
 use kw_table::{Pass, Shared};
 use kw_world::activity::Activity;
+use kw_world::activity::walk::Walk;
 use kw_world::event::Choice;
 use kw_world::local::Local;
 use std::alloc::Global;
@@ -157,7 +158,7 @@ pub(crate) fn scan_row(
 {
     let mut local = Local::idle(alloc);
     enter(shared, pass, &mut local, Call::Scan(from, upto));
-    let Activity::Start = local.activity else {
+    let Activity::Walk(Walk::Start) = local.activity else {
         return None;
     };
     locate(shared, pass, &mut local, guess);
@@ -170,7 +171,7 @@ pub(crate) fn finish(shared: &Shared, pass: &mut Pass, local: Local) -> Option<R
     requires follows { Follows shared.now pass.old local }
 {
     let mut local = local;
-    let Activity::ClearScan(_) = local.activity else {
+    let Activity::EndScan(_) = local.activity else {
         return None;
     };
     end_scan(shared, pass, &mut local);

@@ -20,6 +20,9 @@ use kw_model::pair_list::PairList;
 use kw_table::{Pass, Shared};
 use kw_words::kind::Kind;
 use kw_world::activity::Activity;
+use kw_world::activity::look::Look;
+use kw_world::activity::put::Put;
+use kw_world::activity::walk::Walk;
 use kw_world::event::Choice;
 use kw_world::local::Local;
 use std::alloc::Global;
@@ -43,7 +46,7 @@ fn kinds_after_guess(
     guess: Option<u32>,
 ) -> Result<Vec<Kind>, Memory>
     requires follows { Follows shared.now pass.old local.old }
-    requires start { local.old.activity ≡ Activity.Start }
+    requires start { local.old.activity ≡ Activity.Walk Walk.Start }
 {
     let mut kinds = Vec::new(alloc);
     let first = match guess {
@@ -75,12 +78,12 @@ fn kinds_on_the_way(
     };
     let mut local = Local::idle(alloc);
     enter(&shared, &mut pass, &mut local, call);
-    let Activity::Start = local.activity else {
+    let Activity::Walk(Walk::Start) = local.activity else {
         return Ok(None);
     };
     let kinds = kinds_after_guess(alloc, &shared, &mut pass, &mut local, guess)?;
     match (&local.activity, local.row) {
-        (Activity::PutCount | Activity::Look(0), 0) => Ok(Some(kinds)),
+        (Activity::Put(Put::Count) | Activity::Look(Look::Entry(0)), 0) => Ok(Some(kinds)),
         _ => Ok(None),
     }
 }

@@ -9,6 +9,7 @@ ghost use Rattle.kw_follow.specs.Following.{Follows, activity_in};
 ghost use Rattle.kw_table.specs.Passes.{IsPassOf};
 ghost use Rattle.kw_world.specs.Local.{resting};
 
+use kw_index::hints::Hints;
 use kw_index::index::Index;
 use kw_live::{TryPut, enter, enter_anew, get, leave, locate, try_put};
 use kw_live_rebal::{Rebalanced, rebalance};
@@ -16,6 +17,8 @@ use kw_model::call::{Call, Reply};
 use kw_table::{Pass, Shared};
 use kw_words::sizes::{CELL_COUNT, SPENT};
 use kw_world::activity::Activity;
+use kw_world::activity::rebalance::Rebalance;
+use kw_world::activity::rebalance::engage::Engage;
 use kw_world::local::Local;
 use std::process::Abort;
 use std::sync::Wait;
@@ -38,7 +41,7 @@ fn put_once(
     ensures done { IfNone result ((activity_in pass.new ≡ Activity.Idle)
         × (local.new ≡ resting 0)) }
     ensures full { IfSome result (λ row. Follows shared.now pass.new local.new
-        × (local.new.activity ≡ Activity.BalClock) × (is_put local.new.call ≡ true)
+        × (local.new.activity ≡ Activity.Rebalance (Rebalance.Engage Engage.Clock)) × (is_put local.new.call ≡ true)
         × (local.new.tidies ≡ false)) }
 {
     enter(shared, pass, local, Call::Put(key, value));
@@ -58,6 +61,7 @@ fn put<R: Wait + Abort>(
     rt: &R,
     shared: &Shared,
     index: &Index,
+    hints: &mut Hints,
     pass: &mut Pass,
     local: &mut Local,
     key: u32,
@@ -74,7 +78,7 @@ fn put<R: Wait + Abort>(
     let Some(full) = put_once(shared, pass, local, key, value) else {
         return None;
     };
-    let Rebalanced::Done = rebalance(rt, shared, index, &mut None, pass, local) else {
+    let Rebalanced::Done = rebalance(rt, shared, index, hints, pass, local) else {
         panic!(rt; "a row in place of the full one");
     };
     enter_anew(shared, pass, local);
@@ -93,6 +97,7 @@ fn put_until_replaced<R: Wait + Abort>(
     rt: &R,
     shared: &Shared,
     index: &Index,
+    hints: &mut Hints,
     pass: &mut Pass,
     local: &mut Local,
     from: u64,
@@ -105,7 +110,7 @@ fn put_until_replaced<R: Wait + Abort>(
     ensures rests { local.new ≡ resting 0 }
 {
     for value in from..201 {
-        if let Some(rows) = put(rt, shared, index, pass, local, 7, value) {
+        if let Some(rows) = put(rt, shared, index, hints, pass, local, 7, value) {
             return Some((value, rows));
         }
     }
@@ -118,6 +123,7 @@ fn fill<R: Wait + Abort>(
     rt: &R,
     shared: &Shared,
     index: &Index,
+    hints: &mut Hints,
     pass: &mut Pass,
     local: &mut Local,
     step: u32,
@@ -131,7 +137,7 @@ fn fill<R: Wait + Abort>(
 {
     let mut key: u32 = 0;
     for _ in 0..CELL_COUNT {
-        if put(rt, shared, index, pass, local, key, 1).is_some() {
+        if put(rt, shared, index, hints, pass, local, key, 1).is_some() {
             panic!(rt; "room in the row");
         }
         key = key.saturating_add(step);
@@ -143,6 +149,7 @@ fn refusal<R: Wait + Abort>(
     rt: &R,
     shared: &Shared,
     index: &Index,
+    hints: &mut Hints,
     pass: &mut Pass,
     local: &mut Local,
     key: u32,
@@ -157,7 +164,7 @@ fn refusal<R: Wait + Abort>(
     if put_once(shared, pass, local, key, 1).is_none() {
         panic!(rt; "a full row");
     }
-    match rebalance(rt, shared, index, &mut None, pass, local) {
+    match rebalance(rt, shared, index, hints, pass, local) {
         Rebalanced::NoRows => (Rebalanced::NoRows, leave(shared, pass, local)),
         Rebalanced::Spent => (Rebalanced::Spent, leave(shared, pass, local)),
         _ => panic!(rt; "no row in place of the full one"),
@@ -170,12 +177,13 @@ fn refusal<R: Wait + Abort>(
 fn a_put_replaces_its_row(rt: HostRuntime) -> Result<(), Fail> {
     let (shared, mut passes) = Shared::open(rt.alloc(), 2, 1, 1, 1)?;
     let index = Index::new(rt.alloc(), 2)?;
+    let mut hints = Hints::new(rt.alloc(), 2, 0)?;
     let Some(mut pass) = passes.pop() else {
         panic!(rt; "a pass");
     };
     let mut local = Local::idle(rt.alloc());
-    let first = put_until_replaced(&rt, &shared, &index, &mut pass, &mut local, 1);
-    let second = put_until_replaced(&rt, &shared, &index, &mut pass, &mut local, 66);
+    let first = put_until_replaced(&rt, &shared, &index, &mut hints, &mut pass, &mut local, 1);
+    let second = put_until_replaced(&rt, &shared, &index, &mut hints, &mut pass, &mut local, 66);
     let found = get(&shared, &mut pass, &mut local, 7, None);
     let replaced = (Some((65, (0, 1))), Some((128, (1, 0))));
     assert_eq!(rt; ((first, second), found), (replaced, Some(128)));
@@ -188,13 +196,14 @@ fn a_put_replaces_its_row(rt: HostRuntime) -> Result<(), Fail> {
 fn a_put_is_refused_for_want_of_rows(rt: HostRuntime) -> Result<(), Fail> {
     let (shared, mut passes) = Shared::open(rt.alloc(), 1, 1, 1, 1)?;
     let index = Index::new(rt.alloc(), 1)?;
+    let mut hints = Hints::new(rt.alloc(), 1, 0)?;
     let Some(mut pass) = passes.pop() else {
         panic!(rt; "a pass");
     };
     let mut local = Local::idle(rt.alloc());
-    fill(&rt, &shared, &index, &mut pass, &mut local, 0);
-    let first = refusal(&rt, &shared, &index, &mut pass, &mut local, 0);
-    let second = refusal(&rt, &shared, &index, &mut pass, &mut local, 0);
+    fill(&rt, &shared, &index, &mut hints, &mut pass, &mut local, 0);
+    let first = refusal(&rt, &shared, &index, &mut hints, &mut pass, &mut local, 0);
+    let second = refusal(&rt, &shared, &index, &mut hints, &mut pass, &mut local, 0);
     let found = get(&shared, &mut pass, &mut local, 0, None);
     let refused = (Rebalanced::NoRows, Reply::NoRows);
     let again = (Rebalanced::NoRows, Reply::NoRows);
@@ -208,13 +217,18 @@ fn a_put_is_refused_for_want_of_rows(rt: HostRuntime) -> Result<(), Fail> {
 fn a_row_that_is_not_enough_is_given_back(rt: HostRuntime) -> Result<(), Fail> {
     let (shared, mut passes) = Shared::open(rt.alloc(), 2, 1, 1, 1)?;
     let index = Index::new(rt.alloc(), 2)?;
+    let mut hints = Hints::new(rt.alloc(), 2, 0)?;
     let Some(mut pass) = passes.pop() else {
         panic!(rt; "a pass");
     };
     let mut local = Local::idle(rt.alloc());
-    fill(&rt, &shared, &index, &mut pass, &mut local, 1);
-    let first = refusal(&rt, &shared, &index, &mut pass, &mut local, CELL_COUNT);
-    let second = refusal(&rt, &shared, &index, &mut pass, &mut local, CELL_COUNT);
+    fill(&rt, &shared, &index, &mut hints, &mut pass, &mut local, 1);
+    let first = refusal(
+        &rt, &shared, &index, &mut hints, &mut pass, &mut local, CELL_COUNT,
+    );
+    let second = refusal(
+        &rt, &shared, &index, &mut hints, &mut pass, &mut local, CELL_COUNT,
+    );
     let refused = (Rebalanced::NoRows, Reply::NoRows);
     let again = (Rebalanced::NoRows, Reply::NoRows);
     assert_eq!(rt; (first, second), (refused, again));
@@ -227,12 +241,15 @@ fn a_row_that_is_not_enough_is_given_back(rt: HostRuntime) -> Result<(), Fail> {
 fn a_row_of_many_keys_is_split(rt: HostRuntime) -> Result<(), Fail> {
     let (shared, mut passes) = Shared::open(rt.alloc(), 3, 1, 1, 1)?;
     let index = Index::new(rt.alloc(), 3)?;
+    let mut hints = Hints::new(rt.alloc(), 3, 0)?;
     let Some(mut pass) = passes.pop() else {
         panic!(rt; "a pass");
     };
     let mut local = Local::idle(rt.alloc());
-    fill(&rt, &shared, &index, &mut pass, &mut local, 1);
-    let rows = put(&rt, &shared, &index, &mut pass, &mut local, CELL_COUNT, 1);
+    fill(&rt, &shared, &index, &mut hints, &mut pass, &mut local, 1);
+    let rows = put(
+        &rt, &shared, &index, &mut hints, &mut pass, &mut local, CELL_COUNT, 1,
+    );
     let found = get(&shared, &mut pass, &mut local, 31, None);
     assert_eq!(rt; (rows, found), (Some((0, 2)), Some(1)));
     Ok(())
@@ -244,13 +261,14 @@ fn no_rebalance_begins_where_numbers_are_spent(rt: HostRuntime) -> Result<(), Fa
     for (clock, epoch) in [(SPENT, 1), (1, SPENT)] {
         let (shared, mut passes) = Shared::open(rt.alloc(), 2, 1, clock, epoch)?;
         let index = Index::new(rt.alloc(), 2)?;
+        let mut hints = Hints::new(rt.alloc(), 2, 0)?;
         let Some(mut pass) = passes.pop() else {
             panic!(rt; "a pass");
         };
         let mut local = Local::idle(rt.alloc());
-        fill(&rt, &shared, &index, &mut pass, &mut local, 0);
+        fill(&rt, &shared, &index, &mut hints, &mut pass, &mut local, 0);
         assert_eq!(rt;
-            refusal(&rt, &shared, &index, &mut pass, &mut local, 0),
+            refusal(&rt, &shared, &index, &mut hints, &mut pass, &mut local, 0),
             (Rebalanced::Spent, Reply::Spent)
         );
     }
@@ -262,17 +280,20 @@ fn no_rebalance_begins_where_numbers_are_spent(rt: HostRuntime) -> Result<(), Fa
 fn a_put_finds_its_row_replaced(rt: HostRuntime) -> Result<(), Fail> {
     let (shared, mut passes) = Shared::open(rt.alloc(), 3, 2, 1, 1)?;
     let index = Index::new(rt.alloc(), 3)?;
+    let mut hints = Hints::new(rt.alloc(), 3, 0)?;
     let (Some(mut second), Some(mut first)) = (passes.pop(), passes.pop()) else {
         panic!(rt; "two passes");
     };
     let mut local = Local::idle(rt.alloc());
     let mut other = Local::idle(rt.alloc());
-    fill(&rt, &shared, &index, &mut first, &mut local, 0);
+    fill(&rt, &shared, &index, &mut hints, &mut first, &mut local, 0);
     if put_once(&shared, &mut second, &mut other, 0, 2).is_none() {
         panic!(rt; "a full row");
     }
-    let rows = put(&rt, &shared, &index, &mut first, &mut local, 0, 3);
-    let ended = rebalance(&rt, &shared, &index, &mut None, &mut second, &mut other);
+    let rows = put(
+        &rt, &shared, &index, &mut hints, &mut first, &mut local, 0, 3,
+    );
+    let ended = rebalance(&rt, &shared, &index, &mut hints, &mut second, &mut other);
     assert_eq!(rt; (rows, ended), (Some((0, 1)), Rebalanced::Again));
     Ok(())
 }

@@ -4,9 +4,8 @@ ghost use Rattle.kw_words.specs.declared.sizes.TheConstants.{VALUE_END};
 ghost use Rattle.kw_map.specs.Kiwi.{IsIdle};
 
 use crate::calls::{count_of, put_each, sum_of};
-use kw_map::{Kiwi, PutEnd, SumGather};
+use kw_map::{Kiwi, Pass, PutEnd, SumGather};
 use kw_model::memory::Memory;
-use kw_table::Pass;
 use std::alloc::Global;
 use std::sync::Wait;
 use std::sync::atomic::{AtomicBool, Ordering};

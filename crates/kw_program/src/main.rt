@@ -10,7 +10,7 @@ use kw_app::outcome::{Outcome, Status};
 use kw_app::run::run;
 use kw_app::working::NoGate;
 use kw_command::word::Word;
-use kw_io::{ErrSink, StdSink, StdSource};
+use kw_io::{StdSink, StdSource};
 use std::process::ExitCode;
 use std::{env, io};
 
@@ -18,13 +18,13 @@ fn main(rt: HostRuntime) -> ExitCode {
     let outcome = match given_words(&rt) {
         Ok(words) => {
             let mut source = StdSource::new(&rt);
-            let mut sink = StdSink::new(&rt);
+            let mut sink = StdSink::output(&rt);
             run(&rt, rt.alloc(), &words, &mut source, &mut sink, &NoGate)
         }
         Err(status) => Outcome::of(status),
     };
     // A fault of standard error can be told nowhere.
-    let _ = write_fault(&outcome, &mut ErrSink::new(&rt));
+    let _ = write_fault(&outcome, &mut StdSink::errors(&rt));
     ExitCode::from(outcome.status.code())
 }
 

@@ -5,6 +5,5 @@ pub mod Sharing
 pub mod Walks
 pub mod Calls
 pub mod Fresh
-pub mod Meetings
 pub mod Carried
 pub mod AskedOperations

@@ -1,9 +1,10 @@
 -- What contracts see of a pass, and what its steps ask and give.
-use Rattle.std.specs.Prelude.{◌≡◌, ℕ, true, false, [], Some}
+use Rattle.std.specs.Prelude.{◌≡◌, ℕ, true, false, []}
 use Rattle.kw_words.specs.declared.kind.Kind.{Kind}
 use Rattle.kw_words.specs.declared.layout.Name.{Name}
 use Rattle.kw_world.specs.declared.event.Choice.{Choice}
 use Rattle.kw_world.specs.declared.operation.Action.{Action}
+use Rattle.kw_world.specs.declared.opening.Opening.{Opening}
 use Rattle.kw_world.specs.declared.operation.Operation.{Operation}
 use Rattle.kw_world.specs.Local.{resting}
 use Rattle.kw_world.specs.Step.{is_skipped}
@@ -17,13 +18,13 @@ use Rattle.kw_table.specs.declared.shared.Shared.{Shared}
 abbrev pub view : Pass → View
 view p = p.seat.me.0
 
+-- what the run of the table began with
+abbrev pub opening_of : Shared → Opening
+opening_of s = s.opening
+
 -- the pass is one of this table
 abbrev pub IsPassOf : Shared → Pass → Type 0
 IsPassOf s p = (p.seat.table_id ≡ s.table.shared.table_id) × (p.seat.me.0.opening ≡ s.opening)
-
--- the pass has its local with it, which is at rest
-abbrev pub Holds : Pass → Type 0
-Holds p = (b : _) × (p.local ≡ Some b) × (b.value ≡ resting 0)
 
 -- a pass of the table with this number that has seen and done nothing
 pub record IsFresh (s : Shared) (n : ℕ) (p : Pass) : Type 0 where
@@ -32,7 +33,6 @@ pub record IsFresh (s : Shared) (n : ℕ) (p : Pass) : Type 0 where
   pub seen : (view p).seen ≡ []
   pub mine : mine_in (view p) ≡ []
   pub local : local_in (view p) ≡ resting 0
-  pub holds : Holds p
 
 -- an operation, as one value
 abbrev pub operation : Kind → Name → Action → Operation

@@ -8,16 +8,13 @@
 //!
 //! `opening` makes a table and its passes, `kinds` and `rebalance_kinds` have one step for each
 //! kind of event and `steps` the one that takes any, and `meeting` lets passes see what others have
-//! seen. `pass` and `shared` hold the two types, and `rule` the rule and what a step tells its
-//! caller; `lending` hands out the local that a pass has with it, and its `hints`. `warming` loads
-//! rows ahead of walks, and `window` says where to search for free rows: both are for speed alone.
-//! Each step is one atomic operation on one word. Whoever stands above needs the contracts of these
-//! calls alone, and goes on by the laws over valid lists of events.
+//! seen. `pass` and `shared` hold the two types, `numbers` what a caller may ask of them, and
+//! `rule` the rule and what a step tells its caller. `warming` loads rows ahead of walks, for speed
+//! alone. Each step is one atomic operation on one word. Whoever stands above needs the contracts
+//! of these calls alone, and goes on by the laws over valid lists of events.
 #![tactic(auto)]
 
-mod hints;
 mod kinds;
-mod lending;
 mod meeting;
 mod numbers;
 mod opening;
@@ -36,16 +33,14 @@ mod tests_rebalance_kinds;
 #[cfg(test)]
 mod tests_slot;
 mod warming;
-mod window;
 
-pub use hints::Hints;
 pub use kinds::{
     add_count, announce, clear_pass, clear_pend, clear_scan, draw, help_stamp, insert, load_after,
     load_clock, load_count, load_epoch, load_head, load_key, load_link, load_min, load_pend,
     load_state, load_value, load_version, settle, stamp, store_after, store_key, store_pass,
     store_value, store_version, store_waiting,
 };
-pub use meeting::{meet, meet_all, meet_each};
+pub use meeting::meet;
 pub use pass::{Pass, View};
 pub use rebalance_kinds::{
     decide, engage, freeze_count, freeze_pend, give_back, help_draw, help_settle, load_pass,
@@ -55,4 +50,3 @@ pub use rebalance_kinds::{
 pub use rule::Rules;
 pub use shared::Shared;
 pub use steps::make;
-pub use window::Window;

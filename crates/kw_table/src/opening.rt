@@ -1,17 +1,14 @@
 //! The table at the start, and its passes.
 //!
 //! The words are those of the opening world, each at its slot. The view that the table is opened
-//! with may act for all seats, and a pass for each is cut off it, one after the other, with a local
-//! and hints of its own.
+//! with may act for all seats, and a pass for each is cut off it, one after the other.
 ghost use Rattle.std.specs.Prelude.{◌≡◌, ℕ, ◌+◌, ◌<◌, [], IfOk, vec_len, slice_index_or};
-ghost use Rattle.kw_world.specs.Local.{resting};
 ghost use Rattle.kw_world.specs.Opening.{IsOpening, opening_words};
 ghost use Rattle.kw_world.specs.Sizes.{product};
 ghost use Rattle.kw_table.specs.Passes.{IsFresh};
 ghost use Rattle.kw_table.specs.Slots.{IsLaid};
 ghost use Rattle.kw_table.specs.Views.{rest_view};
 
-use crate::hints::Hints;
 use crate::pass::{Pass, View};
 use crate::rule::Deal;
 use crate::shared::Shared;
@@ -21,7 +18,6 @@ use kw_model::memory::Memory;
 use kw_words::layout::Name;
 use kw_words::link::Link;
 use kw_words::state::State;
-use kw_world::local::Local;
 use kw_world::opening::Opening;
 use std::alloc::Global;
 
@@ -48,8 +44,7 @@ impl Shared {
     ///
     /// There are 1 to `MOST_ROWS` rows and 1 to `SEATS` passes; the clock and the epoch are from 1
     /// to `SPENT`. The words and what the seats know are those of `World::open` with these numbers.
-    /// All memory of the table and of its passes' calls is taken here, and the only error is the
-    /// want of it.
+    /// All memory of the table is taken here, and the only error is the want of it.
     pub fn open(
         alloc: Global,
         rows: u32,
@@ -94,29 +89,19 @@ impl Shared {
         ensures each { IfOk result (λ v. (i : ℕ) (d : _) → i < vec_len v →
             IsFresh self.now i (slice_index_or v.items i d)) }
     {
-        let Opening { rows, seats, .. } = self.opening;
         let mut passes = Vec::new(alloc);
-        for number in 0..seats {
-            let local = Box::new(alloc, Local::idle(alloc))?;
-            let hints = Box::new(alloc, Hints::new(alloc, rows, number * (rows / seats))?)?;
-            let pass = self.deal(&mut rest, number, local, hints);
+        for number in 0..self.opening.seats {
+            let pass = self.deal(&mut rest, number);
             passes.push(pass)?;
         }
         Ok(passes)
     }
 
     // Cuts off the first of the seats that have no pass yet.
-    fn deal(
-        &self,
-        rest: &mut Seat<(), View>,
-        number: u32,
-        local: Box<Local>,
-        hints: Box<Hints>,
-    ) -> Pass
+    fn deal(&self, rest: &mut Seat<(), View>, number: u32) -> Pass
         requires table { rest.old.table_id ≡ self.now.table.shared.table_id }
         requires rest { rest.old.me ≡ (rest_view self.now.opening number, []) }
         requires some { number < self.now.opening.seats }
-        requires rests { local.value ≡ resting 0 }
         ensures pass { IsFresh self.now number result }
         ensures rest { (rest.new.table_id ≡ rest.old.table_id)
             × (rest.new.me ≡ (rest_view self.now.opening (number + 1), [])) }
@@ -125,8 +110,6 @@ impl Shared {
         Pass {
             number,
             seat,
-            local: Some(local),
-            hints: Some(hints),
             walked: 0,
         }
     }

@@ -2,19 +2,12 @@
 //!
 //! The two types stand alone here, since their facts may name nothing that names them; what a pass
 //! can do is in the other modules.
-//!
-//! A pass has a local with it, in a box that is made with the table: what code that follows the
-//! pass's seat knows lies there while a call runs, so that a call takes no memory for it and moves
-//! none of it. `lend` in `lending` takes the box out. Its hints lie in a box of their own beside
-//! it.
 ghost use Rattle.std.specs.Prelude.{◌≡◌, ◌-◌, ◌^◌, min};
 ghost use Rattle.kw_table.specs.Known.{IsKnown};
 ghost use Rattle.kw_table.specs.Walks.{walks_in};
 
-use crate::hints::Hints;
 use atomic_table::Seat;
 use kw_world::event::Event;
-use kw_world::local::Local;
 use kw_world::opening::Opening;
 use std::collections::LinkedList;
 
@@ -35,14 +28,11 @@ pub struct View {
     pub told: LinkedList<Event>,
 }
 
-/// One caller's seat of a run. It has its number, the local and the hints that its calls use, and
-/// how many links of rows it has loaded.
+/// One caller's seat of a run. It has its number, and how many links of rows it has loaded.
 #[derive(Drop)]
 pub struct Pass {
     pub(crate) number: u32,
     pub(crate) seat: Seat<(), View>,
-    pub(crate) local: Option<Box<Local>>,
-    pub(crate) hints: Option<Box<Hints>>,
     pub(crate) walked: u64,
     ghost known: { IsKnown number seat.me },
     ghost counted: { walked ≡ min (2 ^ 64 - 1) (walks_in seat.me.0) },

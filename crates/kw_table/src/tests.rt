@@ -171,44 +171,9 @@ fn a_pass_counts_the_links_of_rows_that_it_loads(rt: HostRuntime) -> Result<(), 
     Ok(())
 }
 
-// The two passes of a table of 64 rows.
-fn passes_of_64_rows(alloc: Global) -> Result<(Pass, Pass), Memory> {
-    let (_shared, mut passes) = Shared::open(alloc, 64, 2, 1, 1)?;
-    let (Some(second), Some(first)) = (passes.pop(), passes.pop()) else {
-        unreachable!()
-    };
-    Ok((first, second))
-}
-
-// The row that a search of the pass asks first, where it then takes two rows, this one last. None
-// where its hints are not lent just once.
-fn search(pass: &mut Pass, last: u32) -> Option<u32> {
-    let mut lent = pass.lend_hints()?;
-    if pass.lend_hints().is_some() {
-        return None;
-    }
-    let start = lent.window.start();
-    lent.window.took(last, 2);
-    pass.give_hints(Some(lent));
-    Some(start)
-}
-
-// Of 64 rows and 2 passes the first searches from row 0 on, and the second from row 32 on.
 #[test]
-fn hints_are_lent_and_given_back(rt: HostRuntime) -> Result<(), Fail> {
-    let (mut first, mut second) = passes_of_64_rows(rt.alloc())?;
-    let starts = [
-        search(&mut first, 7),
-        search(&mut second, 39),
-        search(&mut second, 41),
-    ];
-    assert_eq!(rt; starts, [Some(0), Some(32), Some(40)]);
-    Ok(())
-}
-
-#[test]
-fn passes_are_numbered_and_meet(rt: HostRuntime) -> Result<(), Fail> {
-    let (shared, mut passes) = Shared::open(rt.alloc(), 64, 8, 1, 1)?;
+fn passes_are_numbered(rt: HostRuntime) -> Result<(), Fail> {
+    let (shared, passes) = Shared::open(rt.alloc(), 64, 8, 1, 1)?;
     // how many passes have the number of their place
     let mut number = 0;
     for pass in &passes {
@@ -217,6 +182,5 @@ fn passes_are_numbered_and_meet(rt: HostRuntime) -> Result<(), Fail> {
         }
     }
     assert_eq!(rt; (shared.rows(), passes.len(), number), (64, 8, 8));
-    meet_all(&shared, passes.as_mut_slice());
     Ok(())
 }

@@ -2,6 +2,9 @@
 //! 3 for each of 8 seats have a line of 8 words each, so that the first row begins at 6 + 28 * 8 =
 //! 230. A row has 12 words of its head in two lines, and 4 for each of 64 cells: 272 in all. The
 //! states follow behind the last row.
+ghost use Rattle.kw_words.specs.Layout.{IsSized, IsWithin};
+ghost use Rattle.kw_words.specs.declared.sizes.TheConstants.{SEATS, CELLS};
+
 use crate::opening::opening_words;
 use crate::shared::Shared;
 use crate::slot::{WORDS_A_LINE, slot, slots};
@@ -10,20 +13,28 @@ use kw_words::layout::Name;
 use kw_world::opening::Opening;
 use std::test::Fail;
 
+// Where a word lies, without the clauses of `slot`, which the tests need not know.
+fn place(rows: u32, word: Name) -> usize
+    requires sized { IsSized SEATS CELLS rows }
+    requires within { IsWithin SEATS CELLS rows word }
+{
+    slot(rows, word)
+}
+
 #[test]
 fn pass_words_have_a_line_each(rt: HostRuntime) {
-    let one = slot(2, Name::Pass(0));
-    let other = slot(2, Name::Pass(1));
+    let one = place(2, Name::Pass(0));
+    let other = place(2, Name::Pass(1));
     assert_eq!(rt; (one, other, other.abs_diff(one)), (38, 46, WORDS_A_LINE));
 }
 
 #[test]
 fn words_of_no_row_lie_before_the_rows(rt: HostRuntime) {
     let found = [
-        slot(2, Name::Clock),
-        slot(2, Name::Turn),
-        slot(2, Name::Scan(0)),
-        slot(2, Name::Pin(7)),
+        place(2, Name::Clock),
+        place(2, Name::Turn),
+        place(2, Name::Scan(0)),
+        place(2, Name::Pin(7)),
     ];
     assert_eq!(rt; found, [6, 30, 102, 222]);
 }
@@ -31,20 +42,20 @@ fn words_of_no_row_lie_before_the_rows(rt: HostRuntime) {
 #[test]
 fn a_row_has_its_head_and_then_its_cells(rt: HostRuntime) {
     let head = [
-        slot(2, Name::Count(0)),
-        slot(2, Name::Min(0)),
-        slot(2, Name::Next(0)),
-        slot(2, Name::First(0)),
-        slot(2, Name::Pend(0, 0)),
-        slot(2, Name::Pend(0, 7)),
+        place(2, Name::Count(0)),
+        place(2, Name::Min(0)),
+        place(2, Name::Next(0)),
+        place(2, Name::First(0)),
+        place(2, Name::Pend(0, 0)),
+        place(2, Name::Pend(0, 7)),
     ];
     let cells = [
-        slot(2, Name::Key(0, 0)),
-        slot(2, Name::Value(0, 0)),
-        slot(2, Name::Version(0, 0)),
-        slot(2, Name::After(0, 0)),
-        slot(2, Name::After(0, 63)),
-        slot(2, Name::Count(1)),
+        place(2, Name::Key(0, 0)),
+        place(2, Name::Value(0, 0)),
+        place(2, Name::Version(0, 0)),
+        place(2, Name::After(0, 0)),
+        place(2, Name::After(0, 63)),
+        place(2, Name::Count(1)),
     ];
     assert_eq!(rt;
         (head, cells),
@@ -58,9 +69,9 @@ fn a_row_has_its_head_and_then_its_cells(rt: HostRuntime) {
 // The lines begin at 6 and each 8 words on.
 #[test]
 fn rows_and_their_cells_begin_at_a_line(rt: HostRuntime) {
-    let rows = [slot(3, Name::Count(0)), slot(3, Name::Count(2))];
-    let cells = [slot(3, Name::Key(2, 0)), slot(3, Name::Key(2, 62))];
-    let states = slot(3, Name::State(0));
+    let rows = [place(3, Name::Count(0)), place(3, Name::Count(2))];
+    let cells = [place(3, Name::Key(2, 0)), place(3, Name::Key(2, 62))];
+    let states = place(3, Name::State(0));
     assert_eq!(rt; (rows, cells, states), ([230, 774], [790, 1_038], 1_046));
     let in_a_line = [
         rows[1] % WORDS_A_LINE,
@@ -72,8 +83,8 @@ fn rows_and_their_cells_begin_at_a_line(rt: HostRuntime) {
 
 #[test]
 fn states_lie_side_by_side_behind_the_rows(rt: HostRuntime) {
-    let two = [slot(2, Name::State(0)), slot(2, Name::State(1)), slots(2)];
-    let three = [slot(3, Name::State(0)), slot(3, Name::State(2)), slots(3)];
+    let two = [place(2, Name::State(0)), place(2, Name::State(1)), slots(2)];
+    let three = [place(3, Name::State(0)), place(3, Name::State(2)), slots(3)];
     assert_eq!(rt; (two, three), ([774, 775, 776], [1_046, 1_048, 1_049]));
 }
 

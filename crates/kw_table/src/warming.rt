@@ -59,14 +59,14 @@ impl Shared {
     /// Whether the row is in use just now, and for no keys above this one alone: whether a walk to
     /// the key may begin there.
     #[inline(always)]
-    pub(crate) fn serves(&self, row: u32, key: u32) -> bool {
+    pub fn serves(&self, row: u32, key: u32) -> bool {
         row < self.opening.rows
             && State::unpack(self.peek(Name::State(row))) == Some(State::Normal)
             && self.peek(Name::Min(row)) <= u64::from(key)
     }
 
     /// The least key that the row may hold just now; none where the table has no such row.
-    pub(crate) fn least(&self, row: u32) -> Option<u32> {
+    pub fn least(&self, row: u32) -> Option<u32> {
         if row < self.opening.rows {
             u32::try_from(self.peek(Name::Min(row))).ok()
         } else {

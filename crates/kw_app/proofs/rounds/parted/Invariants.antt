@@ -1,7 +1,7 @@
 use Rattle.std.proofs.Common.{◌≡◌, length, Ok, Vec}
 use Rattle.std.specs.declared.alloc.Global.{Global}
 use Rattle.kw_table.specs.declared.pass.Pass.{Pass}
-use Rattle.kw_table.specs.Meetings.{AtEach}
+use Rattle.kw_map.specs.Meetings.{AtEach}
 use Rattle.kw_line.specs.declared.answer.Answer.{Answer}
 use Rattle.kw_app.specs.declared.rounds.Done.{Done}
 use Rattle.kw_app.proofs.rounds.parted.Given as goal

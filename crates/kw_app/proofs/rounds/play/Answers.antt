@@ -1,5 +1,5 @@
 use Rattle.std.proofs.Common.{◌≡◌, Ok, length, arith}
-use Rattle.kw_table.specs.Meetings.{front_seen}
+use Rattle.kw_map.specs.Meetings.{front_seen}
 use Rattle.kw_app.specs.Rounds.{WorkedEach}
 use Rattle.kw_app.proofs.Blocks.{grew, grew_by_none, together_again, answers_each, worked_each}
 use Rattle.kw_app.proofs.Each.{element_at}
@@ -7,7 +7,7 @@ use Rattle.kw_app.proofs.rounds.play.Goals as goal
 
 pub returns-then-is_empty-clause-grew : goal.returns-then-is_empty-clause-grew
 returns-then-is_empty-clause-grew g c =
-    grew_by_none c.args.kiwi.now.shared.opening c.args.block.now.workers c.args.block.now.lines (front_seen c.args.passes.items) c.new.result.items
+    grew_by_none c.args.kiwi.now.opening c.args.block.now.workers c.args.block.now.lines (front_seen c.args.passes.items) c.new.result.items
     (c.is_empty.ensures.0 c.if-is_empty.true) c.new.ensures.items
 
 pub finish_all-requires-clause-idle : goal.finish_all-requires-clause-idle

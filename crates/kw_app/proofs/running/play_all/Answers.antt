@@ -2,7 +2,7 @@ use Rattle.std.proofs.Common.{◌≡◌, ◌<◌, ◌≤◌, [], List, length, m
 use Rattle.std.proofs.lemmas.List.{take_all}
 use Rattle.kw_line.specs.declared.answer.Answer.{Answer}
 use Rattle.kw_world.specs.declared.event.Event.{Event}
-use Rattle.kw_table.specs.Meetings.{front_seen}
+use Rattle.kw_map.specs.Meetings.{front_seen}
 use Rattle.kw_work.specs.Dealing.{Dealt}
 use Rattle.kw_app.specs.Rounds.{AreTogether}
 use Rattle.kw_app.specs.Running.{Ran}
@@ -16,8 +16,8 @@ loop-block-init g c =
     let n = c.args.crew.now.workers in
     let front : front_seen c.args.passes.items ≡ [] = front_is _ _ _ _ c.requires.together in record {
       together = subst (λ (E : List Event). AreTogether m n E c.args.passes.items) (sym front) c.requires.together;
-      ran = subst (λ (E : List Event). Ran m.shared.opening n [] E c.new-answers.result.items) (sym front)
-          (subst (λ (a : List Answer). Ran m.shared.opening n [] [] a) (sym c.new-answers.ensures.items) (ran_none m.shared.opening n));
+      ran = subst (λ (E : List Event). Ran m.opening n [] E c.new-answers.result.items) (sym front)
+          (subst (λ (a : List Answer). Ran m.opening n [] [] a) (sym c.new-answers.ensures.items) (ran_none m.opening n));
     }
 
 pub loop-block-preserved : goal.loop-block-preserved
@@ -34,5 +34,5 @@ loop-block-preserved g c =
 pub returns-clause-ran : goal.returns-clause-ran
 returns-clause-ran g c =
     let past : length c.args.blocks.now ≤ c.loop-block.block-index = omega arith in
-    subst (λ (bs : List Dealt). Ran c.args.kiwi.now.shared.opening c.args.crew.now.workers (map (λ (b : Dealt). b.lines) bs) (front_seen c.loop-block.passes.items) c.loop-block.answers.items)
+    subst (λ (bs : List Dealt). Ran c.args.kiwi.now.opening c.args.crew.now.workers (map (λ (b : Dealt). b.lines) bs) (front_seen c.loop-block.passes.items) c.loop-block.answers.items)
     (take_all c.loop-block.block-index c.args.blocks.now past) c.loop-block.invariant.ran

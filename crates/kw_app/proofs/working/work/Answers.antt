@@ -42,7 +42,7 @@ loop-at-preserved g c =
           works_taken _ _ _ _ _ lines _ _ _ _ _ c.line-line.ensures own (prefix_length _ _ inv.goes.seen) (prefix_length _ _ w.ask.ensures.goes.seen) inv.works w.in_ok-answer.ensures.answers (ap (λ (v : Vec Answer Global). v.items) w.answers-is ∙ w.in_ok-push.ensures.items) in
           record {
             idle = subst (λ q. IsIdle c.args.kiwi.now q) (sym w.pass-is) w.ask.ensures.idle;
-            goes = subst (λ q. GoesTo c.args.kiwi.now.shared c.args.pass.now q) (sym w.pass-is) (goes_trans _ _ _ _ inv.goes w.ask.ensures.goes);
+            goes = subst (λ q. GoesTo c.args.kiwi.now c.args.pass.now q) (sym w.pass-is) (goes_trans _ _ _ _ inv.goes w.ask.ensures.goes);
             works = subst (λ q. Works c.args.pass.now q ls c.if-worker.answers.items) (sym w.pass-is) works;
           }
       | else-worker w ↦
@@ -50,7 +50,7 @@ loop-at-preserved g c =
           subst (λ x. Works c.args.pass.now c.loop-at.pass ls x) (sym (ap (λ (v : Vec Answer Global). v.items) w.answers-is)) (works_passed _ _ _ _ lines _ _ _ c.line-line.ensures (λ is. w.if-worker.false (c.worker.ensures.worker ∙ is)) inv.works) in
           record {
             idle = subst (λ q. IsIdle c.args.kiwi.now q) (sym w.pass-is) inv.idle;
-            goes = subst (λ q. GoesTo c.args.kiwi.now.shared c.args.pass.now q) (sym w.pass-is) inv.goes;
+            goes = subst (λ q. GoesTo c.args.kiwi.now c.args.pass.now q) (sym w.pass-is) inv.goes;
             works = subst (λ q. Works c.args.pass.now q ls c.if-worker.answers.items) (sym w.pass-is) works;
           }
     ]

@@ -8,6 +8,6 @@ use Rattle.kw_app.proofs.working.work.Given as goal
 abbrev pub invariant-loop-at : goal.invariant-loop-at
 invariant-loop-at g l = record {
   idle : IsIdle l.kiwi l.pass;
-  goes : GoesTo l.kiwi.shared l.initial.pass l.pass;
+  goes : GoesTo l.kiwi l.initial.pass l.pass;
   works : Works l.initial.pass l.pass (part l.workers l.worker (take l.at l.block.lines)) l.answers.items;
 }

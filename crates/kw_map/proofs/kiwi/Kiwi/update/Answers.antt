@@ -1,22 +1,74 @@
-use Rattle.std.proofs.Common.{◌∙◌}
-use Rattle.kw_map.proofs.Lending.{calls_lent, goes_lent, idle_lent, of_map_lent}
+use Rattle.std.proofs.Common.{[], ◌≡◌, ◌∙◌, rules, subst, sym, true}
+use Rattle.kw_world.specs.declared.answer.Answer.TheVariants.{Done}
+use Rattle.kw_core.specs.Stages.{is_put}
+use Rattle.kw_follow.specs.Calling.{Closes}
+use Rattle.kw_follow.specs.Following.{held}
+use Rattle.kw_follow.proofs.OwnEvents.{goes_trans}
+use Rattle.kw_live.proofs.Gets.{leaves_with, whole}
+use Rattle.kw_follow.proofs.RestingCall.{opens_on}
+use Rattle.kw_map.proofs.WholeCalls.{begins_anew, ends_with, is_full, put_starts}
 use Rattle.kw_map.proofs.kiwi.Kiwi.update.Goals as goal
 
-pub update_by-done-requires-clause-table : goal.update_by-done-requires-clause-table
-update_by-done-requires-clause-table g c = of_map_lent c.args.self.now.shared c.args.pass.now c.lend_hints-hints.new.self (c.lend_hints-hints.ensures.view ∙ c.lend-local.ensures.view) (c.lend_hints-hints.ensures.table ∙ c.lend-local.ensures.table) c.requires.idle.of_map
+pub enter-requires-clause-table : goal.enter-requires-clause-table
+enter-requires-clause-table g c = rw (c.self.view_is, c.pass.view_is) c.requires.idle.of_map
 
-pub update_by-done-requires-clause-idle : goal.update_by-done-requires-clause-idle
-update_by-done-requires-clause-idle g c = idle_lent c.args.pass.now c.lend_hints-hints.new.self (c.lend_hints-hints.ensures.view ∙ c.lend-local.ensures.view) c.requires.idle.idle
+pub enter-requires-clause-idle : goal.enter-requires-clause-idle
+enter-requires-clause-idle g c = rw c.pass.view_is c.requires.idle.idle
 
-pub returns-clause-idle : goal.returns-clause-idle
-returns-clause-idle g c = record {
-  of_map = of_map_lent c.args.self.now.shared c.update_by-done.new.pass c.give.new.self (c.give.ensures.view ∙ c.give_hints.ensures.view) (c.give.ensures.table ∙ c.give_hints.ensures.table) c.update_by-done.ensures.goes.of_table;
-  idle = idle_lent c.update_by-done.new.pass c.give.new.self (c.give.ensures.view ∙ c.give_hints.ensures.view) c.update_by-done.ensures.idle;
-  holds = c.give.ensures.holds;
+pub loop-init : goal.loop-init
+loop-init g c = record {
+  can_next = search rules;
+  is_finite = search rules;
+  goes = rw (← c.pass.view_is) c.enter.ensures.goes;
+  follows = c.enter.ensures.follows;
+  activity = put_starts c.args.call _ c.requires.update c.enter.ensures.entered;
+  call = c.enter.ensures.call;
+  opens = rw (← c.pass.view_is) c.enter.ensures.opens;
 }
 
-pub returns-clause-goes : goal.returns-clause-goes
-returns-clause-goes g c = goes_lent c.args.pass.now c.lend_hints-hints.new.self c.update_by-done.new.pass c.give.new.self (c.lend_hints-hints.ensures.view ∙ c.lend-local.ensures.view) (c.give.ensures.view ∙ c.give_hints.ensures.view) (c.give.ensures.table ∙ c.give_hints.ensures.table) c.update_by-done.ensures.goes
+pub returns-in-Done-clause-idle : goal.returns-in-Done-clause-idle
+returns-in-Done-clause-idle g c = rw (← c.self.view_is) record { of_map = c.leave.ensures.goes.of_table; idle = c.leave.ensures.idle }
 
-pub returns-clause-calls : goal.returns-clause-calls
-returns-clause-calls g c = calls_lent c.args.pass.now c.lend_hints-hints.new.self c.update_by-done.new.pass c.give.new.self (c.lend_hints-hints.ensures.view ∙ c.lend-local.ensures.view) (c.give.ensures.view ∙ c.give_hints.ensures.view) c.update_by-done.ensures.calls
+pub returns-in-Done-clause-goes : goal.returns-in-Done-clause-goes
+returns-in-Done-clause-goes g c = rw (← c.self.view_is) (goes_trans _ _ _ _ (goes_trans _ _ _ _ c.loop.invariant.goes c.locate.ensures.goes) (goes_trans _ _ _ _ c.try_put.ensures.goes c.leave.ensures.goes))
+
+pub returns-in-Done-clause-calls : goal.returns-in-Done-clause-calls
+returns-in-Done-clause-calls g c =
+    let leaves = leaves_with Done c.try_put.ensures.follows c.in-Done.ensures.stands in
+    whole c.loop.invariant.opens (c.try_put.ensures.calls ∙ c.locate.ensures.calls) (c.leave.ensures.closes Done leaves).0
+
+pub make_room-requires-clause-activity : goal.make_room-requires-clause-activity
+make_room-requires-clause-activity g c = is_full c.try_put.result c.try_put.new.local.activity c.in_default.not-Done c.try_put.ensures.stands
+
+pub make_room-requires-clause-update : goal.make_room-requires-clause-update
+make_room-requires-clause-update g c = subst (λ call. is_put call ≡ true) (sym (c.try_put.ensures.call ∙ (c.locate.ensures.call ∙ c.loop.invariant.call))) c.requires.update
+
+pub leave-requires-in-Some-make_room-clause-leaving : goal.leave-requires-in-Some-make_room-clause-leaving
+leave-requires-in-Some-make_room-clause-leaving g c = let ends = ends_with c.in-Some-make_room.end c.make_room.new.local.activity [] c.in-Some-make_room.ensures.stands in (ends.0, ends.1)
+
+pub returns-in-Some-make_room-clause-idle : goal.returns-in-Some-make_room-clause-idle
+returns-in-Some-make_room-clause-idle g c = rw (← c.self.view_is) record { of_map = c.leave-in-Some-make_room.ensures.goes.of_table; idle = c.leave-in-Some-make_room.ensures.idle }
+
+pub returns-in-Some-make_room-clause-goes : goal.returns-in-Some-make_room-clause-goes
+returns-in-Some-make_room-clause-goes g c =
+    let before = goes_trans _ _ _ _ (goes_trans _ _ _ _ c.loop.invariant.goes c.locate.ensures.goes) c.try_put.ensures.goes in
+    rw (← c.self.view_is) (goes_trans _ _ _ _ before (goes_trans _ _ _ _ c.make_room.ensures.goes c.leave-in-Some-make_room.ensures.goes))
+
+pub returns-in-Some-make_room-clause-calls : goal.returns-in-Some-make_room-clause-calls
+returns-in-Some-make_room-clause-calls g c =
+    let ends = ends_with c.in-Some-make_room.end c.make_room.new.local.activity (held c.make_room.new.pass) c.in-Some-make_room.ensures.stands in
+    let closes = (c.leave-in-Some-make_room.ensures.closes ends.0 (leaves_with ends.0 c.make_room.ensures.follows ends.1)).0 in
+    whole c.loop.invariant.opens (c.make_room.ensures.calls ∙ (c.try_put.ensures.calls ∙ c.locate.ensures.calls)) (subst (Closes c.make_room.new.pass c.leave-in-Some-make_room.new.pass) ends.2 closes)
+
+pub loop-preserved : goal.loop-preserved
+loop-preserved g c =
+    let before = goes_trans _ _ _ _ (goes_trans _ _ _ _ c.loop.invariant.goes c.locate.ensures.goes) c.try_put.ensures.goes in
+    record {
+      can_next = search rules;
+      is_finite = search rules;
+      goes = goes_trans _ _ _ _ before c.make_room.ensures.goes;
+      follows = c.make_room.ensures.follows;
+      activity = begins_anew c.make_room.result c.make_room.new.local.activity c.in_default-make_room.not-Some c.make_room.ensures.stands;
+      call = c.make_room.ensures.call ∙ (c.try_put.ensures.call ∙ (c.locate.ensures.call ∙ c.loop.invariant.call));
+      opens = opens_on c.loop.invariant.opens (c.make_room.ensures.calls ∙ (c.try_put.ensures.calls ∙ c.locate.ensures.calls));
+    }

@@ -22,4 +22,4 @@ pub returns-clause-pass : goal.returns-clause-pass
 returns-clause-pass c =
     let mine = fresh_mine c.args.number c.args.self.now.opening c.split_seat-seat.result.me c.args.rest.now.me c.requires.rest c.split_seat-seat.ensures.4 in
     let local = fresh_local c.args.number c.args.self.now.opening c.split_seat-seat.result.me c.args.rest.now.me c.requires.rest c.split_seat-seat.ensures.4 c.requires.some in
-    record { of_table = search rules; number = search rules; seen = search rules; mine = mine; local = local; holds = search rules }
+    record { of_table = search rules; number = search rules; seen = search rules; mine = mine; local = local }

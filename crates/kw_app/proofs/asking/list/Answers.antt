@@ -1,7 +1,0 @@
-use Rattle.std.proofs.Common.{refl, ap, ◌∙◌}
-use Rattle.kw_line.specs.declared.answer.Answer.TheVariants.{Pairs}
-use Rattle.kw_app.proofs.Gathered.{gathered}
-use Rattle.kw_app.proofs.asking.list.Goals as goal
-
-pub returns-in-Ok-clause-answers : goal.returns-in-Ok-clause-answers
-returns-in-Ok-clause-answers c = gathered _ _ _ _ _ _ _ _ _ _ _ _ refl c.in-Ok.ensures.answers c.new-into.ensures.stands (λ list stands. ap Pairs (c.finish.ensures.kept ∙ stands))
