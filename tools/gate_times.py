@@ -1,5 +1,6 @@
 #!/usr/bin/env python3
-"""Measures where the gate's time goes, and writes the table of shares that docs/WORKING.md shows.
+"""Measures where the gate's time goes, and writes the table of shares that docs/WORKING.md shows:
+of the crates that take most, and of all others together.
 
   tools/gate_times.py .ci/run            runs the gate, and measures it
   tools/gate_times.py --beside PID
@@ -39,6 +40,8 @@ HEAD = """\
 PROOF, TESTS, BEFORE, BODIES = KINDS = ("proof", "tests", "check before", "wrong bodies")
 TICKS = os.sysconf("SC_CLK_TCK")
 LOOKS_A_SECOND = 2
+# How many crates have a line of their own in the page; the file of shares has each.
+ON_PAGE = 12
 
 
 @dataclass(frozen=True)
@@ -179,7 +182,7 @@ def stored():
 
 def place(about, lines):
     """Puts the table between its marks in the page that shows it."""
-    shown = "\n".join(["", about, "", *table(lines), "", ""])
+    shown = "\n".join(["", about, "", *table(lines, ON_PAGE), "", ""])
     marked = r"(<!-- gate: [^\n]*-->\n).*?(<!-- end -->)"
     put = lambda marks: f"{marks[1]}{shown}{marks[2]}"
     PAGE.write_text(re.sub(marked, put, PAGE.read_text(), flags=re.DOTALL))
@@ -190,17 +193,27 @@ def store(lines):
     SHARES.write_text(HEAD + "\n".join(rows) + "\n")
 
 
-def table(lines):
-    """The table as docs/WORKING.md shows it, in whole processor seconds, the crate that takes most
-    first."""
+def table(lines, most=None):
+    """The table of shares in whole processor seconds, the crate that takes most first: a line for
+    each crate, or for the first so many and one for all others."""
     yield f"| crate | {' | '.join(KINDS)} | how many | all | share |"
     yield "|---|" + "---|" * (len(KINDS) + 3)
     whole = sum(line.whole() for line in lines.values()) or 1.0
-    for name, line in sorted(lines.items(), key=lambda it: -it[1].whole()):
+    ranked = sorted(lines.items(), key=lambda it: -it[1].whole())
+    for name, line in ranked[:most]:
         yield row(f"`{name}`", line, whole)
-    sums = Line({kind: sum(line.seconds[kind] for line in lines.values()) for kind in KINDS}, sum(line.bodies for line in lines.values()))
+    others = [line for _, line in ranked[most:]] if most is not None else []
+    if others:
+        yield row(f"the other {len(others)}", sum_of(others), whole)
+    sums = sum_of(lines.values())
     yield row("all", sums, whole)
     yield "| share | " + " | ".join(f"{100 * it / whole:.0f}%" for it in sums.seconds.values()) + " | | | |"
+
+
+def sum_of(lines):
+    """One line for all of these together."""
+    lines = list(lines)
+    return Line({kind: sum(line.seconds[kind] for line in lines) for kind in KINDS}, sum(line.bodies for line in lines))
 
 
 def row(name, line, whole):
