@@ -5,13 +5,13 @@ use Rattle.std.specs.declared.alloc.Global.{Global}
 use Rattle.kw_line.specs.declared.item.Item.{Item}
 use Rattle.kw_line.specs.declared.error.LineError.{LineError}
 use Rattle.kw_line.specs.Cut.{lines}
-use Rattle.kw_line.specs.Line.{AreLinesOf, IfBadLine}
+use Rattle.kw_line.specs.Line.{AreLinesOf, IsFirstBadLine, IfBad}
 
 -- what a reader gives for a piece: the items of its lines, or its first bad line, or the want of
 -- memory
 pub record IsRead (piece : List ℕ) (part : Result (Vec Item Global) LineError) : Type 0 where
   pub items : IfOk part (λ items. AreLinesOf piece items.items)
-  pub bad : IfBadLine piece part
+  pub bad : IfBad (IsFirstBadLine piece) part
 
 -- what the readers give for these pieces, one for each
 abbrev pub AreRead : List (List ℕ) → List (Result (Vec Item Global) LineError) → Type 0

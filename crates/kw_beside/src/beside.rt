@@ -6,7 +6,7 @@
 ghost use Rattle.std.specs.Prelude.{◌≡◌, ◌<◌, ◌≤◌, length, All, IsOk, IfOk, OnOk, vec_len};
 ghost use Rattle.std.specs.List.{flat_map};
 ghost use Rattle.kw_line.specs.Answered.{text};
-ghost use Rattle.kw_line.specs.Line.{AreLinesOf, IfBadLine};
+ghost use Rattle.kw_line.specs.Line.{AreLinesOf, IsFirstBadLine, IfBad};
 ghost use Rattle.kw_line.specs.declared.parse.TheConstants.{MOST_BYTES};
 ghost use Rattle.kw_beside.specs.Texts.{text_in};
 
@@ -38,7 +38,7 @@ pub fn parse_beside<R: Threads + Sync>(
     requires short { length bytes.now ≤ MOST_BYTES }
     ensures items { IfOk result (λ items. AreLinesOf bytes.now items.items) }
     ensures few { IfOk result (λ items. vec_len items ≤ length bytes.now) }
-    ensures bad { IfBadLine bytes.now result }
+    ensures bad { IfBad (IsFirstBadLine bytes.now) result }
 {
     let Ok(pieces) = pieces(alloc, bytes, threads) else {
         return Err(LineError::Memory);

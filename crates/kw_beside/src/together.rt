@@ -1,6 +1,6 @@
 //! The items of an input's pieces, put together.
 ghost use Rattle.std.specs.Prelude.{ℕ, ◌≡◌, ◌<◌, ◌^◌, List, length, IfOk};
-ghost use Rattle.kw_line.specs.Line.{AreLinesOf, IfBadLine};
+ghost use Rattle.kw_line.specs.Line.{AreLinesOf, IsFirstBadLine, IfBad};
 ghost use Rattle.kw_beside.specs.Pieces.{AreReadOf};
 
 use crate::joined::joined;
@@ -18,7 +18,7 @@ pub fn together(
     requires { (bytes : List ℕ) × AreReadOf bytes parts.items × (length bytes < 2 ^ 32) }
     ensures items { (bytes : List ℕ) → AreReadOf bytes parts.items → IfOk result
         (λ items. AreLinesOf bytes items.items) }
-    ensures bad { (bytes : List ℕ) → AreReadOf bytes parts.items → IfBadLine bytes result }
+    ensures bad { (bytes : List ℕ) → AreReadOf bytes parts.items → IfBad (IsFirstBadLine bytes) result }
 {
     let mut all = Vec::new(alloc);
     for part in parts {

@@ -11,10 +11,11 @@ use Rattle.kw_judge.specs.declared.record.DoneCall.{DoneCall}
 use Rattle.kw_judge.specs.declared.record.OpenCall.{OpenCall}
 use Rattle.kw_judge.specs.declared.record.TheConstants.{MOST_CALLS}
 use Rattle.kw_line.specs.Cut.{lines}
+use Rattle.kw_line.specs.Line.{IfBad}
 use Rattle.kw_line.specs.declared.error.LineError.{LineError}
 use Rattle.kw_line.specs.declared.error.LineError.TheVariants as error
 use Rattle.kw_judge.specs.declared.read.Reader.{Reader}
-use Rattle.kw_judge.specs.Record.{RecordView, IsRecord, IsName, IsDone, IsOpen, Once, names_of, record_lines, Begins, IfBad}
+use Rattle.kw_judge.specs.Record.{RecordView, IsRecord, IsName, IsDone, IsOpen, Once, names_of, record_lines, IsFirstBad, Begins}
 use Rattle.kw_judge.specs.Index.{key_of, IsIndexBelow, IsIndex, AreNames}
 use Rattle.kw_judge.specs.Written.{IsNoLine}
 use Rattle.kw_judge.specs.Texts.{done_text, open_text, order_text}
@@ -226,7 +227,7 @@ pub taken_names : (r : Reader) → IsReading r → AreNames (names_taken r)
 taken_names r h = named_lines (record { done = r.done.items; open_calls = r.open_calls.items; order = order_taken r.order }) h.fits
 
 -- where no record was finished, the line after the last is the bad one
-pub finished : (bytes : List ℕ) (r : Reader) (n : ℕ) (o : Option RecordView) (told : Result RecordView LineError) → told ≡ ok_or o (error.Bad (n + 1)) → IsReading r → lines bytes ≡ lines_taken r → n ≡ length (lines_taken r) → MatchOption o ((w : RecordView) → IsRecord w → record_lines w ≡ lines_taken r → ⊥) (λ w. IsRecord w × (record_lines w ≡ lines_taken r)) → IfBad bytes told
+pub finished : (bytes : List ℕ) (r : Reader) (n : ℕ) (o : Option RecordView) (told : Result RecordView LineError) → told ≡ ok_or o (error.Bad (n + 1)) → IsReading r → lines bytes ≡ lines_taken r → n ≡ length (lines_taken r) → MatchOption o ((w : RecordView) → IsRecord w → record_lines w ≡ lines_taken r → ⊥) (λ w. IsRecord w × (record_lines w ≡ lines_taken r)) → IfBad (IsFirstBad bytes) told
 finished bytes r n (Some w) told e h cut count m = rw e tt
 finished bytes r n None told e h cut count m = rw e (record {
   before = lines_taken r;

@@ -1,5 +1,5 @@
 -- What a record is: the ranges of its numbers, its lines, and the bytes that are its text.
-use Rattle.std.specs.Prelude.{ℕ, ◌≡◌, ◌+◌, ◌<◌, ◌≤◌, ◌^◌, Some, List, [], ◌∷◌, ◌++◌, map, length, slice_get, Result, Ok, Err}
+use Rattle.std.specs.Prelude.{ℕ, ◌≡◌, ◌+◌, ◌<◌, ◌≤◌, ◌^◌, Some, List, [], ◌∷◌, ◌++◌, map, length, slice_get}
 use Rattle.std.specs.List.{AllByRecursion, flat_map}
 use Rattle.kw_model.specs.declared.call.Call.{Call}
 use Rattle.kw_model.specs.declared.call.Call.TheVariants as call
@@ -11,8 +11,6 @@ use Rattle.kw_line.specs.Line.{FitsCall}
 use Rattle.kw_judge.specs.declared.record.Name.{Name}
 use Rattle.kw_judge.specs.declared.record.DoneCall.{DoneCall}
 use Rattle.kw_judge.specs.declared.record.OpenCall.{OpenCall}
-use Rattle.kw_line.specs.declared.error.LineError.{LineError}
-use Rattle.kw_line.specs.declared.error.LineError.TheVariants as error
 use Rattle.kw_judge.specs.declared.record.TheConstants.{RECORD_SEATS, MOST_NUMBER, MOST_POSITION, MOST_CALLS}
 use Rattle.kw_judge.specs.Texts.{done_text, open_text, order_text}
 
@@ -108,9 +106,3 @@ pub record IsFirstBad (bytes : List ℕ) (number : ℕ) : Type 0 where
   pub cut : lines bytes ≡ before ++ after
   pub begins : Begins before
   pub bad : IsBadAfter before after
-
--- a line that is named is the first bad one
-abbrev pub IfBad : {X : Type 0} → List ℕ → Result X LineError → Type 0
-IfBad bytes (Ok x) = Unit {0}
-IfBad bytes (Err (error.Bad line)) = IsFirstBad bytes line
-IfBad bytes (Err error.Memory) = Unit {0}

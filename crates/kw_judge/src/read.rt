@@ -4,7 +4,8 @@
 //! a call or of an order, calls that were answered come first, no name stands twice, there are not
 //! too many, and the order is the last line.
 ghost use Rattle.std.specs.Prelude.{ℕ, ◌≡◌, ◌<◌, ◌≤◌, ◌⊎◌, ◌++◌, ◌∷◌, [], None, Contains, length, Err, IfOk, MatchBool, MatchOption};
-ghost use Rattle.kw_judge.specs.Record.{RecordView, IsRecord, IsName, IsDone, IsOpen, IsRecordText, Begins, IfBad, record_lines};
+ghost use Rattle.kw_line.specs.Line.{IfBad};
+ghost use Rattle.kw_judge.specs.Record.{RecordView, IsRecord, IsName, IsDone, IsOpen, IsRecordText, IsFirstBad, Begins, record_lines};
 ghost use Rattle.kw_judge.specs.Texts.{done_text, open_text};
 ghost use Rattle.kw_judge.specs.Reader.{IsReading, IsIndexed, KeepsLists, names_taken, lines_taken};
 
@@ -23,7 +24,7 @@ use std::collections::BTreeMap;
 /// where no order stands at the end. Any bytes may be given: the bad line is line 100,002 at most.
 pub fn read_record(alloc: Global, bytes: &[u8]) -> Result<Record, LineError>
     ensures record { IfOk result (IsRecordText bytes.now) }
-    ensures bad { IfBad bytes.now result }
+    ensures bad { IfBad (IsFirstBad bytes.now) result }
 
     // There is one such record at most; and where there is one, no line is bad.
     ensures only { IfOk result (λ one. (r : RecordView) → IsRecordText bytes.now r → r ≡ one) }

@@ -88,11 +88,11 @@ pub record IsFirstBadLine (bytes : List ℕ) (number : ℕ) : Type 0 where
   pub each : AllByRecursion IsItem before
   pub bad : IsText line → ⊥
 
--- a line that is named is the first bad one
-abbrev pub IfBadLine : {X : Type 0} → List ℕ → Result X LineError → Type 0
-IfBadLine bytes (Ok items) = Unit {0}
-IfBadLine bytes (Err (error.Bad line)) = IsFirstBadLine bytes line
-IfBadLine bytes (Err error.Memory) = Unit {0}
+-- a line that is named is one of which this holds
+abbrev pub IfBad : {X : Type 0} → (ℕ → Type 0) → Result X LineError → Type 0
+IfBad Named (Ok x) = Unit {0}
+IfBad Named (Err (error.Bad line)) = Named line
+IfBad Named (Err error.Memory) = Unit {0}
 
 -- the calls of an input, in line order
 abbrev pub calls : List Item → List Call

@@ -6,7 +6,7 @@ ghost use Rattle.std.specs.Prelude.{◌≡◌, ◌≢◌, ◌≤◌, ◌++◌, �
 ghost use Rattle.kw_model.specs.declared.call.Call.{Call as AnyCall};
 ghost use Rattle.kw_line.specs.declared.item.Form.{Form as AnyForm};
 ghost use Rattle.kw_line.specs.declared.item.Item.{Item as AnyItem};
-ghost use Rattle.kw_line.specs.Line.{IsCallOf, FitsCall, IsItem, IsText, AreLinesOf, IfBadLine, arguments, form_word, item_text};
+ghost use Rattle.kw_line.specs.Line.{IsCallOf, FitsCall, IsItem, IsText, AreLinesOf, IsFirstBadLine, IfBad, arguments, form_word, item_text};
 
 use crate::error::LineError;
 use crate::item::{Form, Item};
@@ -25,7 +25,7 @@ pub fn parse(alloc: Global, bytes: &[u8]) -> Result<Vec<Item>, LineError>
     requires { length bytes.now ≤ MOST_BYTES }
     ensures items { IfOk result (λ items. AreLinesOf bytes.now items.items) }
     ensures few { IfOk result (λ items. vec_len items ≤ length bytes.now) }
-    ensures bad { IfBadLine bytes.now result }
+    ensures bad { IfBad (IsFirstBadLine bytes.now) result }
 {
     // room for as many as there can be: an input that has more lines than these is a bad one
     let mut items = Vec::with_capacity(alloc, bytes.len() / FEWEST_BYTES + 1)?;

@@ -1,13 +1,11 @@
 -- The lines of an input of metric points, and how each is written.
-use Rattle.std.specs.Prelude.{ℕ, ◌≡◌, ◌+◌, ◌<◌, ◌^◌, List, [], ◌∷◌, ◌++◌, map, length, codes, decimal, Result, Ok, Err}
+use Rattle.std.specs.Prelude.{ℕ, ◌≡◌, ◌+◌, ◌<◌, ◌^◌, List, [], ◌∷◌, ◌++◌, map, length, codes, decimal}
 use Rattle.std.specs.List.{join_with_byte, AllByRecursion}
 use Rattle.kw_line.specs.declared.words.TheConstants.{SPACE}
 use Rattle.kw_line.specs.Cut.{lines}
 use Rattle.kw_rollup.specs.Buckets.{series_of, minute_of}
 use Rattle.kw_rollup.specs.declared.item.RollItem.{RollItem}
 use Rattle.kw_rollup.specs.declared.item.RollItem.TheVariants.{Put, Del, Table}
-use Rattle.kw_line.specs.declared.error.LineError.{LineError}
-use Rattle.kw_line.specs.declared.error.LineError.TheVariants as error
 
 -- what a line may be: a key has 32 bits, which are a series below 4,096 and a minute below
 -- 1,048,576, and a value has 63
@@ -49,9 +47,3 @@ pub record IsFirstBadRollLine (bytes : List ℕ) (number : ℕ) : Type 0 where
   pub cut : lines bytes ≡ map roll_text before ++ line ∷ after
   pub each : AllByRecursion IsRollItem before
   pub bad : IsRollText line → ⊥
-
--- a line that is named is the first bad one
-abbrev pub IfBadRollLine : {X : Type 0} → List ℕ → Result X LineError → Type 0
-IfBadRollLine bytes (Ok items) = Unit {0}
-IfBadRollLine bytes (Err (error.Bad line)) = IsFirstBadRollLine bytes line
-IfBadRollLine bytes (Err error.Memory) = Unit {0}

@@ -4,7 +4,8 @@
 //! Nothing is read twice, so the whole takes time linear in the bytes. Lines, words and numbers are
 //! those of `kw_line`.
 ghost use Rattle.std.specs.Prelude.{◌≡◌, ◌≢◌, ◌<◌, ◌≤◌, ◌^◌, ◌++◌, ◌∷◌, [], ◌⊎◌, ℕ, List, length, decimal, MatchOption, IfOk, vec_len};
-ghost use Rattle.kw_rollup.specs.Lines.{IsRollItem, IsRollText, AreRollLines, IfBadRollLine, key_words, roll_text};
+ghost use Rattle.kw_line.specs.Line.{IfBad};
+ghost use Rattle.kw_rollup.specs.Lines.{IsRollItem, IsRollText, AreRollLines, IsFirstBadRollLine, key_words, roll_text};
 
 use crate::item::{MINUTES, RollItem, SERIES};
 use kw_line::error::LineError;
@@ -20,7 +21,7 @@ pub fn roll_parse(alloc: Global, bytes: &[u8]) -> Result<Vec<RollItem>, LineErro
     requires { length bytes.now ≤ MOST_BYTES }
     ensures items { IfOk result (λ items. AreRollLines bytes.now items.items) }
     ensures few { IfOk result (λ items. vec_len items ≤ length bytes.now) }
-    ensures bad { IfBadRollLine bytes.now result }
+    ensures bad { IfBad (IsFirstBadRollLine bytes.now) result }
 {
     // room for as many as there can be: an input that has more lines than these is a bad one
     let mut items = Vec::with_capacity(alloc, bytes.len() / FEWEST_BYTES + 1)?;

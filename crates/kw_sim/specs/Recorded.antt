@@ -1,5 +1,5 @@
 -- The record of a script: which lines it has, and in which order they stand.
-use Rattle.std.specs.Prelude.{ℕ, ◌≡◌, ◌<◌, ◌≤◌, ◌⊎◌, ◌||◌, Bool, is_some, Some, None, List, map, filter, length, slice_get, Contains, Result, Ok, Err}
+use Rattle.std.specs.Prelude.{ℕ, ◌≡◌, ◌<◌, ◌≤◌, ◌⊎◌, ◌||◌, Bool, is_some, Some, None, List, map, filter, length, slice_get, Contains}
 use Rattle.kw_core.specs.History.{History, called}
 use Rattle.kw_core.specs.declared.history.CallLog.{CallLog}
 use Rattle.kw_order.specs.declared.points.CallName.{CallName}
@@ -13,8 +13,6 @@ use Rattle.kw_judge.specs.declared.record.TheConstants.{MOST_CALLS}
 use Rattle.kw_judge.specs.Record.{RecordView, IsRecordText, record_text}
 use Rattle.kw_judge.specs.Good.{IsGood}
 use Rattle.kw_sim.specs.declared.command.Command.{Command}
-use Rattle.kw_line.specs.declared.error.LineError.{LineError}
-use Rattle.kw_line.specs.declared.error.LineError.TheVariants as error
 use Rattle.kw_sim.specs.Script.{AreLinesOf, IsFirstBadCommand}
 use Rattle.kw_sim.specs.Printed.{judged}
 use Rattle.kw_sim.specs.Meaning.{script_state}
@@ -89,9 +87,7 @@ pub record IsTooLong (rows : ℕ) (script : List ℕ) : Type 0 where
   pub lines : AreLinesOf rows script commands
   pub many : IsTooMany (script_state rows commands).trace
 
--- a line that is named is the first bad one of the script; line 0 says that the record would be too
--- long
-abbrev pub IfBadRecord : {X : Type 0} → ℕ → List ℕ → Result X LineError → Type 0
-IfBadRecord rows script (Ok x) = Unit {0}
-IfBadRecord rows script (Err (error.Bad line)) = IsFirstBadCommand rows script line ⊎ ((line ≡ 0) × IsTooLong rows script)
-IfBadRecord rows script (Err error.Memory) = Unit {0}
+-- why a script has no record: this line is the first bad one, or line 0 stands for a record that
+-- would be too long
+abbrev pub IsUnrecorded : ℕ → List ℕ → ℕ → Type 0
+IsUnrecorded rows script line = IsFirstBadCommand rows script line ⊎ ((line ≡ 0) × IsTooLong rows script)

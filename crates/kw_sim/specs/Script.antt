@@ -1,5 +1,5 @@
 -- The lines of a script: which commands there are, and how each is written.
-use Rattle.std.specs.Prelude.{ℕ, ◌≡◌, ◌+◌, ◌<◌, ◌≤◌, List, [], ◌∷◌, ◌++◌, map, length, codes, decimal, Result, Ok, Err}
+use Rattle.std.specs.Prelude.{ℕ, ◌≡◌, ◌+◌, ◌<◌, ◌≤◌, List, [], ◌∷◌, ◌++◌, map, length, codes, decimal}
 use Rattle.std.specs.List.{join_with_byte, AllByRecursion}
 use Rattle.kw_model.specs.declared.call.Call.TheVariants as call
 use Rattle.kw_words.specs.declared.sizes.TheConstants.{SEATS}
@@ -10,8 +10,6 @@ use Rattle.kw_line.specs.Line.{FitsCall}
 use Rattle.kw_judge.specs.Texts.{call_words}
 use Rattle.kw_sim.specs.declared.command.Command.{Command}
 use Rattle.kw_sim.specs.declared.command.Command.TheVariants as command
-use Rattle.kw_line.specs.declared.error.LineError.{LineError}
-use Rattle.kw_line.specs.declared.error.LineError.TheVariants as error
 use Rattle.kw_sim.specs.declared.parse.Verb.{Verb}
 use Rattle.kw_sim.specs.declared.parse.Verb.TheVariants as verb
 use Rattle.kw_sim.specs.declared.parse.TheConstants.{MOST_LINES, MOST_STEPS}
@@ -98,9 +96,3 @@ pub record IsFirstBadCommand (rows : ℕ) (bytes : List ℕ) (number : ℕ) : Ty
   pub each : AllByRecursion (IsCommand rows) before
   pub few : length before ≤ MOST_LINES
   pub bad : IsText rows line → length before ≡ MOST_LINES
-
--- a line that is named is the first bad one
-abbrev pub IfBadCommand : {X : Type 0} → ℕ → List ℕ → Result X LineError → Type 0
-IfBadCommand rows bytes (Ok x) = Unit {0}
-IfBadCommand rows bytes (Err (error.Bad line)) = IsFirstBadCommand rows bytes line
-IfBadCommand rows bytes (Err error.Memory) = Unit {0}

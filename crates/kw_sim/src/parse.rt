@@ -7,9 +7,10 @@
 ghost use Rattle.std.specs.Prelude.{◌≡◌, ◌≢◌, ◌≤◌, ◌++◌, ◌∷◌, ℕ, List, decimal, MatchOption, IfOk};
 ghost use Rattle.kw_words.specs.declared.kind.Kind.{Kind as AnyKind};
 ghost use Rattle.kw_words.specs.Kind.{name_of};
+ghost use Rattle.kw_line.specs.Line.{IfBad};
 ghost use Rattle.kw_sim.specs.declared.command.Command.{Command as AnyCommand};
 ghost use Rattle.kw_sim.specs.declared.parse.Verb.{Verb as AnyVerb};
-ghost use Rattle.kw_sim.specs.Script.{verb_word, verb_of, seat_of, rest_words, command_text, HasRange, IsCommand, IsText, AreLinesOf, IfBadCommand};
+ghost use Rattle.kw_sim.specs.Script.{verb_word, verb_of, seat_of, rest_words, command_text, HasRange, IsCommand, IsText, AreLinesOf, IsFirstBadCommand};
 
 use crate::command::Command;
 use kw_judge::parse::call;
@@ -40,7 +41,7 @@ pub enum Verb {
 /// The commands of a script's lines, one for each line, for a table of this many rows.
 pub fn parse_script(alloc: Global, rows: u32, script: &[u8]) -> Result<Vec<Command>, LineError>
     ensures commands { IfOk result (λ commands. AreLinesOf rows script.now commands.items) }
-    ensures bad { IfBadCommand rows script.now result }
+    ensures bad { IfBad (IsFirstBadCommand rows script.now) result }
 {
     let mut commands = Vec::new(alloc);
     for line in Lines::new(script) {

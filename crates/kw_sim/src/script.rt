@@ -1,10 +1,11 @@
 //! A script as one call: bytes in, bytes out.
 ghost use Rattle.std.specs.Prelude.{◌≡◌, ◌*◌, ◌≤◌, length, IfOk};
 ghost use Rattle.kw_words.specs.declared.sizes.TheConstants.{MOST_ROWS};
+ghost use Rattle.kw_line.specs.Line.{IfBad};
 ghost use Rattle.kw_sim.specs.declared.parse.TheConstants.{MOST_LINES, MOST_STEPS};
-ghost use Rattle.kw_sim.specs.Script.{IfBadCommand};
+ghost use Rattle.kw_sim.specs.Script.{IsFirstBadCommand};
 ghost use Rattle.kw_sim.specs.Output.{IsOutputOf, IsStateOf};
-ghost use Rattle.kw_sim.specs.Recorded.{IsRecordOf, IfBadRecord};
+ghost use Rattle.kw_sim.specs.Recorded.{IsRecordOf, IsUnrecorded};
 
 use crate::command::Command;
 use crate::parse::parse_script;
@@ -20,7 +21,7 @@ pub fn run_script(alloc: Global, rows: u32, script: &[u8]) -> Result<Vec<u8>, Li
     requires some { 1 ≤ rows }
     requires few { rows ≤ MOST_ROWS }
     ensures output { IfOk result (λ bytes. IsOutputOf rows script.now bytes.items) }
-    ensures bad { IfBadCommand rows script.now result }
+    ensures bad { IfBad (IsFirstBadCommand rows script.now) result }
 {
     let simulator = run_lines(alloc, rows, script)?;
     Ok(simulator.into_output(alloc)?)
@@ -36,7 +37,7 @@ pub fn record_script(alloc: Global, rows: u32, script: &[u8]) -> Result<Vec<u8>,
     requires some { 1 ≤ rows }
     requires few { rows ≤ MOST_ROWS }
     ensures output { IfOk result (λ bytes. IsRecordOf rows script.now bytes.items) }
-    ensures bad { IfBadRecord rows script.now result }
+    ensures bad { IfBad (IsUnrecorded rows script.now) result }
 {
     let simulator = run_lines(alloc, rows, script)?;
     simulator
@@ -51,7 +52,7 @@ fn run_lines(alloc: Global, rows: u32, script: &[u8]) -> Result<Simulator, LineE
     ensures state { IfOk result (λ simulator. IsStateOf rows script.now simulator) }
     ensures made { IfOk result (λ simulator. length simulator.trace.events ≤ MOST_LINES
         * MOST_STEPS) }
-    ensures bad { IfBadCommand rows script.now result }
+    ensures bad { IfBad (IsFirstBadCommand rows script.now) result }
 {
     let commands = parse_script(alloc, rows, script)?;
     let mut simulator = Simulator::open(alloc, rows)?;
