@@ -140,8 +140,11 @@ impl Index {
         is_renewed
     }
 
-    // Takes the ledger out, if one of the tries gained the right to. It has to be given back.
-    pub(crate) fn take(&self) -> Option<Ledger>
+    /// Takes the ledger out to be edited, if one of the tries gained the right to.
+    ///
+    /// Nobody else gains a turn until it is given back: meanwhile calls go on without the index.
+    /// Takes no memory.
+    pub fn take(&self) -> Option<Ledger>
         ensures { IfSome result (IsLedgerOf self.now) }
     {
         for _ in 0..TRIES {
@@ -154,9 +157,11 @@ impl Index {
         None
     }
 
-    // Puts a ledger in, where none is. Nobody else takes a turn at a slot whose ledger is out, so
-    // the first try gains it.
-    pub(crate) fn give(&self, ledger: Ledger)
+    /// Puts a ledger in, where none is: gives back the one that was taken out.
+    ///
+    /// Nobody else takes a turn at a slot whose ledger is out, so the first try gains it. Takes no
+    /// memory.
+    pub fn give(&self, ledger: Ledger)
         requires { IsLedgerOf self.now ledger }
     {
         if let Some(turn) = self.turn_to_write(FREE) {

@@ -10,11 +10,10 @@
 //! changes of it; `ledger` the changes that were made last, with a list to begin with; `index` the
 //! slot in which the ledger stands, and what threads ask of it; `own` the list that one caller
 //! guesses from; `window` where a caller searches for free rows; `hints` all that one caller has of
-//! these; `memory` the one error. What an edit leaves and what a guess is stands in
-//! `specs/Entries.antt`, what a change leaves in `specs/Changes.antt`, what a ledger makes of a
-//! list that lags behind in `specs/Ledgers.antt`, and which ledger may stand in the slot in
-//! `specs/Turns.antt`. Nothing here waits, and nothing but the making of entries and of an index
-//! takes memory.
+//! these. What an edit leaves and what a guess is stands in `specs/Entries.antt`, what a change
+//! leaves in `specs/Changes.antt`, what a ledger makes of a list that lags behind in
+//! `specs/Ledgers.antt`, and which ledger may stand in the slot in `specs/Turns.antt`. Nothing here
+//! waits, and nothing but the making of entries and of an index takes memory.
 #![tactic(auto)]
 
 pub mod change;
@@ -23,6 +22,4 @@ pub mod hints;
 pub mod index;
 pub mod ledger;
 pub mod own;
-#[cfg(test)]
-mod tests;
 pub mod window;

@@ -21,9 +21,9 @@ use std::alloc::Global;
 /// may have to renew.
 #[derive(Drop)]
 pub struct OwnEntries {
-    pub(crate) entries: Entries,
+    entries: Entries,
     // The number of the last change that they have. None where they were not brought up yet.
-    pub(crate) seen: Option<u32>,
+    seen: Option<u32>,
     // What is to be published and could not be yet, the first change first.
     untold: ArrayVec<Change, MOST_UNTOLD>,
     spare: Entries,

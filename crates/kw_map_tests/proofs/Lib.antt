@@ -1,1 +1,3 @@
+mod AskedOperations
+mod Knowing
 mod Starting

@@ -1,5 +1,6 @@
-//! Tests of the map (`kw_map`), and of the stretches of events that its calls are put together from
-//! (`kw_live`, `kw_live_rebal`).
+//! Tests of the map (`kw_map`), and of what its calls are put together from: the stretches of
+//! events (`kw_live`, `kw_live_rebal`), the events on the table that threads share (`kw_table`),
+//! and the index (`kw_index`).
 //!
 //! They make public calls alone, and what they expect was worked out by hand. They are a crate of
 //! their own since a crate with tests is proved twice, with them and without.
@@ -8,6 +9,13 @@
 //! `index` what the index spares them, and `threads` what passes in several threads put and see.
 //! `live`, `live_get` and `live_guess` put whole calls together from the functions of `kw_live`,
 //! and `rebalance` those whose row is full.
+//!
+//! Of the table `table_slots` has where its words lie, `table_calls` whole calls of passes that
+//! make one event after the other, `table_kinds` the events by the calls of their kinds, and
+//! `table_rebalance_kinds` those of a rebalance. Of the index `index_edits` has what edits leave of
+//! entries, `index_logs` what a log makes of entries that lag behind, `index_callers` what
+//! callers publish and guess, `index_threads` two threads on one index, and `index_window` where
+//! free rows are searched for.
 #![tactic(auto)]
 
 #[cfg(test)]
@@ -17,6 +25,16 @@ mod gatherers;
 #[cfg(test)]
 mod index;
 #[cfg(test)]
+mod index_callers;
+#[cfg(test)]
+mod index_edits;
+#[cfg(test)]
+mod index_logs;
+#[cfg(test)]
+mod index_threads;
+#[cfg(test)]
+mod index_window;
+#[cfg(test)]
 mod live;
 #[cfg(test)]
 mod live_get;
@@ -24,5 +42,13 @@ mod live_get;
 mod live_guess;
 #[cfg(test)]
 mod rebalance;
+#[cfg(test)]
+mod table_calls;
+#[cfg(test)]
+mod table_kinds;
+#[cfg(test)]
+mod table_rebalance_kinds;
+#[cfg(test)]
+mod table_slots;
 #[cfg(test)]
 mod threads;

@@ -6,4 +6,3 @@ pub mod Walks
 pub mod Calls
 pub mod Fresh
 pub mod Carried
-pub mod AskedOperations

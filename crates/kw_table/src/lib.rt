@@ -22,16 +22,8 @@ mod pass;
 mod rebalance_kinds;
 mod rule;
 mod shared;
-mod slot;
+pub mod slot;
 mod steps;
-#[cfg(test)]
-mod tests;
-#[cfg(test)]
-mod tests_kinds;
-#[cfg(test)]
-mod tests_rebalance_kinds;
-#[cfg(test)]
-mod tests_slot;
 mod warming;
 
 pub use kinds::{
@@ -50,3 +42,4 @@ pub use rebalance_kinds::{
 pub use rule::Rules;
 pub use shared::Shared;
 pub use steps::make;
+pub use warming::SMALLEST_COLD;

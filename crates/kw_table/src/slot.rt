@@ -21,7 +21,7 @@ use kw_words::layout::{Layout, Name};
 use kw_words::sizes::{CELLS, SEATS};
 
 /// How many words a cache line has: 64 bytes, and 8 for each word.
-pub(crate) const WORDS_A_LINE: usize = 8;
+pub const WORDS_A_LINE: usize = 8;
 
 /// How many words the C library keeps for itself at the start of a large block, which begins at a
 /// line: the memory begins behind them.
@@ -67,7 +67,7 @@ fn cell_slot(row: u32, cell: u32) -> usize
 }
 
 /// How many words the memory of a table of this many rows has.
-pub(crate) fn slots(rows: u32) -> usize
+pub fn slots(rows: u32) -> usize
     requires { IsSized SEATS CELLS rows }
     ensures { result ≡ slots rows }
 {
@@ -76,7 +76,7 @@ pub(crate) fn slots(rows: u32) -> usize
 
 /// Where a word lies in the memory of a table of this many rows.
 #[inline(always)]
-pub(crate) fn slot(rows: u32, word: Name) -> usize
+pub fn slot(rows: u32, word: Name) -> usize
     requires sized { IsSized SEATS CELLS rows }
     requires within { IsWithin SEATS CELLS rows word }
     ensures value { result ≡ slot rows word }

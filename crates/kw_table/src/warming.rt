@@ -18,7 +18,7 @@ use kw_words::state::State;
 
 /// How many rows a table has at least whose rows are loaded before a walk: those of a smaller one
 /// fit into a cache of its processor's own.
-pub(crate) const SMALLEST_COLD: u32 = 256;
+pub const SMALLEST_COLD: u32 = 256;
 
 /// How many cells of a row lie in a cache line of 64 bytes: each has four words of eight bytes.
 const CELLS_A_LINE: u32 = 2;

@@ -10,12 +10,12 @@ ghost use Rattle.kw_core.specs.Events.{is_call_in_range, may_begin};
 ghost use Rattle.kw_table.specs.Passes.{view, IsPassOf};
 ghost use Rattle.kw_table.specs.Views.{local_in};
 
-use super::*;
-use crate::tests_kinds::{Player, open_two};
+use crate::table_kinds::{Player, open_two};
 use kw_core::step::{operation, resume};
 use kw_model::call::{Call, Reply};
 use kw_model::memory::Memory;
 use kw_model::pair_list::PairList;
+use kw_table::{Pass, Shared, make, meet};
 use kw_world::event::{Choice, StepDone};
 use kw_world::local::Local;
 use std::alloc::Global;
@@ -93,7 +93,7 @@ fn begin_two(alloc: Global, call: Call) -> Result<(Shared, Player, Player), Memo
     ensures reader { IfOk result (λ made. IsPassOf made.0 made.2.pass
         × (made.2.local ≡ local_in (view made.2.pass))) }
 {
-    let (shared, mut putter, mut reader) = open_two(alloc)?;
+    let (shared, mut putter, mut reader) = open_two(alloc, 1, 1)?;
     begin(&shared, &mut reader, call)?;
     begin(&shared, &mut putter, Call::Put(5, 50))?;
     Ok((shared, putter, reader))

@@ -9,16 +9,25 @@
 //! turns of every list, so that their events are proved once.
 ghost use Rattle.std.specs.Prelude.{◌≡◌, true, false, IfOk};
 ghost use Rattle.kw_world.specs.Local.{resting};
+ghost use Rattle.kw_world.specs.Opening.{IsOpening};
 ghost use Rattle.kw_world.specs.Sane.{CanBegin};
+ghost use Rattle.kw_world.specs.Sizes.{product};
 ghost use Rattle.kw_world.specs.Step.{is_skipped};
 ghost use Rattle.kw_core.specs.Events.{is_call_in_range, may_begin};
 ghost use Rattle.kw_table.specs.Passes.{view, Asks, IsPassOf, Makes};
 ghost use Rattle.kw_table.specs.Views.{local_in};
 
-use super::*;
 use kw_core::step::{operation, resume};
 use kw_model::call::Call;
 use kw_model::memory::Memory;
+use kw_table::{
+    Pass, Shared, add_count, announce, clear_pass, clear_pend, clear_scan, decide, draw, engage,
+    freeze_count, freeze_pend, give_back, help_draw, help_settle, help_stamp, insert, load_after,
+    load_clock, load_count, load_epoch, load_head, load_key, load_link, load_min, load_pass,
+    load_pend, load_scan, load_state, load_value, load_version, make, mark_link, normalise, number,
+    reclaim, replace, settle, stamp, store_after, store_infant, store_key, store_pass,
+    store_retired, store_value, store_version, store_waiting, take_row,
+};
 use kw_words::kind::Kind;
 use kw_world::activity::Activity;
 use kw_world::event::Choice;
@@ -192,15 +201,21 @@ pub(crate) struct Player {
     pub(crate) local: Local,
 }
 
-// A table of two rows, and its two passes, the first one first.
-pub(crate) fn open_two(alloc: Global) -> Result<(Shared, Player, Player), Memory>
+// A table of two rows that begins with this clock and this epoch, and its two passes, the first one
+// first.
+pub(crate) fn open_two(
+    alloc: Global,
+    clock: u64,
+    epoch: u64,
+) -> Result<(Shared, Player, Player), Memory>
+    requires { IsOpening product (record { rows = 2; seats = 2; clock = clock; epoch = epoch }) }
     ensures first { IfOk result (λ made. IsPassOf made.0 made.1.pass
         × (made.1.local ≡ local_in (view made.1.pass))) }
     ensures second { IfOk result (λ made. IsPassOf made.0 made.2.pass
         × (made.2.local ≡ local_in (view made.2.pass))) }
     ensures idle { IfOk result (λ made. (made.1.local ≡ resting 0) × (made.2.local ≡ resting 0)) }
 {
-    let (shared, mut passes) = Shared::open(alloc, 2, 2, 1, 1)?;
+    let (shared, mut passes) = Shared::open(alloc, 2, 2, clock, epoch)?;
     let (Some(second), Some(first)) = (passes.pop(), passes.pop()) else {
         unreachable!()
     };
@@ -403,9 +418,16 @@ fn take_turn_of(
     }
 }
 
-// What two passes of a table of two rows are told when they take these turns, turn by turn.
-fn take_turns(alloc: Global, turns: &[(Who, Turn)]) -> Result<Vec<Vec<(Kind, u64)>>, Memory> {
-    let (shared, mut first, mut second) = open_two(alloc)?;
+// What two passes of such a table are told when they take these turns, turn by turn.
+fn take_turns(
+    alloc: Global,
+    clock: u64,
+    epoch: u64,
+    turns: &[(Who, Turn)],
+) -> Result<Vec<Vec<(Kind, u64)>>, Memory>
+    requires { IsOpening product (record { rows = 2; seats = 2; clock = clock; epoch = epoch }) }
+{
+    let (shared, mut first, mut second) = open_two(alloc, clock, epoch)?;
     let mut told = Vec::new(alloc);
     for turn in turns {
         let made = take_turn_of(alloc, &shared, &mut first, &mut second, turn.0, turn.1)?;
@@ -422,18 +444,23 @@ fn told_at(told: &[Vec<(Kind, u64)>], turn: usize) -> &[(Kind, u64)] {
     }
 }
 
-// Expects of two passes of a table of two rows that take these turns that each turn with one of
-// these numbers finds this.
+// Expects that each turn with one of these numbers finds this.
+fn expect_finds(rt: &impl Abort, told: &[Vec<(Kind, u64)>], table: &[(usize, &[(Kind, u64)])]) {
+    for (turn, finds) in table {
+        assert_eq!(rt; told_at(told, *turn), *finds, "in turn {turn}");
+    }
+}
+
+// The same of two passes that take these turns on a table of two rows that begins with the clock 1
+// and the epoch 1.
 pub(crate) fn expect_told(
     rt: &impl Abort,
     alloc: Global,
     turns: &[(Who, Turn)],
     table: &[(usize, &[(Kind, u64)])],
 ) -> Result<(), Memory> {
-    let told = take_turns(alloc, turns)?;
-    for (turn, finds) in table {
-        assert_eq!(rt; told_at(&told, *turn), *finds, "in turn {turn}");
-    }
+    let told = take_turns(alloc, 1, 1, turns)?;
+    expect_finds(rt, &told, table);
     Ok(())
 }
 
@@ -550,4 +577,29 @@ fn a_get_that_guesses_its_row_finds_what_a_put_stored(rt: HostRuntime) -> Result
         (5, GET_BY_ITS_GUESS.as_slice()),
     ];
     Ok(expect_told(&rt, rt.alloc(), &turns, &table)?)
+}
+
+// Four words are not 0 when a run begins: the clock, the epoch, the first link and the state of row
+// 0.
+#[test]
+fn a_run_begins_with_the_clock_and_the_epoch_that_it_is_given(rt: HostRuntime) -> Result<(), Fail> {
+    let turns = [
+        (Who::First, Turn::Put(5, 10)),
+        (Who::First, Turn::Go(2)),
+        (Who::First, Turn::Go(6)),
+        (Who::First, Turn::Go(1)),
+        (Who::Second, Turn::Get(5)),
+        (Who::Second, Turn::Go(1)),
+        (Who::Second, Turn::Guess(0)),
+    ];
+    let table = [
+        (0, [(Kind::LoadEpoch, 7)].as_slice()),
+        (1, [(Kind::StorePass, 0), (Kind::LoadHead, 1)].as_slice()),
+        (3, [(Kind::LoadClock, 5)].as_slice()),
+        (4, [(Kind::LoadEpoch, 7)].as_slice()),
+        (6, [(Kind::LoadState, 2)].as_slice()),
+    ];
+    let told = take_turns(rt.alloc(), 5, 7, &turns)?;
+    expect_finds(&rt, &told, &table);
+    Ok(())
 }

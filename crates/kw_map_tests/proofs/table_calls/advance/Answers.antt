@@ -1,8 +1,9 @@
 use Rattle.std.proofs.Common.{ap, ◌∙◌}
 use Rattle.std.proofs.lemmas.Result.{IfOk-weaker}
 use Rattle.kw_world.specs.WalkTransitions.{offered}
-use Rattle.kw_table.proofs.Carried.{known_in, knows_after}
-use Rattle.kw_table.proofs.tests.advance.Goals as goal
+use Rattle.kw_table.proofs.Carried.{known_in}
+use Rattle.kw_map_tests.proofs.Knowing.{knows_after}
+use Rattle.kw_map_tests.proofs.table_calls.advance.Goals as goal
 
 pub operation-does-requires : goal.operation-does-requires
 operation-does-requires c = (known_in c.args.pass.now c.args.local.now c.requires.knows).ranges

@@ -1,16 +1,15 @@
-//! Where words lie, worked by hand. Behind 6 words that are left out, 4 words of the whole map and
+//! Where the words of a table lie, worked by hand, and rows that are loaded before they are asked.
+//!
+//! Behind 6 words that are left out, 4 words of the whole map and
 //! 3 for each of 8 seats have a line of 8 words each, so that the first row begins at 6 + 28 * 8 =
 //! 230. A row has 12 words of its head in two lines, and 4 for each of 64 cells: 272 in all. The
 //! states follow behind the last row.
 ghost use Rattle.kw_words.specs.Layout.{IsSized, IsWithin};
 ghost use Rattle.kw_words.specs.declared.sizes.TheConstants.{SEATS, CELLS};
 
-use crate::opening::opening_words;
-use crate::shared::Shared;
-use crate::slot::{WORDS_A_LINE, slot, slots};
-use crate::warming::SMALLEST_COLD;
+use kw_table::slot::{WORDS_A_LINE, slot, slots};
+use kw_table::{SMALLEST_COLD, Shared};
 use kw_words::layout::Name;
-use kw_world::opening::Opening;
 use std::test::Fail;
 
 // Where a word lies, without the clauses of `slot`, which the tests need not know.
@@ -83,28 +82,13 @@ fn rows_and_their_cells_begin_at_a_line(rt: HostRuntime) {
 
 #[test]
 fn states_lie_side_by_side_behind_the_rows(rt: HostRuntime) {
+    let one = [place(1, Name::State(0)), slots(1)];
     let two = [place(2, Name::State(0)), place(2, Name::State(1)), slots(2)];
     let three = [place(3, Name::State(0)), place(3, Name::State(2)), slots(3)];
-    assert_eq!(rt; (two, three), ([774, 775, 776], [1_046, 1_048, 1_049]));
-}
-
-#[test]
-fn a_run_begins_with_four_words_at_their_slots(rt: HostRuntime) -> Result<(), Fail> {
-    let opening = Opening {
-        rows: 1,
-        seats: 2,
-        clock: 5,
-        epoch: 7,
-    };
-    let words = opening_words(rt.alloc(), opening)?;
-    let words = words.as_slice();
-    let found = [words.get(6), words.get(14), words.get(22), words.get(502)];
-    let written = words.iter().filter(|word| **word > 0).count();
     assert_eq!(rt;
-        (found, words.len(), written),
-        ([Some(&5), Some(&7), Some(&1), Some(&2)], 503, 4)
+        (one, two, three),
+        ([502, 503], [774, 775, 776], [1_046, 1_048, 1_049])
     );
-    Ok(())
 }
 
 // Of a table whose rows are loaded before a walk, and of rows that it lacks.

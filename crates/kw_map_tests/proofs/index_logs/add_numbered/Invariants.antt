@@ -1,5 +1,5 @@
 use Rattle.std.proofs.Common.{◌≡◌}
-use Rattle.kw_index.proofs.tests.add_numbered.Given as goal
+use Rattle.kw_map_tests.proofs.index_logs.add_numbered.Given as goal
 
 -- changes leave the base
 abbrev pub invariant-loop-min : goal.invariant-loop-min
