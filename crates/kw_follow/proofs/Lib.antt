@@ -15,4 +15,5 @@ pub mod WayEvents
 pub mod BuildEvents
 pub mod RestingCall
 pub mod Reaching
+pub mod Moving
 pub mod Untidied

@@ -29,8 +29,9 @@ use Rattle.kw_table.specs.declared.shared.Shared.{Shared}
 use Rattle.kw_table.specs.Passes.{view, operation, Asks, Makes}
 use Rattle.kw_table.specs.Views.{local_in}
 use Rattle.kw_table.proofs.Prefixes.{prefix_longer}
-use Rattle.kw_follow.specs.Cursors.{ReadsWord}
+use Rattle.kw_follow.specs.Cursors.{ReadsLeftOver, ReadsWord}
 use Rattle.kw_follow.specs.Following.{CarriesOn, Follows, GoesTo, carried}
+use Rattle.kw_follow.specs.Moving.{FollowsAt}
 use Rattle.kw_follow.specs.Within.{IsAtRemembered}
 use Rattle.kw_follow.proofs.Growing.{IsStaying, keeps}
 use Rattle.kw_follow.proofs.OneEvent.{follows_from, makes_met, same_activity}
@@ -94,6 +95,14 @@ reads_word s p q l told f makes taking = record {
   seat = seat_reads s p q told makes;
   met = makes_met f makes;
   calls = keeps makes (taking_stays _ (subst IsTaking (sym (same_activity s p l f)) taking));
+}
+
+-- a reader was told a word of a cell that it remembers, and code carries on by the line
+pub reads_left_over : {s : Shared} {p q : Pass} {m : Local} {told : ℕ} (l : Local) (a : Activity) → FollowsAt s p l a → IsAtRemembered a → Makes s p Go told q → CarriesOn (λ k. (transition product a 0 Go k).next (view p).opening.rows told) l m → ReadsLeftOver s p l q m
+reads_left_over {s} {p} {q} {m} {told} l a at left makes on = record {
+  told = told;
+  reads = reads_word s p q l told at.follows makes (subst IsTaking (sym at.activity) (remembered_taking a left));
+  follows = read_follows s p q l m told a at.follows makes at.activity on;
 }
 
 -- What carries on.

@@ -14,17 +14,14 @@ ghost use Rattle.kw_core.specs.Events.{is_call_in_range};
 ghost use Rattle.kw_world.specs.Local.{resting};
 ghost use Rattle.kw_world.specs.ReadTransitions.{look_met};
 ghost use Rattle.kw_world.specs.Sizes.{product};
-ghost use Rattle.kw_world.specs.Step.{next_of};
 ghost use Rattle.kw_world.specs.Transition.{outcome, row_linked};
-ghost use Rattle.kw_world.specs.WalkTransitions.{link_met, offered, walk_min};
-ghost use Rattle.kw_world.specs.declared.event.StepDone.TheVariants.{Moved};
-ghost use Rattle.kw_table.specs.Passes.{view, IsPassOf, Makes};
-ghost use Rattle.kw_follow.specs.Calling.{KeepsCalls};
-ghost use Rattle.kw_follow.specs.Following.{Follows, GoesTo, activity_in, held};
-ghost use Rattle.kw_follow.specs.OwnEvents.{MetAs, MetOnly};
+ghost use Rattle.kw_world.specs.WalkTransitions.{link_met, walk_min};
+ghost use Rattle.kw_table.specs.Passes.{IsPassOf, Makes};
+ghost use Rattle.kw_follow.specs.Following.{Follows, activity_in};
+ghost use Rattle.kw_follow.specs.Moving.{FollowsAt, Moves, WentOn};
 ghost use Rattle.kw_follow.specs.Within.{IsWithinCall, looking, walking};
 
-use crate::going::{Happened, event, go};
+use crate::going::{event, go};
 use kw_model::call::Call;
 use kw_step_put::resume::end_call;
 use kw_step_put::resume_entries::look;
@@ -51,19 +48,16 @@ pub(crate) fn load_own_epoch(
     pass: &mut Pass,
     local: &mut Local,
     call: Call,
-) -> Happened
+) -> StepDone
     requires table { IsPassOf shared.now pass.old }
     requires idle { activity_in pass.old ≡ Activity.Idle }
     requires rested { local.old ≡ resting 0 }
     requires range { is_call_in_range call ≡ true }
-    ensures makes { Makes shared.now pass.old (Choice.Begin call) result.told pass.new }
-    ensures line { outcome local.new result.done ≡ next_of product shared.now.opening.rows
-        (Choice.Begin call) local.old result.told }
+    ensures { Moves shared.now pass.old local.old (Choice.Begin call) pass.new local.new result }
 {
     let choice = Choice::Begin(call);
     let told = load_epoch(shared, pass, choice, Name::Epoch);
-    let done = begin(local, choice, told);
-    Happened { told, done }
+    begin(local, choice, told)
 }
 
 // Stores that the seat announces no epoch any more, by which a call ends.
@@ -73,78 +67,58 @@ pub(crate) fn clear_epoch(
     pass: &mut Pass,
     local: &mut Local,
     answer: Answer,
-) -> Happened
-    requires follows { Follows shared.now pass.old local.old }
-    requires leaving { local.old.activity ≡ Activity.Leave answer }
-    ensures makes { Makes shared.now pass.old Choice.Go result.told pass.new }
-    ensures line { outcome local.new result.done ≡ next_of product shared.now.opening.rows Choice.Go
-        local.old result.told }
+) -> StepDone
+    requires { FollowsAt shared.now pass.old local.old (Activity.Leave answer) }
+    ensures { Moves shared.now pass.old local.old Choice.Go pass.new local.new result }
 {
     let word = Name::Pass(pass.number());
     let none = pack_pass(None);
-    let told = clear_pass(shared, pass, Choice::Go, word, none);
-    let done = end_call(local, answer);
-    Happened { told, done }
+    clear_pass(shared, pass, Choice::Go, word, none);
+    end_call(local, answer)
 }
 
 // Stores the epoch that the seat announces.
 #[inline(always)]
-fn announce_epoch(shared: &Shared, pass: &mut Pass, local: &mut Local) -> Happened
-    requires follows { Follows shared.now pass.old local.old }
-    requires activity { local.old.activity ≡ Activity.Enter Enter.Announce }
-    ensures makes { Makes shared.now pass.old Choice.Go result.told pass.new }
-    ensures line { outcome local.new result.done ≡ next_of product shared.now.opening.rows Choice.Go
-        local.old result.told }
+fn announce_epoch(shared: &Shared, pass: &mut Pass, local: &mut Local) -> StepDone
+    requires { FollowsAt shared.now pass.old local.old (Activity.Enter Enter.Announce) }
+    ensures { Moves shared.now pass.old local.old Choice.Go pass.new local.new result }
 {
     let word = Name::Pass(pass.number());
     let epoch = pack_pass(Some(local.epoch));
-    let told = store_pass(shared, pass, Choice::Go, word, epoch);
-    let done = enter(local);
-    Happened { told, done }
+    store_pass(shared, pass, Choice::Go, word, epoch);
+    enter(local)
 }
 
 // Loads the link to the first row.
 #[inline(always)]
-fn load_first_row(shared: &Shared, pass: &mut Pass, local: &mut Local) -> Happened
-    requires follows { Follows shared.now pass.old local.old }
-    requires activity { local.old.activity ≡ Activity.Walk Walk.Start }
-    ensures makes { Makes shared.now pass.old Choice.Go result.told pass.new }
-    ensures line { outcome local.new result.done ≡ next_of product shared.now.opening.rows Choice.Go
-        local.old result.told }
+fn load_first_row(shared: &Shared, pass: &mut Pass, local: &mut Local) -> StepDone
+    requires { FollowsAt shared.now pass.old local.old (Activity.Walk Walk.Start) }
+    ensures { Moves shared.now pass.old local.old Choice.Go pass.new local.new result }
 {
     let told = load_head(shared, pass, Choice::Go, Name::Head);
-    let done = first(local, told);
-    Happened { told, done }
+    first(local, told)
 }
 
 // Loads the state of a row of the table, with which a walk begins that is to begin there.
 #[inline(always)]
-fn load_guessed_state(shared: &Shared, pass: &mut Pass, local: &mut Local, row: u32) -> Happened
-    requires follows { Follows shared.now pass.old local.old }
-    requires activity { local.old.activity ≡ Activity.Walk Walk.Start }
+fn load_guessed_state(shared: &Shared, pass: &mut Pass, local: &mut Local, row: u32) -> StepDone
+    requires at { FollowsAt shared.now pass.old local.old (Activity.Walk Walk.Start) }
     requires in_range { row < shared.now.opening.rows }
-    ensures makes { Makes shared.now pass.old (Choice.Guess row) result.told pass.new }
-    ensures line { outcome local.new result.done ≡ next_of product shared.now.opening.rows
-        (offered shared.now.opening.rows (Choice.Guess row)) local.old result.told }
+    ensures { Moves shared.now pass.old local.old (Choice.Guess row) pass.new local.new result }
 {
     let told = load_state(shared, pass, Choice::Guess(row), Name::State(row));
-    let done = guess(local, row, told);
-    Happened { told, done }
+    guess(local, row, told)
 }
 
 // Loads the least key of that row.
 #[inline(always)]
-fn load_guessed_least(shared: &Shared, pass: &mut Pass, local: &mut Local) -> Happened
-    requires follows { Follows shared.now pass.old local.old }
-    requires activity { local.old.activity ≡ Activity.Walk Walk.GuessedLeast }
-    ensures makes { Makes shared.now pass.old Choice.Go result.told pass.new }
-    ensures line { outcome local.new result.done ≡ next_of product shared.now.opening.rows Choice.Go
-        local.old result.told }
+fn load_guessed_least(shared: &Shared, pass: &mut Pass, local: &mut Local) -> StepDone
+    requires { FollowsAt shared.now pass.old local.old (Activity.Walk Walk.GuessedLeast) }
+    ensures { Moves shared.now pass.old local.old Choice.Go pass.new local.new result }
 {
     let word = Name::Min(local.row);
     let told = load_min(shared, pass, Choice::Go, word);
-    let done = guess_min(local, told);
-    Happened { told, done }
+    guess_min(local, told)
 }
 
 /// Loads the link after this row, for a call that walks along the rows and stands at it. The answer
@@ -186,30 +160,22 @@ pub fn meet_row_least(local: &mut Local, found: u64) -> StepDone
 
 // Goes on by the link after the row.
 #[inline(always)]
-fn load_next_row(shared: &Shared, pass: &mut Pass, local: &mut Local) -> Happened
-    requires follows { Follows shared.now pass.old local.old }
-    requires activity { local.old.activity ≡ Activity.Walk Walk.Next }
-    ensures makes { Makes shared.now pass.old Choice.Go result.told pass.new }
-    ensures line { outcome local.new result.done ≡ next_of product shared.now.opening.rows Choice.Go
-        local.old result.told }
+fn load_next_row(shared: &Shared, pass: &mut Pass, local: &mut Local) -> StepDone
+    requires { FollowsAt shared.now pass.old local.old (Activity.Walk Walk.Next) }
+    ensures { Moves shared.now pass.old local.old Choice.Go pass.new local.new result }
 {
     let told = load_row_link(shared, pass, local.row);
-    let done = meet_row_link(local, told);
-    Happened { told, done }
+    meet_row_link(local, told)
 }
 
 // Goes on by the least key of the row after it.
 #[inline(always)]
-fn load_least_key(shared: &Shared, pass: &mut Pass, local: &mut Local) -> Happened
-    requires follows { Follows shared.now pass.old local.old }
-    requires activity { local.old.activity ≡ Activity.Walk Walk.NextLeast }
-    ensures makes { Makes shared.now pass.old Choice.Go result.told pass.new }
-    ensures line { outcome local.new result.done ≡ next_of product shared.now.opening.rows Choice.Go
-        local.old result.told }
+fn load_least_key(shared: &Shared, pass: &mut Pass, local: &mut Local) -> StepDone
+    requires { FollowsAt shared.now pass.old local.old (Activity.Walk Walk.NextLeast) }
+    ensures { Moves shared.now pass.old local.old Choice.Go pass.new local.new result }
 {
     let told = load_row_least(shared, pass, local.candidate);
-    let done = meet_row_least(local, told);
-    Happened { told, done }
+    meet_row_least(local, told)
 }
 
 /// Loads the entry of this seat in the reader's row, for a reader that looks at it next. The answer
@@ -235,26 +201,20 @@ pub fn meet_entry(local: &mut Local, entry: u32, found: u64) -> StepDone
 
 // Looks at the entry of this seat.
 #[inline(always)]
-fn look_at_entry(shared: &Shared, pass: &mut Pass, local: &mut Local, entry: u32) -> Happened
-    requires follows { Follows shared.now pass.old local.old }
-    requires activity { local.old.activity ≡ Activity.Look (Look.Entry entry) }
-    ensures makes { Makes shared.now pass.old Choice.Go result.told pass.new }
-    ensures line { outcome local.new result.done ≡ next_of product shared.now.opening.rows Choice.Go
-        local.old result.told }
+fn look_at_entry(shared: &Shared, pass: &mut Pass, local: &mut Local, entry: u32) -> StepDone
+    requires { FollowsAt shared.now pass.old local.old (Activity.Look (Look.Entry entry)) }
+    ensures { Moves shared.now pass.old local.old Choice.Go pass.new local.new result }
 {
     let told = load_entry(shared, pass, local.row, entry);
-    let done = meet_entry(local, entry, told);
-    Happened { told, done }
+    meet_entry(local, entry, told)
 }
 
 // The next event, by what the local does next.
 #[inline(always)]
-fn event_along(shared: &Shared, pass: &mut Pass, local: &mut Local) -> Happened
+fn event_along(shared: &Shared, pass: &mut Pass, local: &mut Local) -> StepDone
     requires follows { Follows shared.now pass.old local.old }
     requires within { IsWithinCall local.old.activity }
-    ensures makes { Makes shared.now pass.old Choice.Go result.told pass.new }
-    ensures line { outcome local.new result.done ≡ next_of product shared.now.opening.rows Choice.Go
-        local.old result.told }
+    ensures { Moves shared.now pass.old local.old Choice.Go pass.new local.new result }
 {
     match local.activity {
         Activity::Enter(Enter::Announce) => announce_epoch(shared, pass, local),
@@ -269,59 +229,35 @@ fn event_along(shared: &Shared, pass: &mut Pass, local: &mut Local) -> Happened
 
 /// Makes the next event in the middle of a call, as `go` does with the choice `Go`. The
 /// announcement of the epoch, the walk along the rows and the looks at entries are made by steps of
-/// their own. The answer is what the event was told. Takes no memory.
+/// their own. Takes no memory.
 #[inline(always)]
-pub fn go_along(shared: &Shared, pass: &mut Pass, local: &mut Local) -> u64
+pub fn go_along(shared: &Shared, pass: &mut Pass, local: &mut Local)
     requires follows { Follows shared.now pass.old local.old }
     requires within { IsWithinCall local.old.activity }
-    ensures goes { GoesTo shared.now pass.old pass.new }
-    ensures follows { Follows shared.now pass.new local.new }
-    ensures line { outcome local.new Moved ≡ next_of product (view pass.old).opening.rows Choice.Go
-        local.old result }
-    ensures met { MetAs pass.old pass.new local.old Choice.Go result }
-    ensures only { MetOnly pass.old pass.new local.old.activity result }
-    ensures calls { KeepsCalls pass.old pass.new }
-    ensures held { held pass.new ≡ held pass.old }
+    ensures { WentOn shared.now pass.old local.old Choice.Go pass.new local.new }
 {
-    let happened = event_along(shared, pass, local);
-    happened.told
+    event_along(shared, pass, local);
 }
 
 /// Makes the first event of a walk that is to begin at this row, as `go` does with the choice
-/// `Guess(row)`. The answer is what the event was told. Takes no memory.
+/// `Guess(row)`. Takes no memory.
 #[inline(always)]
-pub fn go_guess(shared: &Shared, pass: &mut Pass, local: &mut Local, row: u32) -> u64
-    requires follows { Follows shared.now pass.old local.old }
-    requires start { local.old.activity ≡ Activity.Walk Walk.Start }
-    ensures goes { GoesTo shared.now pass.old pass.new }
-    ensures follows { Follows shared.now pass.new local.new }
-    ensures line { outcome local.new Moved ≡ next_of product (view pass.old).opening.rows
-        (offered (view pass.old).opening.rows (Choice.Guess row)) local.old result }
-    ensures met { MetAs pass.old pass.new local.old (Choice.Guess row) result }
-    ensures calls { KeepsCalls pass.old pass.new }
-    ensures held { held pass.new ≡ held pass.old }
+pub fn go_guess(shared: &Shared, pass: &mut Pass, local: &mut Local, row: u32)
+    requires { FollowsAt shared.now pass.old local.old (Activity.Walk Walk.Start) }
+    ensures { WentOn shared.now pass.old local.old (Choice.Guess row) pass.new local.new }
 {
     if row >= shared.rows() {
         return go(shared, pass, local, Choice::Guess(row));
     }
-    let happened = load_guessed_state(shared, pass, local, row);
-    happened.told
+    load_guessed_state(shared, pass, local, row);
 }
 
 /// Loads the least key of a guessed row that is in use, as `go_along` does where the call tries a
-/// guessed row. The answer is what the event was told. Takes no memory.
+/// guessed row. Takes no memory.
 #[inline(always)]
-pub fn go_guess_min(shared: &Shared, pass: &mut Pass, local: &mut Local) -> u64
-    requires follows { Follows shared.now pass.old local.old }
-    requires guessing { local.old.activity ≡ Activity.Walk Walk.GuessedLeast }
-    ensures goes { GoesTo shared.now pass.old pass.new }
-    ensures follows { Follows shared.now pass.new local.new }
-    ensures line { outcome local.new Moved ≡ next_of product (view pass.old).opening.rows Choice.Go
-        local.old result }
-    ensures met { MetAs pass.old pass.new local.old Choice.Go result }
-    ensures calls { KeepsCalls pass.old pass.new }
-    ensures held { held pass.new ≡ held pass.old }
+pub fn go_guess_min(shared: &Shared, pass: &mut Pass, local: &mut Local)
+    requires { FollowsAt shared.now pass.old local.old (Activity.Walk Walk.GuessedLeast) }
+    ensures { WentOn shared.now pass.old local.old Choice.Go pass.new local.new }
 {
-    let happened = load_guessed_least(shared, pass, local);
-    happened.told
+    load_guessed_least(shared, pass, local);
 }

@@ -3,22 +3,15 @@
 //! Most of them freeze and gather the full row (`gathering`) and write the new ones (`writing`): a
 //! split makes some hundreds of these, each by its own step of the table. What is left, as the
 //! search for free rows and the exchange of the link, is put together in `going`.
-ghost use Rattle.std.specs.Prelude.{◌≡◌};
-ghost use Rattle.kw_world.specs.Sizes.{product};
-ghost use Rattle.kw_world.specs.Step.{next_of};
-ghost use Rattle.kw_world.specs.Transition.{outcome};
-ghost use Rattle.kw_world.specs.declared.event.StepDone.TheVariants.{Moved};
-ghost use Rattle.kw_table.specs.Passes.{view, Makes};
-ghost use Rattle.kw_follow.specs.Calling.{KeepsCalls};
-ghost use Rattle.kw_follow.specs.Following.{Follows, GoesTo, held};
-ghost use Rattle.kw_follow.specs.OwnEvents.{MetAs, MetOnly};
+ghost use Rattle.kw_follow.specs.Following.{Follows};
+ghost use Rattle.kw_follow.specs.Moving.{Moves, WentOn};
 ghost use Rattle.kw_follow.specs.Within.{IsWithinCall};
 
 use crate::gathering::{
     freeze_entry, load_left_key, load_left_value, load_link, load_met_key, load_met_value,
     load_met_version, look_at_entry, look_at_scan,
 };
-use crate::going::{Happened, event};
+use crate::going::event;
 use crate::writing::{
     write_after, write_count, write_entry, write_first, write_key, write_least, write_next,
     write_value, write_version,
@@ -29,17 +22,15 @@ use kw_world::activity::rebalance::Rebalance;
 use kw_world::activity::rebalance::freeze::Freeze;
 use kw_world::activity::rebalance::gather::Gather;
 use kw_world::activity::rebalance::write::Write;
-use kw_world::event::Choice;
+use kw_world::event::{Choice, StepDone};
 use kw_world::local::Local;
 
 // The next event, by what the local does next: one that writes a new row, or any other one.
 #[inline(always)]
-fn write_event(shared: &Shared, pass: &mut Pass, local: &mut Local) -> Happened
+fn write_event(shared: &Shared, pass: &mut Pass, local: &mut Local) -> StepDone
     requires follows { Follows shared.now pass.old local.old }
     requires within { IsWithinCall local.old.activity }
-    ensures makes { Makes shared.now pass.old Choice.Go result.told pass.new }
-    ensures line { outcome local.new result.done ≡ next_of product shared.now.opening.rows Choice.Go
-        local.old result.told }
+    ensures { Moves shared.now pass.old local.old Choice.Go pass.new local.new result }
 {
     match local.activity {
         Activity::Rebalance(Rebalance::Write(Write::Count)) => write_count(shared, pass, local),
@@ -68,12 +59,10 @@ fn write_event(shared: &Shared, pass: &mut Pass, local: &mut Local) -> Happened
 // The next event, by what the local does next: one that freezes or gathers the full row, or any
 // other one.
 #[inline(always)]
-fn build_event(shared: &Shared, pass: &mut Pass, local: &mut Local) -> Happened
+fn build_event(shared: &Shared, pass: &mut Pass, local: &mut Local) -> StepDone
     requires follows { Follows shared.now pass.old local.old }
     requires within { IsWithinCall local.old.activity }
-    ensures makes { Makes shared.now pass.old Choice.Go result.told pass.new }
-    ensures line { outcome local.new result.done ≡ next_of product shared.now.opening.rows Choice.Go
-        local.old result.told }
+    ensures { Moves shared.now pass.old local.old Choice.Go pass.new local.new result }
 {
     match local.activity {
         Activity::Rebalance(Rebalance::Freeze(Freeze::Look(entry))) => look_at_entry(
@@ -105,20 +94,12 @@ fn build_event(shared: &Shared, pass: &mut Pass, local: &mut Local) -> Happened
 
 /// Makes the next event in the middle of a call, as `go` does with the choice `Go`. Those of a
 /// rebalance that freeze and gather the full row and write the new ones are made by steps of their
-/// own. The answer is what the event was told. Takes no memory.
+/// own. Takes no memory.
 #[inline(always)]
-pub fn go_build(shared: &Shared, pass: &mut Pass, local: &mut Local) -> u64
+pub fn go_build(shared: &Shared, pass: &mut Pass, local: &mut Local)
     requires follows { Follows shared.now pass.old local.old }
     requires within { IsWithinCall local.old.activity }
-    ensures goes { GoesTo shared.now pass.old pass.new }
-    ensures follows { Follows shared.now pass.new local.new }
-    ensures line { outcome local.new Moved ≡ next_of product (view pass.old).opening.rows Choice.Go
-        local.old result }
-    ensures met { MetAs pass.old pass.new local.old Choice.Go result }
-    ensures only { MetOnly pass.old pass.new local.old.activity result }
-    ensures calls { KeepsCalls pass.old pass.new }
-    ensures held { held pass.new ≡ held pass.old }
+    ensures { WentOn shared.now pass.old local.old Choice.Go pass.new local.new }
 {
-    let happened = build_event(shared, pass, local);
-    happened.told
+    build_event(shared, pass, local);
 }

@@ -4,14 +4,8 @@
 //! there; it looks at each scan; and then it goes along the row's list, with four events for each
 //! cell, as a reader does who gathers all. What the local does next says which step it is, as in
 //! `putting`; `building` asks for it.
-ghost use Rattle.std.specs.Prelude.{◌≡◌};
-ghost use Rattle.kw_world.specs.Sizes.{product};
-ghost use Rattle.kw_world.specs.Step.{next_of};
-ghost use Rattle.kw_world.specs.Transition.{outcome};
-ghost use Rattle.kw_table.specs.Passes.{Makes};
-ghost use Rattle.kw_follow.specs.Following.{Follows};
+ghost use Rattle.kw_follow.specs.Moving.{FollowsAt, Moves};
 
-use crate::going::Happened;
 use kw_step_put::operation::link_name;
 use kw_step_rebal::resume_freeze::{entry_tried, look, scan};
 use kw_step_rebal::resume_take::{
@@ -26,7 +20,7 @@ use kw_world::activity::Activity;
 use kw_world::activity::rebalance::Rebalance;
 use kw_world::activity::rebalance::freeze::Freeze;
 use kw_world::activity::rebalance::gather::Gather;
-use kw_world::event::Choice;
+use kw_world::event::{Choice, StepDone};
 use kw_world::local::Local;
 
 // Loads an entry of the full row.
@@ -36,17 +30,14 @@ pub(crate) fn look_at_entry(
     pass: &mut Pass,
     local: &mut Local,
     entry: u32,
-) -> Happened
-    requires follows { Follows shared.now pass.old local.old }
-    requires activity { local.old.activity ≡ Activity.Rebalance (Rebalance.Freeze (Freeze.Look entry)) }
-    ensures makes { Makes shared.now pass.old Choice.Go result.told pass.new }
-    ensures line { outcome local.new result.done ≡ next_of product shared.now.opening.rows Choice.Go
-        local.old result.told }
+) -> StepDone
+    requires { FollowsAt shared.now pass.old local.old
+        (Activity.Rebalance (Rebalance.Freeze (Freeze.Look entry))) }
+    ensures { Moves shared.now pass.old local.old Choice.Go pass.new local.new result }
 {
     let word = Name::Pend(local.row, entry);
     let told = load_pend(shared, pass, Choice::Go, word);
-    let done = look(local, entry, told);
-    Happened { told, done }
+    look(local, entry, told)
 }
 
 // Exchanges the entry, as it was found, for a frozen one.
@@ -56,19 +47,16 @@ pub(crate) fn freeze_entry(
     pass: &mut Pass,
     local: &mut Local,
     entry: u32,
-) -> Happened
-    requires follows { Follows shared.now pass.old local.old }
-    requires activity { local.old.activity ≡ Activity.Rebalance (Rebalance.Freeze (Freeze.Entry entry)) }
-    ensures makes { Makes shared.now pass.old Choice.Go result.told pass.new }
-    ensures line { outcome local.new result.done ≡ next_of product shared.now.opening.rows Choice.Go
-        local.old result.told }
+) -> StepDone
+    requires { FollowsAt shared.now pass.old local.old
+        (Activity.Rebalance (Rebalance.Freeze (Freeze.Entry entry))) }
+    ensures { Moves shared.now pass.old local.old Choice.Go pass.new local.new result }
 {
     let word = Name::Pend(local.row, entry);
     let found = local.rebalance.entry.pack();
     let frozen = Pend::Frozen.pack();
     let told = freeze_pend(shared, pass, Choice::Go, word, found, frozen);
-    let done = entry_tried(local, entry, told);
-    Happened { told, done }
+    entry_tried(local, entry, told)
 }
 
 // Loads the scan of a seat.
@@ -78,104 +66,83 @@ pub(crate) fn look_at_scan(
     pass: &mut Pass,
     local: &mut Local,
     seat: u32,
-) -> Happened
-    requires follows { Follows shared.now pass.old local.old }
-    requires activity { local.old.activity ≡ Activity.Rebalance (Rebalance.Freeze (Freeze.Scan seat)) }
-    ensures makes { Makes shared.now pass.old Choice.Go result.told pass.new }
-    ensures line { outcome local.new result.done ≡ next_of product shared.now.opening.rows Choice.Go
-        local.old result.told }
+) -> StepDone
+    requires { FollowsAt shared.now pass.old local.old
+        (Activity.Rebalance (Rebalance.Freeze (Freeze.Scan seat))) }
+    ensures { Moves shared.now pass.old local.old Choice.Go pass.new local.new result }
 {
     let told = load_scan(shared, pass, Choice::Go, Name::Scan(seat));
-    let done = scan(local, seat, told);
-    Happened { told, done }
+    scan(local, seat, told)
 }
 
 // Loads the link at which the rebalance stands.
 #[inline(always)]
-pub(crate) fn load_link(shared: &Shared, pass: &mut Pass, local: &mut Local) -> Happened
-    requires follows { Follows shared.now pass.old local.old }
-    requires activity { local.old.activity ≡ Activity.Rebalance (Rebalance.Gather Gather.Link) }
-    ensures makes { Makes shared.now pass.old Choice.Go result.told pass.new }
-    ensures line { outcome local.new result.done ≡ next_of product shared.now.opening.rows Choice.Go
-        local.old result.told }
+pub(crate) fn load_link(shared: &Shared, pass: &mut Pass, local: &mut Local) -> StepDone
+    requires { FollowsAt shared.now pass.old local.old
+        (Activity.Rebalance (Rebalance.Gather Gather.Link)) }
+    ensures { Moves shared.now pass.old local.old Choice.Go pass.new local.new result }
 {
     let link = link_name(local.row, local.link);
     let told = load_after(shared, pass, Choice::Go, link);
-    let done = take_from(local, told);
-    Happened { told, done }
+    take_from(local, told)
 }
 
 // Loads the key of the cell that it has met.
 #[inline(always)]
-pub(crate) fn load_met_key(shared: &Shared, pass: &mut Pass, local: &mut Local) -> Happened
-    requires follows { Follows shared.now pass.old local.old }
-    requires activity { local.old.activity ≡ Activity.Rebalance (Rebalance.Gather Gather.Key) }
-    ensures makes { Makes shared.now pass.old Choice.Go result.told pass.new }
-    ensures line { outcome local.new result.done ≡ next_of product shared.now.opening.rows Choice.Go
-        local.old result.told }
+pub(crate) fn load_met_key(shared: &Shared, pass: &mut Pass, local: &mut Local) -> StepDone
+    requires { FollowsAt shared.now pass.old local.old
+        (Activity.Rebalance (Rebalance.Gather Gather.Key)) }
+    ensures { Moves shared.now pass.old local.old Choice.Go pass.new local.new result }
 {
     let key = Name::Key(local.row, local.place);
     let told = load_key(shared, pass, Choice::Go, key);
-    let done = take_key(local, told);
-    Happened { told, done }
+    take_key(local, told)
 }
 
 // Loads the version of that cell.
 #[inline(always)]
-pub(crate) fn load_met_version(shared: &Shared, pass: &mut Pass, local: &mut Local) -> Happened
-    requires follows { Follows shared.now pass.old local.old }
-    requires activity { local.old.activity ≡ Activity.Rebalance (Rebalance.Gather Gather.Version) }
-    ensures makes { Makes shared.now pass.old Choice.Go result.told pass.new }
-    ensures line { outcome local.new result.done ≡ next_of product shared.now.opening.rows Choice.Go
-        local.old result.told }
+pub(crate) fn load_met_version(shared: &Shared, pass: &mut Pass, local: &mut Local) -> StepDone
+    requires { FollowsAt shared.now pass.old local.old
+        (Activity.Rebalance (Rebalance.Gather Gather.Version)) }
+    ensures { Moves shared.now pass.old local.old Choice.Go pass.new local.new result }
 {
     let version = Name::Version(local.row, local.place);
     let told = load_version(shared, pass, Choice::Go, version);
-    let done = take_version(local, told);
-    Happened { told, done }
+    take_version(local, told)
 }
 
 // Loads the value of that cell, which is gathered.
 #[inline(always)]
-pub(crate) fn load_met_value(shared: &Shared, pass: &mut Pass, local: &mut Local) -> Happened
-    requires follows { Follows shared.now pass.old local.old }
-    requires activity { local.old.activity ≡ Activity.Rebalance (Rebalance.Gather Gather.Value) }
-    ensures makes { Makes shared.now pass.old Choice.Go result.told pass.new }
-    ensures line { outcome local.new result.done ≡ next_of product shared.now.opening.rows Choice.Go
-        local.old result.told }
+pub(crate) fn load_met_value(shared: &Shared, pass: &mut Pass, local: &mut Local) -> StepDone
+    requires { FollowsAt shared.now pass.old local.old
+        (Activity.Rebalance (Rebalance.Gather Gather.Value)) }
+    ensures { Moves shared.now pass.old local.old Choice.Go pass.new local.new result }
 {
     let value = Name::Value(local.row, local.place);
     let told = load_value(shared, pass, Choice::Go, value);
-    let done = take_value(local, told);
-    Happened { told, done }
+    take_value(local, told)
 }
 
 // Loads the key of a remembered cell that was not met.
 #[inline(always)]
-pub(crate) fn load_left_key(shared: &Shared, pass: &mut Pass, local: &mut Local) -> Happened
-    requires follows { Follows shared.now pass.old local.old }
-    requires activity { local.old.activity ≡ Activity.Rebalance (Rebalance.Gather Gather.LeftOverKey) }
-    ensures makes { Makes shared.now pass.old Choice.Go result.told pass.new }
-    ensures line { outcome local.new result.done ≡ next_of product shared.now.opening.rows Choice.Go
-        local.old result.told }
+pub(crate) fn load_left_key(shared: &Shared, pass: &mut Pass, local: &mut Local) -> StepDone
+    requires { FollowsAt shared.now pass.old local.old
+        (Activity.Rebalance (Rebalance.Gather Gather.LeftOverKey)) }
+    ensures { Moves shared.now pass.old local.old Choice.Go pass.new local.new result }
 {
     let key = Name::Key(local.row, local.place);
     let told = load_key(shared, pass, Choice::Go, key);
-    let done = take_rest_key(local, told);
-    Happened { told, done }
+    take_rest_key(local, told)
 }
 
 // Loads the value of that cell, which is gathered.
 #[inline(always)]
-pub(crate) fn load_left_value(shared: &Shared, pass: &mut Pass, local: &mut Local) -> Happened
-    requires follows { Follows shared.now pass.old local.old }
-    requires activity { local.old.activity ≡ Activity.Rebalance (Rebalance.Gather Gather.LeftOverValue) }
-    ensures makes { Makes shared.now pass.old Choice.Go result.told pass.new }
-    ensures line { outcome local.new result.done ≡ next_of product shared.now.opening.rows Choice.Go
-        local.old result.told }
+pub(crate) fn load_left_value(shared: &Shared, pass: &mut Pass, local: &mut Local) -> StepDone
+    requires { FollowsAt shared.now pass.old local.old
+        (Activity.Rebalance (Rebalance.Gather Gather.LeftOverValue)) }
+    ensures { Moves shared.now pass.old local.old Choice.Go pass.new local.new result }
 {
     let value = Name::Value(local.row, local.place);
     let told = load_value(shared, pass, Choice::Go, value);
-    let done = rest_value(local, told);
-    Happened { told, done }
+    rest_value(local, told)
 }

@@ -4,21 +4,21 @@
 //! core's `resume`. Those that every call makes have a step of their own in `along`, and those that
 //! a rebalance makes for each entry and each cell have one by way of `building`. All that the
 //! crates above know of events they know by contracts like those of this file.
-ghost use Rattle.std.specs.Prelude.{◌≡◌, ℕ, true, false, [], Some};
+ghost use Rattle.std.specs.Prelude.{◌≡◌, ℕ, true, []};
 ghost use Rattle.kw_core.specs.Events.{is_call_in_range};
 ghost use Rattle.kw_world.specs.Local.{resting};
-ghost use Rattle.kw_world.specs.Transition.{outcome};
 ghost use Rattle.kw_world.specs.RowEnd.{MayEndRow};
 ghost use Rattle.kw_world.specs.Answers.{reply_of};
 ghost use Rattle.kw_world.specs.ScanTransitions.{answer_or_stopped};
-ghost use Rattle.kw_world.specs.WalkTransitions.{offered, is_stop};
+ghost use Rattle.kw_world.specs.WalkTransitions.{offered};
 ghost use Rattle.kw_world.specs.Sane.{IsLocal, HasRoom, CanBegin};
 ghost use Rattle.kw_world.specs.Sizes.{product};
-ghost use Rattle.kw_world.specs.Step.{next_of, transition_of};
+ghost use Rattle.kw_world.specs.Step.{transition_of};
 ghost use Rattle.kw_table.specs.Passes.{view, Asks, IsPassOf, Makes};
-ghost use Rattle.kw_follow.specs.Calling.{KeepsCalls, Opens, Closes};
+ghost use Rattle.kw_follow.specs.Calling.{Closes};
 ghost use Rattle.kw_follow.specs.Following.{Follows, GoesTo, activity_in, held};
-ghost use Rattle.kw_follow.specs.OwnEvents.{MetAs, MetOnly};
+ghost use Rattle.kw_follow.specs.Moving.{Begins, Moves, WentOn};
+ghost use Rattle.kw_follow.specs.OwnEvents.{MetOnly};
 ghost use Rattle.kw_follow.specs.Within.{IsWithinCall};
 
 use crate::along::{clear_epoch, load_own_epoch};
@@ -50,30 +50,21 @@ fn ask(shared: &Shared, pass: &mut Pass, local: &Local, choice: Choice) -> u64
     )
 }
 
-// What an event was told, and what it did.
-#[derive(Drop)]
-pub(crate) struct Happened {
-    pub(crate) told: u64,
-    pub(crate) done: StepDone,
-}
-
 // Makes the next event of the pass with this choice, and brings the local up to it. It is not the
 // last event of a scan at a row.
-pub(crate) fn event(shared: &Shared, pass: &mut Pass, local: &mut Local, choice: Choice) -> Happened
+pub(crate) fn event(shared: &Shared, pass: &mut Pass, local: &mut Local, choice: Choice) -> StepDone
     requires ranges { IsLocal product local.old }
     requires room { HasRoom product local.old }
     requires begins { CanBegin (offered shared.now.opening.rows choice) local.old }
     requires on { MayEndRow local.old → ⊥ }
     requires asks { Asks shared.now pass.old choice (transition_of product (view pass.old).number
         (offered shared.now.opening.rows choice) local.old).operation }
-    ensures makes { Makes shared.now pass.old choice result.told pass.new }
-    ensures line { outcome local.new result.done ≡ next_of product shared.now.opening.rows
-        (offered shared.now.opening.rows choice) local.old result.told }
+    ensures { Moves shared.now pass.old local.old choice pass.new local.new result }
 {
     let told = ask(shared, pass, local, choice);
     let rows = shared.rows();
     match resume(local, rows, choice.offered(rows), told) {
-        Ok(done) => Happened { told, done },
+        Ok(done) => done,
         Err(_) => unreachable!(),
     }
 }
@@ -85,34 +76,21 @@ pub fn begin(shared: &Shared, pass: &mut Pass, local: &mut Local, call: Call)
     requires idle { activity_in pass.old ≡ Activity.Idle }
     requires rested { local.old ≡ resting 0 }
     requires range { is_call_in_range call ≡ true }
-    ensures goes { GoesTo shared.now pass.old pass.new }
-    ensures follows { Follows shared.now pass.new local.new }
+    ensures begins { Begins shared.now pass.old pass.new call local.new }
     ensures activity { local.new.activity ≡ Activity.Enter Enter.Announce }
-    ensures call { local.new.call ≡ Some call }
-    ensures unread { local.new.has_read ≡ false }
-    ensures opens { Opens pass.old pass.new call }
-    ensures held { held pass.new ≡ [] }
     ensures only { (told : ℕ) × MetOnly pass.old pass.new (activity_in pass.old) told }
 {
     load_own_epoch(shared, pass, local, call);
 }
 
 /// Makes the next event in the middle of a call, other than one that reads cells or ends a scan.
-/// The answer is what the event was told. Takes no memory.
-pub fn go(shared: &Shared, pass: &mut Pass, local: &mut Local, choice: Choice) -> u64
+/// Takes no memory.
+pub fn go(shared: &Shared, pass: &mut Pass, local: &mut Local, choice: Choice)
     requires follows { Follows shared.now pass.old local.old }
     requires within { IsWithinCall local.old.activity }
-    ensures goes { GoesTo shared.now pass.old pass.new }
-    ensures follows { Follows shared.now pass.new local.new }
-    ensures line { outcome local.new StepDone.Moved ≡ next_of product (view pass.old).opening.rows
-        (offered (view pass.old).opening.rows choice) local.old result }
-    ensures met { MetAs pass.old pass.new local.old choice result }
-    ensures only { MetOnly pass.old pass.new local.old.activity result }
-    ensures calls { KeepsCalls pass.old pass.new }
-    ensures held { is_stop choice ≡ false → held pass.new ≡ held pass.old }
+    ensures { WentOn shared.now pass.old local.old choice pass.new local.new }
 {
-    let happened = event(shared, pass, local, choice);
-    happened.told
+    event(shared, pass, local, choice);
 }
 
 /// Ends a scan: it is then about to leave, with its pairs, or with `Stopped` where the choice is to
@@ -120,14 +98,11 @@ pub fn go(shared: &Shared, pass: &mut Pass, local: &mut Local, choice: Choice) -
 pub fn clear(shared: &Shared, pass: &mut Pass, local: &mut Local, choice: Choice)
     requires follows { Follows shared.now pass.old local.old }
     requires over { (answer : Answer) × (local.old.activity ≡ Activity.EndScan answer) }
-    ensures goes { GoesTo shared.now pass.old pass.new }
-    ensures follows { Follows shared.now pass.new local.new }
+    ensures went { WentOn shared.now pass.old local.old choice pass.new local.new }
     ensures leaves { (answer : Answer) → activity_in pass.old ≡ Activity.EndScan answer →
         activity_in pass.new ≡ Activity.Leave (answer_or_stopped answer choice) }
     ensures activity { (answer : Answer) → local.old.activity ≡ Activity.EndScan answer →
         local.new.activity ≡ Activity.Leave (answer_or_stopped answer choice) }
-    ensures calls { KeepsCalls pass.old pass.new }
-    ensures held { is_stop choice ≡ false → held pass.new ≡ held pass.old }
 {
     let Activity::EndScan(answer) = local.activity else {
         unreachable!()
@@ -150,10 +125,10 @@ pub fn end(shared: &Shared, pass: &mut Pass, local: &mut Local) -> Reply
     let Activity::Leave(answer) = local.activity else {
         unreachable!()
     };
-    let happened = clear_epoch(shared, pass, local, answer);
+    let done = clear_epoch(shared, pass, local, answer);
     // code counts no calls
     local.number = 0;
-    match happened.done {
+    match done {
         StepDone::Ended(reply) => reply,
         StepDone::Moved => unreachable!(),
         StepDone::Skipped => unreachable!(),

@@ -12,15 +12,10 @@ ghost use Rattle.kw_words.specs.declared.sizes.TheConstants.{CELLS};
 ghost use Rattle.kw_core.specs.Stages.{is_putting};
 ghost use Rattle.kw_world.specs.ListTransitions.{insert_from, insert_key};
 ghost use Rattle.kw_world.specs.Sizes.{product};
-ghost use Rattle.kw_world.specs.Step.{next_of};
 ghost use Rattle.kw_world.specs.Transition.{outcome};
-ghost use Rattle.kw_world.specs.declared.event.StepDone.TheVariants.{Moved};
-ghost use Rattle.kw_table.specs.Passes.{view, Makes};
-ghost use Rattle.kw_follow.specs.Calling.{KeepsCalls};
-ghost use Rattle.kw_follow.specs.Following.{Follows, GoesTo, held};
-ghost use Rattle.kw_follow.specs.OwnEvents.{MetAs, MetOnly};
+ghost use Rattle.kw_follow.specs.Following.{Follows};
+ghost use Rattle.kw_follow.specs.Moving.{FollowsAt, Moves, WentOn};
 
-use crate::going::Happened;
 use kw_step_put::operation::link_name;
 use kw_step_put::resume::{leave, to};
 use kw_step_put::resume_insert::{insert, insert_from, insert_key, insert_version, start_insert};
@@ -43,145 +38,109 @@ use kw_world::local::Local;
 
 // Loads the count of the row.
 #[inline(always)]
-fn load_given(shared: &Shared, pass: &mut Pass, local: &mut Local) -> Happened
-    requires follows { Follows shared.now pass.old local.old }
-    requires activity { local.old.activity ≡ Activity.Put Put.Count }
-    ensures makes { Makes shared.now pass.old Choice.Go result.told pass.new }
-    ensures line { outcome local.new result.done ≡ next_of product shared.now.opening.rows Choice.Go
-        local.old result.told }
+fn load_given(shared: &Shared, pass: &mut Pass, local: &mut Local) -> StepDone
+    requires { FollowsAt shared.now pass.old local.old (Activity.Put Put.Count) }
+    ensures { Moves shared.now pass.old local.old Choice.Go pass.new local.new result }
 {
     let count_word = Name::Count(local.row);
     let told = load_count(shared, pass, Choice::Go, count_word);
-    let done = count(local, told);
-    Happened { told, done }
+    count(local, told)
 }
 
 // Adds one to the count, to get a cell.
 #[inline(always)]
-fn ask_for_cell(shared: &Shared, pass: &mut Pass, local: &mut Local) -> Happened
-    requires follows { Follows shared.now pass.old local.old }
-    requires activity { local.old.activity ≡ Activity.Put Put.Add }
-    ensures makes { Makes shared.now pass.old Choice.Go result.told pass.new }
-    ensures line { outcome local.new result.done ≡ next_of product shared.now.opening.rows Choice.Go
-        local.old result.told }
+fn ask_for_cell(shared: &Shared, pass: &mut Pass, local: &mut Local) -> StepDone
+    requires { FollowsAt shared.now pass.old local.old (Activity.Put Put.Add) }
+    ensures { Moves shared.now pass.old local.old Choice.Go pass.new local.new result }
 {
     let count_word = Name::Count(local.row);
     let told = add_count(shared, pass, Choice::Go, count_word, 1);
-    let done = add(local, told);
-    Happened { told, done }
+    add(local, told)
 }
 
 // Stores the key in the cell.
 #[inline(always)]
-fn write_key(shared: &Shared, pass: &mut Pass, local: &mut Local) -> Happened
-    requires follows { Follows shared.now pass.old local.old }
-    requires activity { local.old.activity ≡ Activity.Put Put.Key }
-    ensures makes { Makes shared.now pass.old Choice.Go result.told pass.new }
-    ensures line { outcome local.new result.done ≡ next_of product shared.now.opening.rows Choice.Go
-        local.old result.told }
+fn write_key(shared: &Shared, pass: &mut Pass, local: &mut Local) -> StepDone
+    requires { FollowsAt shared.now pass.old local.old (Activity.Put Put.Key) }
+    ensures { Moves shared.now pass.old local.old Choice.Go pass.new local.new result }
 {
     let word = Name::Key(local.row, local.cell);
     let key = pack_key(first_key(local.call));
-    let told = store_key(shared, pass, Choice::Go, word, key);
-    let done = to(local, Activity::Put(Put::Value));
-    Happened { told, done }
+    store_key(shared, pass, Choice::Go, word, key);
+    to(local, Activity::Put(Put::Value))
 }
 
 // Stores the value in the cell.
 #[inline(always)]
-fn write_value(shared: &Shared, pass: &mut Pass, local: &mut Local) -> Happened
-    requires follows { Follows shared.now pass.old local.old }
-    requires activity { local.old.activity ≡ Activity.Put Put.Value }
-    ensures makes { Makes shared.now pass.old Choice.Go result.told pass.new }
-    ensures line { outcome local.new result.done ≡ next_of product shared.now.opening.rows Choice.Go
-        local.old result.told }
+fn write_value(shared: &Shared, pass: &mut Pass, local: &mut Local) -> StepDone
+    requires { FollowsAt shared.now pass.old local.old (Activity.Put Put.Value) }
+    ensures { Moves shared.now pass.old local.old Choice.Go pass.new local.new result }
 {
     let word = Name::Value(local.row, local.cell);
     let value = pack_value(put_value(local.call));
-    let told = store_value(shared, pass, Choice::Go, word, value);
-    let done = to(local, Activity::Put(Put::Announce));
-    Happened { told, done }
+    store_value(shared, pass, Choice::Go, word, value);
+    to(local, Activity::Put(Put::Announce))
 }
 
 // Exchanges the idle entry for one with the cell.
 #[inline(always)]
-fn announce_cell(shared: &Shared, pass: &mut Pass, local: &mut Local) -> Happened
-    requires follows { Follows shared.now pass.old local.old }
-    requires activity { local.old.activity ≡ Activity.Put Put.Announce }
-    ensures makes { Makes shared.now pass.old Choice.Go result.told pass.new }
-    ensures line { outcome local.new result.done ≡ next_of product shared.now.opening.rows Choice.Go
-        local.old result.told }
+fn announce_cell(shared: &Shared, pass: &mut Pass, local: &mut Local) -> StepDone
+    requires { FollowsAt shared.now pass.old local.old (Activity.Put Put.Announce) }
+    ensures { Moves shared.now pass.old local.old Choice.Go pass.new local.new result }
 {
     let entry = Name::Pend(local.row, pass.number());
     let idle = Pend::Idle.pack();
     let pending = Pend::Pending(local.cell).pack();
     let told = exchange_idle(shared, pass, Choice::Go, entry, idle, pending);
-    let done = announce(local, told);
-    Happened { told, done }
+    announce(local, told)
 }
 
 // Loads the clock.
 #[inline(always)]
-fn load_own_clock(shared: &Shared, pass: &mut Pass, local: &mut Local) -> Happened
-    requires follows { Follows shared.now pass.old local.old }
-    requires activity { local.old.activity ≡ Activity.Put Put.Clock }
-    ensures makes { Makes shared.now pass.old Choice.Go result.told pass.new }
-    ensures line { outcome local.new result.done ≡ next_of product shared.now.opening.rows Choice.Go
-        local.old result.told }
+fn load_own_clock(shared: &Shared, pass: &mut Pass, local: &mut Local) -> StepDone
+    requires { FollowsAt shared.now pass.old local.old (Activity.Put Put.Clock) }
+    ensures { Moves shared.now pass.old local.old Choice.Go pass.new local.new result }
 {
     let told = load_clock(shared, pass, Choice::Go, Name::Clock);
     local.version = told;
-    let done = to(local, Activity::Put(Put::Stamp));
-    Happened { told, done }
+    to(local, Activity::Put(Put::Stamp))
 }
 
 // Exchanges the pending entry for one with the version.
 #[inline(always)]
-fn stamp_cell(shared: &Shared, pass: &mut Pass, local: &mut Local) -> Happened
-    requires follows { Follows shared.now pass.old local.old }
-    requires activity { local.old.activity ≡ Activity.Put Put.Stamp }
-    ensures makes { Makes shared.now pass.old Choice.Go result.told pass.new }
-    ensures line { outcome local.new result.done ≡ next_of product shared.now.opening.rows Choice.Go
-        local.old result.told }
+fn stamp_cell(shared: &Shared, pass: &mut Pass, local: &mut Local) -> StepDone
+    requires { FollowsAt shared.now pass.old local.old (Activity.Put Put.Stamp) }
+    ensures { Moves shared.now pass.old local.old Choice.Go pass.new local.new result }
 {
     let entry = Name::Pend(local.row, pass.number());
     let pending = Pend::Pending(local.cell).pack();
     let stamped = Pend::Stamped(local.cell, local.version).pack();
     let told = exchange_pending(shared, pass, Choice::Go, entry, pending, stamped);
-    let done = stamp(local, told);
-    Happened { told, done }
+    stamp(local, told)
 }
 
 // Stores the version in the cell.
 #[inline(always)]
-fn write_version(shared: &Shared, pass: &mut Pass, local: &mut Local) -> Happened
-    requires follows { Follows shared.now pass.old local.old }
-    requires activity { local.old.activity ≡ Activity.Put Put.Version }
-    ensures makes { Makes shared.now pass.old Choice.Go result.told pass.new }
-    ensures line { outcome local.new result.done ≡ next_of product shared.now.opening.rows Choice.Go
-        local.old result.told }
+fn write_version(shared: &Shared, pass: &mut Pass, local: &mut Local) -> StepDone
+    requires { FollowsAt shared.now pass.old local.old (Activity.Put Put.Version) }
+    ensures { Moves shared.now pass.old local.old Choice.Go pass.new local.new result }
 {
     let word = Name::Version(local.row, local.cell);
     let version = pack_version(Some(local.version));
-    let told = store_version(shared, pass, Choice::Go, word, version);
-    let done = start_insert(local);
-    Happened { told, done }
+    store_version(shared, pass, Choice::Go, word, version);
+    start_insert(local)
 }
 
 // Stores that the entry is idle.
 #[inline(always)]
-fn clear_entry(shared: &Shared, pass: &mut Pass, local: &mut Local) -> Happened
-    requires follows { Follows shared.now pass.old local.old }
-    requires activity { local.old.activity ≡ Activity.Put Put.Clear }
-    ensures makes { Makes shared.now pass.old Choice.Go result.told pass.new }
-    ensures line { outcome local.new result.done ≡ next_of product shared.now.opening.rows Choice.Go
-        local.old result.told }
+fn clear_entry(shared: &Shared, pass: &mut Pass, local: &mut Local) -> StepDone
+    requires { FollowsAt shared.now pass.old local.old (Activity.Put Put.Clear) }
+    ensures { Moves shared.now pass.old local.old Choice.Go pass.new local.new result }
 {
     let entry = Name::Pend(local.row, pass.number());
     let idle = Pend::Idle.pack();
-    let told = clear_pend(shared, pass, Choice::Go, entry, idle);
-    let done = leave(local, Answer::Done);
-    Happened { told, done }
+    clear_pend(shared, pass, Choice::Go, entry, idle);
+    leave(local, Answer::Done)
 }
 
 /// The put was told the link at which it stands. Takes no memory.
@@ -203,90 +162,68 @@ pub fn meet_insert_key(local: &mut Local, found: u64) -> StepDone
 
 // Loads the link at which the put stands.
 #[inline(always)]
-fn load_link(shared: &Shared, pass: &mut Pass, local: &mut Local) -> Happened
-    requires follows { Follows shared.now pass.old local.old }
-    requires activity { local.old.activity ≡ Activity.Insert Insert.Link }
-    ensures makes { Makes shared.now pass.old Choice.Go result.told pass.new }
-    ensures line { outcome local.new result.done ≡ next_of product shared.now.opening.rows Choice.Go
-        local.old result.told }
+fn load_link(shared: &Shared, pass: &mut Pass, local: &mut Local) -> StepDone
+    requires { FollowsAt shared.now pass.old local.old (Activity.Insert Insert.Link) }
+    ensures { Moves shared.now pass.old local.old Choice.Go pass.new local.new result }
 {
     let link = link_name(local.row, local.link);
     let told = load_after(shared, pass, Choice::Go, link);
-    let done = insert_from(local, told);
-    Happened { told, done }
+    insert_from(local, told)
 }
 
 // Loads the key of the cell that the put has met.
 #[inline(always)]
-fn load_met_key(shared: &Shared, pass: &mut Pass, local: &mut Local) -> Happened
-    requires follows { Follows shared.now pass.old local.old }
-    requires activity { local.old.activity ≡ Activity.Insert Insert.Key }
-    ensures makes { Makes shared.now pass.old Choice.Go result.told pass.new }
-    ensures line { outcome local.new result.done ≡ next_of product shared.now.opening.rows Choice.Go
-        local.old result.told }
+fn load_met_key(shared: &Shared, pass: &mut Pass, local: &mut Local) -> StepDone
+    requires { FollowsAt shared.now pass.old local.old (Activity.Insert Insert.Key) }
+    ensures { Moves shared.now pass.old local.old Choice.Go pass.new local.new result }
 {
     let key = Name::Key(local.row, local.place);
     let told = load_key(shared, pass, Choice::Go, key);
-    let done = insert_key(local, told);
-    Happened { told, done }
+    insert_key(local, told)
 }
 
 // Loads the version of that cell.
 #[inline(always)]
-fn load_met_version(shared: &Shared, pass: &mut Pass, local: &mut Local) -> Happened
-    requires follows { Follows shared.now pass.old local.old }
-    requires activity { local.old.activity ≡ Activity.Insert Insert.Version }
-    ensures makes { Makes shared.now pass.old Choice.Go result.told pass.new }
-    ensures line { outcome local.new result.done ≡ next_of product shared.now.opening.rows Choice.Go
-        local.old result.told }
+fn load_met_version(shared: &Shared, pass: &mut Pass, local: &mut Local) -> StepDone
+    requires { FollowsAt shared.now pass.old local.old (Activity.Insert Insert.Version) }
+    ensures { Moves shared.now pass.old local.old Choice.Go pass.new local.new result }
 {
     let version = Name::Version(local.row, local.place);
     let told = load_version(shared, pass, Choice::Go, version);
-    let done = insert_version(local, told);
-    Happened { told, done }
+    insert_version(local, told)
 }
 
 // Stores what the link held in the link after the own cell.
 #[inline(always)]
-fn store_link(shared: &Shared, pass: &mut Pass, local: &mut Local) -> Happened
-    requires follows { Follows shared.now pass.old local.old }
-    requires activity { local.old.activity ≡ Activity.Insert Insert.Set }
-    ensures makes { Makes shared.now pass.old Choice.Go result.told pass.new }
-    ensures line { outcome local.new result.done ≡ next_of product shared.now.opening.rows Choice.Go
-        local.old result.told }
+fn store_link(shared: &Shared, pass: &mut Pass, local: &mut Local) -> StepDone
+    requires { FollowsAt shared.now pass.old local.old (Activity.Insert Insert.Set) }
+    ensures { Moves shared.now pass.old local.old Choice.Go pass.new local.new result }
 {
     let after = Name::After(local.row, local.cell);
     let held = pack_cell_link(local.held);
-    let told = store_after(shared, pass, Choice::Go, after, held);
-    let done = to(local, Activity::Insert(Insert::Exchange));
-    Happened { told, done }
+    store_after(shared, pass, Choice::Go, after, held);
+    to(local, Activity::Insert(Insert::Exchange))
 }
 
 // Exchanges the link for one to the own cell.
 #[inline(always)]
-fn exchange_link(shared: &Shared, pass: &mut Pass, local: &mut Local) -> Happened
-    requires follows { Follows shared.now pass.old local.old }
-    requires activity { local.old.activity ≡ Activity.Insert Insert.Exchange }
-    ensures makes { Makes shared.now pass.old Choice.Go result.told pass.new }
-    ensures line { outcome local.new result.done ≡ next_of product shared.now.opening.rows Choice.Go
-        local.old result.told }
+fn exchange_link(shared: &Shared, pass: &mut Pass, local: &mut Local) -> StepDone
+    requires { FollowsAt shared.now pass.old local.old (Activity.Insert Insert.Exchange) }
+    ensures { Moves shared.now pass.old local.old Choice.Go pass.new local.new result }
 {
     let link = link_name(local.row, local.link);
     let held = pack_cell_link(local.held);
     let own = pack_cell_link(Some(local.cell));
     let told = exchange(shared, pass, Choice::Go, link, held, own);
-    let done = insert(local, told);
-    Happened { told, done }
+    insert(local, told)
 }
 
 // The next event, by what the local does next.
 #[inline(always)]
-fn put_event(shared: &Shared, pass: &mut Pass, local: &mut Local) -> Happened
+fn put_event(shared: &Shared, pass: &mut Pass, local: &mut Local) -> StepDone
     requires follows { Follows shared.now pass.old local.old }
     requires putting { is_putting local.old.activity ≡ true }
-    ensures makes { Makes shared.now pass.old Choice.Go result.told pass.new }
-    ensures line { outcome local.new result.done ≡ next_of product shared.now.opening.rows Choice.Go
-        local.old result.told }
+    ensures { Moves shared.now pass.old local.old Choice.Go pass.new local.new result }
 {
     match local.activity {
         Activity::Put(Put::Count) => load_given(shared, pass, local),
@@ -307,21 +244,12 @@ fn put_event(shared: &Shared, pass: &mut Pass, local: &mut Local) -> Happened
     }
 }
 
-/// Makes the next event of a put or a delete at its row. The answer is what the event was told: 0
-/// where it stored. Takes no memory.
+/// Makes the next event of a put or a delete at its row. Takes no memory.
 #[inline(always)]
-pub fn go_put(shared: &Shared, pass: &mut Pass, local: &mut Local) -> u64
+pub fn go_put(shared: &Shared, pass: &mut Pass, local: &mut Local)
     requires follows { Follows shared.now pass.old local.old }
     requires putting { is_putting local.old.activity ≡ true }
-    ensures goes { GoesTo shared.now pass.old pass.new }
-    ensures follows { Follows shared.now pass.new local.new }
-    ensures line { outcome local.new Moved ≡ next_of product (view pass.old).opening.rows Choice.Go
-        local.old result }
-    ensures met { MetAs pass.old pass.new local.old Choice.Go result }
-    ensures only { MetOnly pass.old pass.new local.old.activity result }
-    ensures calls { KeepsCalls pass.old pass.new }
-    ensures held { held pass.new ≡ held pass.old }
+    ensures { WentOn shared.now pass.old local.old Choice.Go pass.new local.new }
 {
-    let happened = put_event(shared, pass, local);
-    happened.told
+    put_event(shared, pass, local);
 }

@@ -7,16 +7,12 @@
 //! its own: it follows the one that ends the walk, or reads the last remembered cell. There the
 //! core keeps the pairs of a scan, which takes memory; code that follows a pass does not, so that
 //! it passes the end by itself here. All else of an event is the core's.
-ghost use Rattle.std.specs.Prelude.{◌≡◌};
 ghost use Rattle.kw_words.specs.Plain.{key_of_word, value_of_word};
 ghost use Rattle.kw_world.specs.ReadTransitions.{get_answered, rest_key, row_read, row_scanned, to_rest, gathering};
 ghost use Rattle.kw_world.specs.Sizes.{product};
-ghost use Rattle.kw_world.specs.Step.{next_of};
-ghost use Rattle.kw_table.specs.Passes.{view, Makes};
-ghost use Rattle.kw_table.specs.Views.{local_in};
-ghost use Rattle.kw_follow.specs.Calling.{KeepsCalls};
-ghost use Rattle.kw_follow.specs.Following.{CarriesOn, Follows, GoesTo};
-ghost use Rattle.kw_follow.specs.OwnEvents.{MetAs};
+ghost use Rattle.kw_follow.specs.Cursors.{ReadsLeftOver};
+ghost use Rattle.kw_follow.specs.Following.{CarriesOn, Follows};
+ghost use Rattle.kw_follow.specs.Moving.{FollowsAt};
 ghost use Rattle.kw_follow.specs.Within.{IsAtRemembered};
 
 use kw_cells::in_order::first_fit;
@@ -36,66 +32,42 @@ use kw_world::local::Local;
 
 // Loads the key of a remembered cell that was not met.
 #[inline(always)]
-fn load_rest_key(shared: &Shared, pass: &mut Pass, local: &mut Local) -> u64
-    requires follows { Follows shared.now pass.old local.old }
-    requires activity { local.old.activity ≡ Activity.Read Read.LeftOverKey }
-    ensures makes { Makes shared.now pass.old Choice.Go result pass.new }
-    ensures follows { Follows shared.now pass.new local.new }
+fn load_rest_key(shared: &Shared, pass: &mut Pass, local: &mut Local)
+    requires { FollowsAt shared.now pass.old local.old (Activity.Read Read.LeftOverKey) }
+    ensures { ReadsLeftOver shared.now pass.old local.old pass.new local.new }
 {
     let key = Name::Key(local.row, local.place);
     let told = load_key(shared, pass, Choice::Go, key);
     left_key(local, told);
-    told
 }
 
 // Loads the value of that cell, which is gathered.
 #[inline(always)]
-fn load_rest_value(shared: &Shared, pass: &mut Pass, local: &mut Local) -> u64
-    requires follows { Follows shared.now pass.old local.old }
-    requires activity { local.old.activity ≡ Activity.Read Read.LeftOverValue }
-    ensures makes { Makes shared.now pass.old Choice.Go result pass.new }
-    ensures follows { Follows shared.now pass.new local.new }
+fn load_rest_value(shared: &Shared, pass: &mut Pass, local: &mut Local)
+    requires { FollowsAt shared.now pass.old local.old (Activity.Read Read.LeftOverValue) }
+    ensures { ReadsLeftOver shared.now pass.old local.old pass.new local.new }
 {
     let value = Name::Value(local.row, local.place);
     let told = load_value(shared, pass, Choice::Go, value);
     left_value(local, told);
-    told
 }
 
-// The next event at a remembered cell, by what the local does next.
+/// Makes the next event of a reader that is at a cell which it remembers and did not meet in its
+/// row's list, and passes the end of the row, which has no event of its own.
+///
+/// Takes no memory: the pairs of a scan are for the caller to take from `gathered`, and `reads`
+/// says what they are.
 #[inline(always)]
-fn remembered_event(shared: &Shared, pass: &mut Pass, local: &mut Local) -> u64
+pub fn go_remembered(shared: &Shared, pass: &mut Pass, local: &mut Local)
     requires follows { Follows shared.now pass.old local.old }
     requires remembered { IsAtRemembered local.old.activity }
-    ensures makes { Makes shared.now pass.old Choice.Go result pass.new }
-    ensures follows { Follows shared.now pass.new local.new }
+    ensures { ReadsLeftOver shared.now pass.old local.old pass.new local.new }
 {
     match local.activity {
         Activity::Read(Read::LeftOverKey) => load_rest_key(shared, pass, local),
         Activity::Read(Read::LeftOverValue) => load_rest_value(shared, pass, local),
         _ => unreachable!(),
     }
-}
-
-/// Makes the next event of a reader that is at a cell which it remembers and did not meet in its
-/// row's list, and passes the end of the row, which has no event of its own. The answer is what the
-/// event was told.
-///
-/// Takes no memory: the pairs of a scan are for the caller to take from `gathered`, and `seat` says
-/// what they are.
-#[inline(always)]
-pub fn go_remembered(shared: &Shared, pass: &mut Pass, local: &mut Local) -> u64
-    requires follows { Follows shared.now pass.old local.old }
-    requires remembered { IsAtRemembered local.old.activity }
-    ensures goes { GoesTo shared.now pass.old pass.new }
-    ensures follows { Follows shared.now pass.new local.new }
-    ensures seat { local_in (view pass.new)
-        ≡ (next_of product (view pass.old).opening.rows Choice.Go (local_in (view pass.old))
-        result).local }
-    ensures met { MetAs pass.old pass.new local.old Choice.Go result }
-    ensures calls { KeepsCalls pass.old pass.new }
-{
-    remembered_event(shared, pass, local)
 }
 
 // What follows from the events.

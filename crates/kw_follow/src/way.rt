@@ -10,8 +10,9 @@ ghost use Rattle.std.specs.Prelude.{◌≡◌, ◌<◌};
 ghost use Rattle.kw_world.specs.Answers.{reply_of};
 ghost use Rattle.kw_world.specs.Local.{resting};
 ghost use Rattle.kw_table.specs.Passes.{IsPassOf, Makes};
-ghost use Rattle.kw_follow.specs.Calling.{Closes, KeepsCalls, Opens};
+ghost use Rattle.kw_follow.specs.Calling.{Closes, Opens};
 ghost use Rattle.kw_follow.specs.Following.{Follows, GoesTo, activity_in, held};
+ghost use Rattle.kw_follow.specs.Reaching.{Reaches};
 ghost use Rattle.kw_follow.specs.Ways.{entering, on_way, starting};
 
 use kw_model::call::Call;
@@ -124,9 +125,7 @@ fn load_call_epoch(shared: &Shared, pass: &mut Pass, key: u32) -> u64
 #[inline(always)]
 fn store_call_epoch(shared: &Shared, pass: &mut Pass, key: u32, epoch: u64)
     requires { Follows shared.now pass.old (entering key epoch) }
-    ensures goes { GoesTo shared.now pass.old pass.new }
-    ensures follows { Follows shared.now pass.new (starting key epoch) }
-    ensures calls { KeepsCalls pass.old pass.new }
+    ensures { Reaches shared.now pass.old pass.new (starting key epoch) }
 {
     let word = Name::Pass(pass.number());
     store_pass(shared, pass, Choice::Go, word, pack_pass(Some(epoch)));

@@ -4,14 +4,8 @@
 //! first link of its list, its entries, and then four words for each cell that it has and two for
 //! each other. No other seat reads the row before it is linked. What the local does next says which
 //! step it is, as in `putting`; `building` asks for it.
-ghost use Rattle.std.specs.Prelude.{◌≡◌};
-ghost use Rattle.kw_world.specs.Sizes.{product};
-ghost use Rattle.kw_world.specs.Step.{next_of};
-ghost use Rattle.kw_world.specs.Transition.{outcome};
-ghost use Rattle.kw_table.specs.Passes.{Makes};
-ghost use Rattle.kw_follow.specs.Following.{Follows};
+ghost use Rattle.kw_follow.specs.Moving.{FollowsAt, Moves};
 
-use crate::going::Happened;
 use kw_step_rebal::infant::infant;
 use kw_step_rebal::infant_words::{
     count_word, first_word, key_word, least_word, next_word, rising_after_word, value_word,
@@ -25,71 +19,59 @@ use kw_words::pend::Pend;
 use kw_world::activity::Activity;
 use kw_world::activity::rebalance::Rebalance;
 use kw_world::activity::rebalance::write::Write;
-use kw_world::event::Choice;
+use kw_world::event::{Choice, StepDone};
 use kw_world::local::Local;
 
 // Stores its count.
 #[inline(always)]
-pub(crate) fn write_count(shared: &Shared, pass: &mut Pass, local: &mut Local) -> Happened
-    requires follows { Follows shared.now pass.old local.old }
-    requires activity { local.old.activity ≡ Activity.Rebalance (Rebalance.Write Write.Count) }
-    ensures makes { Makes shared.now pass.old Choice.Go result.told pass.new }
-    ensures line { outcome local.new result.done ≡ next_of product shared.now.opening.rows Choice.Go
-        local.old result.told }
+pub(crate) fn write_count(shared: &Shared, pass: &mut Pass, local: &mut Local) -> StepDone
+    requires { FollowsAt shared.now pass.old local.old
+        (Activity.Rebalance (Rebalance.Write Write.Count)) }
+    ensures { Moves shared.now pass.old local.old Choice.Go pass.new local.new result }
 {
     let word = Name::Count(infant(local));
     let count = count_word(local);
-    let told = store_infant(shared, pass, Choice::Go, word, count);
-    let done = to(local, Activity::Rebalance(Rebalance::Write(Write::Least)));
-    Happened { told, done }
+    store_infant(shared, pass, Choice::Go, word, count);
+    to(local, Activity::Rebalance(Rebalance::Write(Write::Least)))
 }
 
 // Stores its least key.
 #[inline(always)]
-pub(crate) fn write_least(shared: &Shared, pass: &mut Pass, local: &mut Local) -> Happened
-    requires follows { Follows shared.now pass.old local.old }
-    requires activity { local.old.activity ≡ Activity.Rebalance (Rebalance.Write Write.Least) }
-    ensures makes { Makes shared.now pass.old Choice.Go result.told pass.new }
-    ensures line { outcome local.new result.done ≡ next_of product shared.now.opening.rows Choice.Go
-        local.old result.told }
+pub(crate) fn write_least(shared: &Shared, pass: &mut Pass, local: &mut Local) -> StepDone
+    requires { FollowsAt shared.now pass.old local.old
+        (Activity.Rebalance (Rebalance.Write Write.Least)) }
+    ensures { Moves shared.now pass.old local.old Choice.Go pass.new local.new result }
 {
     let word = Name::Min(infant(local));
     let least = least_word(local);
-    let told = store_infant(shared, pass, Choice::Go, word, least);
-    let done = to(local, Activity::Rebalance(Rebalance::Write(Write::Next)));
-    Happened { told, done }
+    store_infant(shared, pass, Choice::Go, word, least);
+    to(local, Activity::Rebalance(Rebalance::Write(Write::Next)))
 }
 
 // Stores the link to the row after it.
 #[inline(always)]
-pub(crate) fn write_next(shared: &Shared, pass: &mut Pass, local: &mut Local) -> Happened
-    requires follows { Follows shared.now pass.old local.old }
-    requires activity { local.old.activity ≡ Activity.Rebalance (Rebalance.Write Write.Next) }
-    ensures makes { Makes shared.now pass.old Choice.Go result.told pass.new }
-    ensures line { outcome local.new result.done ≡ next_of product shared.now.opening.rows Choice.Go
-        local.old result.told }
+pub(crate) fn write_next(shared: &Shared, pass: &mut Pass, local: &mut Local) -> StepDone
+    requires { FollowsAt shared.now pass.old local.old
+        (Activity.Rebalance (Rebalance.Write Write.Next)) }
+    ensures { Moves shared.now pass.old local.old Choice.Go pass.new local.new result }
 {
     let word = Name::Next(infant(local));
     let next = next_word(local);
-    let told = store_infant(shared, pass, Choice::Go, word, next);
-    let done = to(local, Activity::Rebalance(Rebalance::Write(Write::First)));
-    Happened { told, done }
+    store_infant(shared, pass, Choice::Go, word, next);
+    to(local, Activity::Rebalance(Rebalance::Write(Write::First)))
 }
 
 // Stores the first link of its list.
 #[inline(always)]
-pub(crate) fn write_first(shared: &Shared, pass: &mut Pass, local: &mut Local) -> Happened
-    requires follows { Follows shared.now pass.old local.old }
-    requires activity { local.old.activity ≡ Activity.Rebalance (Rebalance.Write Write.First) }
-    ensures makes { Makes shared.now pass.old Choice.Go result.told pass.new }
-    ensures line { outcome local.new result.done ≡ next_of product shared.now.opening.rows Choice.Go
-        local.old result.told }
+pub(crate) fn write_first(shared: &Shared, pass: &mut Pass, local: &mut Local) -> StepDone
+    requires { FollowsAt shared.now pass.old local.old
+        (Activity.Rebalance (Rebalance.Write Write.First)) }
+    ensures { Moves shared.now pass.old local.old Choice.Go pass.new local.new result }
 {
     let word = Name::First(infant(local));
     let first = first_word(local);
-    let told = store_infant(shared, pass, Choice::Go, word, first);
-    let done = to_write_entry(local, 0);
-    Happened { told, done }
+    store_infant(shared, pass, Choice::Go, word, first);
+    to_write_entry(local, 0)
 }
 
 // Stores that the entry of a seat is idle.
@@ -99,37 +81,31 @@ pub(crate) fn write_entry(
     pass: &mut Pass,
     local: &mut Local,
     entry: u32,
-) -> Happened
-    requires follows { Follows shared.now pass.old local.old }
-    requires activity { local.old.activity ≡ Activity.Rebalance (Rebalance.Write (Write.Entry entry)) }
-    ensures makes { Makes shared.now pass.old Choice.Go result.told pass.new }
-    ensures line { outcome local.new result.done ≡ next_of product shared.now.opening.rows Choice.Go
-        local.old result.told }
+) -> StepDone
+    requires { FollowsAt shared.now pass.old local.old
+        (Activity.Rebalance (Rebalance.Write (Write.Entry entry))) }
+    ensures { Moves shared.now pass.old local.old Choice.Go pass.new local.new result }
 {
     let word = Name::Pend(infant(local), entry);
     let idle = Pend::Idle.pack();
-    let told = store_infant(shared, pass, Choice::Go, word, idle);
-    let done = to_write_entry(local, entry + 1);
-    Happened { told, done }
+    store_infant(shared, pass, Choice::Go, word, idle);
+    to_write_entry(local, entry + 1)
 }
 
 // Stores the key of a cell.
 #[inline(always)]
-pub(crate) fn write_key(shared: &Shared, pass: &mut Pass, local: &mut Local, cell: u32) -> Happened
-    requires follows { Follows shared.now pass.old local.old }
-    requires activity { local.old.activity ≡ Activity.Rebalance (Rebalance.Write (Write.Key cell)) }
-    ensures makes { Makes shared.now pass.old Choice.Go result.told pass.new }
-    ensures line { outcome local.new result.done ≡ next_of product shared.now.opening.rows Choice.Go
-        local.old result.told }
+pub(crate) fn write_key(shared: &Shared, pass: &mut Pass, local: &mut Local, cell: u32) -> StepDone
+    requires { FollowsAt shared.now pass.old local.old
+        (Activity.Rebalance (Rebalance.Write (Write.Key cell))) }
+    ensures { Moves shared.now pass.old local.old Choice.Go pass.new local.new result }
 {
     let word = Name::Key(infant(local), cell);
     let key = key_word(local, cell);
-    let told = store_infant(shared, pass, Choice::Go, word, key);
-    let done = to(
+    store_infant(shared, pass, Choice::Go, word, key);
+    to(
         local,
         Activity::Rebalance(Rebalance::Write(Write::Value(cell))),
-    );
-    Happened { told, done }
+    )
 }
 
 // Stores the value of a cell.
@@ -139,21 +115,18 @@ pub(crate) fn write_value(
     pass: &mut Pass,
     local: &mut Local,
     cell: u32,
-) -> Happened
-    requires follows { Follows shared.now pass.old local.old }
-    requires activity { local.old.activity ≡ Activity.Rebalance (Rebalance.Write (Write.Value cell)) }
-    ensures makes { Makes shared.now pass.old Choice.Go result.told pass.new }
-    ensures line { outcome local.new result.done ≡ next_of product shared.now.opening.rows Choice.Go
-        local.old result.told }
+) -> StepDone
+    requires { FollowsAt shared.now pass.old local.old
+        (Activity.Rebalance (Rebalance.Write (Write.Value cell))) }
+    ensures { Moves shared.now pass.old local.old Choice.Go pass.new local.new result }
 {
     let word = Name::Value(infant(local), cell);
     let value = value_word(local, cell);
-    let told = store_infant(shared, pass, Choice::Go, word, value);
-    let done = to(
+    store_infant(shared, pass, Choice::Go, word, value);
+    to(
         local,
         Activity::Rebalance(Rebalance::Write(Write::Version(cell))),
-    );
-    Happened { told, done }
+    )
 }
 
 // Stores the version of a cell, and that it has none where the row has no cell for it.
@@ -163,21 +136,18 @@ pub(crate) fn write_version(
     pass: &mut Pass,
     local: &mut Local,
     cell: u32,
-) -> Happened
-    requires follows { Follows shared.now pass.old local.old }
-    requires activity { local.old.activity ≡ Activity.Rebalance (Rebalance.Write (Write.Version cell)) }
-    ensures makes { Makes shared.now pass.old Choice.Go result.told pass.new }
-    ensures line { outcome local.new result.done ≡ next_of product shared.now.opening.rows Choice.Go
-        local.old result.told }
+) -> StepDone
+    requires { FollowsAt shared.now pass.old local.old
+        (Activity.Rebalance (Rebalance.Write (Write.Version cell))) }
+    ensures { Moves shared.now pass.old local.old Choice.Go pass.new local.new result }
 {
     let word = Name::Version(infant(local), cell);
     let version = version_word(local, cell);
-    let told = store_infant(shared, pass, Choice::Go, word, version);
-    let done = to(
+    store_infant(shared, pass, Choice::Go, word, version);
+    to(
         local,
         Activity::Rebalance(Rebalance::Write(Write::After(cell))),
-    );
-    Happened { told, done }
+    )
 }
 
 // Stores the link after a cell.
@@ -187,16 +157,13 @@ pub(crate) fn write_after(
     pass: &mut Pass,
     local: &mut Local,
     cell: u32,
-) -> Happened
-    requires follows { Follows shared.now pass.old local.old }
-    requires activity { local.old.activity ≡ Activity.Rebalance (Rebalance.Write (Write.After cell)) }
-    ensures makes { Makes shared.now pass.old Choice.Go result.told pass.new }
-    ensures line { outcome local.new result.done ≡ next_of product shared.now.opening.rows Choice.Go
-        local.old result.told }
+) -> StepDone
+    requires { FollowsAt shared.now pass.old local.old
+        (Activity.Rebalance (Rebalance.Write (Write.After cell))) }
+    ensures { Moves shared.now pass.old local.old Choice.Go pass.new local.new result }
 {
     let word = Name::After(infant(local), cell);
     let behind = rising_after_word(local, cell);
-    let told = store_infant(shared, pass, Choice::Go, word, behind);
-    let done = to_write_cell(local, cell + 1);
-    Happened { told, done }
+    store_infant(shared, pass, Choice::Go, word, behind);
+    to_write_cell(local, cell + 1)
 }

@@ -49,6 +49,7 @@ use Rattle.kw_table.specs.declared.shared.Shared.{Shared}
 use Rattle.kw_table.specs.Passes.{view}
 use Rattle.kw_follow.specs.Calling.{KeepsCalls}
 use Rattle.kw_follow.specs.Following.{Follows, GoesTo, held}
+use Rattle.kw_follow.specs.Moving.{WentOn}
 use Rattle.kw_follow.specs.OwnEvents.{Met, MetAs}
 use Rattle.kw_live.specs.Meeting.{IsFullCount, MetFull, TellsFull}
 use Rattle.kw_live.specs.Putting.{InsertsFurther, put_ahead}
@@ -280,12 +281,11 @@ pub record Tries (s : Shared) (o q : Pass) (m : Local) (ahead : ℕ) : Type 0 wh
   pub trying : IsTrying s o q m
   pub fewer : put_ahead m.activity m.walked m.lost < ahead
 
-pub tries_on : (s : Shared) (o p q : Pass) (l m : Local) (rows told : ℕ) → IsTrying s o p l → is_putting l.activity ≡ true → GoesTo s p q → Follows s q m → KeepsCalls p q → held q ≡ held p → MetAs p q l Go told → outcome m Moved ≡ next_of product rows Go l told
-    → Tries s o q m (put_ahead l.activity l.walked l.lost)
-tries_on s o p q l m rows told t put goes follows calls held met line =
-    let on = put_goes s o p q l m rows told t.goes goes met line put in
+pub tries_on : {s : Shared} {o p q : Pass} {l m : Local} → IsTrying s o p l → is_putting l.activity ≡ true → WentOn s p l Go q m → Tries s o q m (put_ahead l.activity l.walked l.lost)
+tries_on {s} {o} {p} {q} {l} {m} t put w =
+    let on = put_goes s o p q l m (view p).opening.rows w.told t.goes w.goes w.met w.line put in
     record {
-      trying = record { goes = goes_trans s o p q t.goes goes; follows = follows; calls = calls ∙ t.calls; held = held ∙ t.held; found = on.found; untidied = put_tidies s o p q l m rows told t.goes goes met line put ∙ t.untidied };
+      trying = record { goes = goes_trans s o p q t.goes w.goes; follows = w.follows; calls = w.calls ∙ t.calls; held = w.held refl ∙ t.held; found = on.found; untidied = put_tidies s o p q l m (view p).opening.rows w.told t.goes w.goes w.met w.line put ∙ t.untidied };
       fewer = on.fewer;
     }
 

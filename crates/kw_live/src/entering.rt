@@ -1,15 +1,17 @@
 //! How a call begins, how a put begins anew, how a scan gets its version and is over, and how a
 //! call ends.
-ghost use Rattle.std.specs.Prelude.{◌≡◌, ◌↔◌, ◌⊎◌, ◌≤◌, false, true, [], Some, IfSome};
+ghost use Rattle.std.specs.Prelude.{◌≡◌, ◌↔◌, ◌⊎◌, ◌≤◌, true, [], Some, IfSome};
 ghost use Rattle.kw_words.specs.declared.sizes.TheConstants.{SPENT};
 ghost use Rattle.kw_world.specs.Answers.{reply_of};
 ghost use Rattle.kw_world.specs.Calls.{is_scan};
 ghost use Rattle.kw_world.specs.Local.{resting};
 ghost use Rattle.kw_core.specs.Events.{is_call_in_range};
 ghost use Rattle.kw_core.specs.Stages.{is_put};
-ghost use Rattle.kw_table.specs.Passes.{view, IsPassOf};
-ghost use Rattle.kw_follow.specs.Calling.{KeepsCalls, Opens, Closes};
+ghost use Rattle.kw_table.specs.Passes.{IsPassOf};
+ghost use Rattle.kw_follow.specs.Calling.{Closes};
 ghost use Rattle.kw_follow.specs.Following.{Follows, GoesTo, activity_in, held};
+ghost use Rattle.kw_follow.specs.Moving.{Begins};
+ghost use Rattle.kw_follow.specs.Reaching.{Advances, Reaches};
 ghost use Rattle.kw_live.specs.Meeting.{MetClock};
 ghost use Rattle.kw_live.specs.Stages.{HasEntered};
 
@@ -34,13 +36,8 @@ pub fn enter(shared: &Shared, pass: &mut Pass, local: &mut Local, call: Call)
     requires idle { activity_in pass.old ≡ Activity.Idle }
     requires rested { local.old ≡ resting 0 }
     requires range { is_call_in_range call ≡ true }
-    ensures goes { GoesTo shared.now pass.old pass.new }
-    ensures follows { Follows shared.now pass.new local.new }
+    ensures begins { Begins shared.now pass.old pass.new call local.new }
     ensures entered { HasEntered call local.new.activity }
-    ensures call { local.new.call ≡ Some call }
-    ensures unread { local.new.has_read ≡ false }
-    ensures opens { Opens pass.old pass.new call }
-    ensures held { held pass.new ≡ [] }
     ensures spent { is_scan (Some call) ≡ true → (clock : _) × MetClock pass.old pass.new clock
         × ((local.new.activity ≡ Activity.Leave Answer.Spent) ↔ (SPENT ≤ clock)) }
 {
@@ -59,12 +56,9 @@ pub fn enter_anew(shared: &Shared, pass: &mut Pass, local: &mut Local)
     requires follows { Follows shared.now pass.old local.old }
     requires again { local.old.activity ≡ Activity.Retry }
     requires update { is_put local.old.call ≡ true }
-    ensures goes { GoesTo shared.now pass.old pass.new }
-    ensures follows { Follows shared.now pass.new local.new }
+    ensures on { Advances shared.now pass.old pass.new local.new }
     ensures starts { local.new.activity ≡ Activity.Walk Walk.Start }
     ensures call { local.new.call ≡ local.old.call }
-    ensures calls { KeepsCalls pass.old pass.new }
-    ensures held { held pass.new ≡ held pass.old }
 {
     go(shared, pass, local, Choice::Go);
     go(shared, pass, local, Choice::Go); // its epoch
@@ -76,13 +70,10 @@ fn draw(shared: &Shared, pass: &mut Pass, local: &mut Local)
     requires follows { Follows shared.now pass.old local.old }
     requires activity { local.old.activity ≡ Activity.Draw Draw.Clock }
     requires scan { is_scan local.old.call ≡ true }
-    ensures goes { GoesTo shared.now pass.old pass.new }
-    ensures follows { Follows shared.now pass.new local.new }
+    ensures on { Advances shared.now pass.old pass.new local.new }
     ensures entered { IfSome local.old.call (λ call. HasEntered call local.new.activity) }
     ensures call { local.new.call ≡ local.old.call }
     ensures unread { local.new.has_read ≡ local.old.has_read }
-    ensures calls { KeepsCalls pass.old pass.new }
-    ensures held { held pass.new ≡ held pass.old }
     ensures spent { (clock : _) × MetClock pass.old pass.new clock
         × ((local.new.activity ≡ Activity.Leave Answer.Spent) ↔ (SPENT ≤ clock)) }
 {
@@ -98,14 +89,11 @@ fn draw(shared: &Shared, pass: &mut Pass, local: &mut Local)
 pub fn end_scan(shared: &Shared, pass: &mut Pass, local: &mut Local)
     requires follows { Follows shared.now pass.old local.old }
     requires over { (answer : Answer) × (local.old.activity ≡ Activity.EndScan answer) }
-    ensures goes { GoesTo shared.now pass.old pass.new }
-    ensures follows { Follows shared.now pass.new local.new }
+    ensures on { Advances shared.now pass.old pass.new local.new }
     ensures leaves { (answer : Answer) → activity_in pass.old ≡ Activity.EndScan answer →
         activity_in pass.new ≡ Activity.Leave answer }
     ensures activity { (answer : Answer) → local.old.activity ≡ Activity.EndScan answer →
         local.new.activity ≡ Activity.Leave answer }
-    ensures calls { KeepsCalls pass.old pass.new }
-    ensures held { held pass.new ≡ held pass.old }
 {
     clear(shared, pass, local, Choice::Go);
 }
@@ -116,11 +104,9 @@ pub fn stop_scan(shared: &Shared, pass: &mut Pass, local: &mut Local)
     requires scan { is_scan local.old.call ≡ true }
     requires stage { ((local.old.activity ≡ Activity.Walk Walk.Next) × (local.old.has_read ≡ true))
         ⊎ ((answer : Answer) × (local.old.activity ≡ Activity.EndScan answer)) }
-    ensures goes { GoesTo shared.now pass.old pass.new }
-    ensures follows { Follows shared.now pass.new local.new }
+    ensures on { Reaches shared.now pass.old pass.new local.new }
     ensures leaves { activity_in pass.new ≡ Activity.Leave Answer.Stopped }
     ensures activity { local.new.activity ≡ Activity.Leave Answer.Stopped }
-    ensures calls { KeepsCalls pass.old pass.new }
 {
     if let Activity::EndScan(_) = local.activity {
         clear(shared, pass, local, Choice::Stop);

@@ -6,8 +6,8 @@
 //! first entry of another kind, or at the last one.
 ghost use Rattle.std.specs.Prelude.{◌≡◌, true, false};
 ghost use Rattle.kw_words.specs.Pend.{pend_of};
-ghost use Rattle.kw_follow.specs.Calling.{KeepsCalls};
-ghost use Rattle.kw_follow.specs.Following.{Follows, GoesTo, held};
+ghost use Rattle.kw_follow.specs.Following.{Follows};
+ghost use Rattle.kw_follow.specs.Reaching.{Advances};
 ghost use Rattle.kw_follow.specs.Within.{looking};
 ghost use Rattle.kw_live.specs.Reading.{LooksFurther, LooksOn, LooksUpTo, is_idle, is_looking};
 
@@ -25,12 +25,9 @@ use kw_world::local::Local;
 pub(crate) fn look_at_entries(shared: &Shared, pass: &mut Pass, local: &mut Local)
     requires follows { Follows shared.now pass.old local.old }
     requires stage { is_looking local.old.activity ≡ false → local.old.activity ≡ Activity.Read Read.Link }
-    ensures goes { GoesTo shared.now pass.old pass.new }
-    ensures follows { Follows shared.now pass.new local.new }
+    ensures on { Advances shared.now pass.old pass.new local.new }
     ensures looks { LooksOn local.old local.new }
     ensures activity { local.new.activity ≡ Activity.Read Read.Link }
-    ensures calls { KeepsCalls pass.old pass.new }
-    ensures held { held pass.new ≡ held pass.old }
 {
     while is_looking(&local.activity) {
         look_on(shared, pass, local);

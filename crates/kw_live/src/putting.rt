@@ -5,8 +5,8 @@
 //! keys: these are made in one loop, as `inserting` says.
 ghost use Rattle.std.specs.Prelude.{◌≡◌, false};
 ghost use Rattle.kw_core.specs.Stages.{is_putting};
-ghost use Rattle.kw_follow.specs.Calling.{KeepsCalls};
-ghost use Rattle.kw_follow.specs.Following.{Follows, GoesTo, held};
+ghost use Rattle.kw_follow.specs.Following.{Follows};
+ghost use Rattle.kw_follow.specs.Reaching.{Advances};
 ghost use Rattle.kw_live.specs.Putting.{Tried, stands_after};
 
 use crate::inserting::pass_lesser;
@@ -35,14 +35,11 @@ pub enum TryPut {
 pub fn try_put(shared: &Shared, pass: &mut Pass, local: &mut Local) -> TryPut
     requires follows { Follows shared.now pass.old local.old }
     requires activity { local.old.activity ≡ Activity.Put Put.Count }
-    ensures goes { GoesTo shared.now pass.old pass.new }
-    ensures follows { Follows shared.now pass.new local.new }
+    ensures on { Advances shared.now pass.old pass.new local.new }
     ensures stands { local.new.activity ≡ stands_after result }
     ensures call { local.new.call ≡ local.old.call }
     ensures untidied { local.new.tidies ≡ false }
     ensures cause { Tried pass.old pass.new local.old.row result }
-    ensures calls { KeepsCalls pass.old pass.new }
-    ensures held { held pass.new ≡ held pass.old }
 {
     let row = local.row;
     while is_putting(&local.activity) {

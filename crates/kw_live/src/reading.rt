@@ -1,8 +1,8 @@
 //! The events of a get or a scan at a row.
 ghost use Rattle.std.specs.Prelude.{◌≡◌, All, false, true};
 ghost use Rattle.kw_words.specs.Plain.{IsValue};
-ghost use Rattle.kw_follow.specs.Calling.{KeepsCalls};
-ghost use Rattle.kw_follow.specs.Following.{Follows, GoesTo, held};
+ghost use Rattle.kw_follow.specs.Following.{Follows, held};
+ghost use Rattle.kw_follow.specs.Reaching.{Advances, Reaches};
 ghost use Rattle.kw_live.specs.Reading.{HasRead, LooksOn, ReadsOn, is_at_remembered, is_listing, is_looking};
 
 use crate::listing::read_listed;
@@ -27,13 +27,11 @@ use kw_world::local::Local;
 pub fn read_row(shared: &Shared, pass: &mut Pass, local: &mut Local)
     requires follows { Follows shared.now pass.old local.old }
     requires stage { is_looking local.old.activity ≡ false → local.old.activity ≡ Activity.Read Read.Link }
-    ensures goes { GoesTo shared.now pass.old pass.new }
-    ensures follows { Follows shared.now pass.new local.new }
+    ensures on { Reaches shared.now pass.old pass.new local.new }
     ensures call { local.new.call ≡ local.old.call }
     ensures version { local.new.version ≡ local.old.version }
     ensures read { HasRead local.old local.new (held pass.old) (held pass.new) }
     ensures cells { All (λ cell. IsValue cell.value) local.new.gathered }
-    ensures calls { KeepsCalls pass.old pass.new }
 {
     look_at_row(shared, pass, local);
     read_list(shared, pass, local);
@@ -44,12 +42,9 @@ pub fn read_row(shared: &Shared, pass: &mut Pass, local: &mut Local)
 pub fn look_at_row(shared: &Shared, pass: &mut Pass, local: &mut Local)
     requires follows { Follows shared.now pass.old local.old }
     requires stage { is_looking local.old.activity ≡ false → local.old.activity ≡ Activity.Read Read.Link }
-    ensures goes { GoesTo shared.now pass.old pass.new }
-    ensures follows { Follows shared.now pass.new local.new }
+    ensures on { Advances shared.now pass.old pass.new local.new }
     ensures looks { LooksOn local.old local.new }
     ensures activity { local.new.activity ≡ Activity.Read Read.Link }
-    ensures calls { KeepsCalls pass.old pass.new }
-    ensures held { held pass.new ≡ held pass.old }
 {
     if local.has_read {
         // a scan's next row, which no guess was made for
@@ -63,13 +58,11 @@ pub fn look_at_row(shared: &Shared, pass: &mut Pass, local: &mut Local)
 pub fn read_list(shared: &Shared, pass: &mut Pass, local: &mut Local)
     requires follows { Follows shared.now pass.old local.old }
     requires activity { local.old.activity ≡ Activity.Read Read.Link }
-    ensures goes { GoesTo shared.now pass.old pass.new }
-    ensures follows { Follows shared.now pass.new local.new }
+    ensures on { Reaches shared.now pass.old pass.new local.new }
     ensures call { local.new.call ≡ local.old.call }
     ensures version { local.new.version ≡ local.old.version }
     ensures read { HasRead local.old local.new (held pass.old) (held pass.new) }
     ensures cells { All (λ cell. IsValue cell.value) local.new.gathered }
-    ensures calls { KeepsCalls pass.old pass.new }
 {
     read_listed(shared, pass, local);
     while is_at_remembered(&local.activity) {

@@ -4,9 +4,8 @@ ghost use Rattle.kw_cells.specs.declared.cell.Cell.{Cell};
 ghost use Rattle.kw_words.specs.Link.{link_of};
 ghost use Rattle.kw_world.specs.Transition.{row_linked};
 ghost use Rattle.kw_core.specs.Stages.{is_walking};
-ghost use Rattle.kw_table.specs.Passes.{view};
-ghost use Rattle.kw_follow.specs.Calling.{KeepsCalls};
-ghost use Rattle.kw_follow.specs.Following.{Follows, GoesTo, held};
+ghost use Rattle.kw_follow.specs.Following.{Follows};
+ghost use Rattle.kw_follow.specs.Reaching.{Advances};
 ghost use Rattle.kw_live.specs.Meeting.{BeginsWith};
 ghost use Rattle.kw_live.specs.Stages.{arrived, guessing};
 ghost use Rattle.kw_live.specs.Walking.{IsUnderWay, WalksFurther, WalksOn};
@@ -33,17 +32,11 @@ use kw_world::local::Local;
 pub fn locate(shared: &Shared, pass: &mut Pass, local: &mut Local, guess: Option<u32>)
     requires follows { Follows shared.now pass.old local.old }
     requires going { is_walking local.old.activity ≡ true }
-    ensures goes { GoesTo shared.now pass.old pass.new }
-    ensures follows { Follows shared.now pass.new local.new }
+    ensures on { Advances shared.now pass.old pass.new local.new }
+    ensures walks { WalksOn local.old local.new }
     ensures arrived { local.new.activity ≡ arrived local.old.call }
-    ensures call { local.new.call ≡ local.old.call }
-    ensures want { local.new.want ≡ local.old.want }
-    ensures version { local.new.version ≡ local.old.version }
-    ensures has_read { local.new.has_read ≡ local.old.has_read }
     ensures guess { local.old.activity ≡ Activity.Walk Walk.Start →
         BeginsWith pass.old pass.new (guessing guess) }
-    ensures calls { KeepsCalls pass.old pass.new }
-    ensures held { held pass.new ≡ held pass.old }
 {
     if let Activity::Walk(Walk::Start) = local.activity {
         set_out(shared, pass, local, guess);
@@ -55,12 +48,9 @@ pub fn locate(shared: &Shared, pass: &mut Pass, local: &mut Local, guess: Option
 fn set_out(shared: &Shared, pass: &mut Pass, local: &mut Local, guess: Option<u32>)
     requires follows { Follows shared.now pass.old local.old }
     requires start { local.old.activity ≡ Activity.Walk Walk.Start }
-    ensures goes { GoesTo shared.now pass.old pass.new }
-    ensures follows { Follows shared.now pass.new local.new }
+    ensures on { Advances shared.now pass.old pass.new local.new }
     ensures walks { WalksOn local.old local.new }
     ensures guess { BeginsWith pass.old pass.new (guessing guess) }
-    ensures calls { KeepsCalls pass.old pass.new }
-    ensures held { held pass.new ≡ held pass.old }
 {
     match guess {
         Some(row) => {
@@ -77,12 +67,9 @@ fn set_out(shared: &Shared, pass: &mut Pass, local: &mut Local, guess: Option<u3
 fn walk(shared: &Shared, pass: &mut Pass, local: &mut Local)
     requires follows { Follows shared.now pass.old local.old }
     requires under_way { IsUnderWay local.old.call local.old.activity }
-    ensures goes { GoesTo shared.now pass.old pass.new }
-    ensures follows { Follows shared.now pass.new local.new }
+    ensures on { Advances shared.now pass.old pass.new local.new }
     ensures walks { WalksOn local.old local.new }
     ensures arrived { local.new.activity ≡ arrived local.old.call }
-    ensures calls { KeepsCalls pass.old pass.new }
-    ensures held { held pass.new ≡ held pass.old }
 {
     while is_walking(&local.activity) {
         walk_on(shared, pass, local);

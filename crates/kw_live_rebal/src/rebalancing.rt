@@ -5,15 +5,10 @@
 //! says. Where an exchange is lost the seat looks once more, so a rebalance may go on as long as
 //! others go on to win.
 ghost use Rattle.std.specs.Prelude.{◌≡◌, ◌≢◌, true, false};
-ghost use Rattle.kw_world.specs.Sizes.{product};
-ghost use Rattle.kw_world.specs.Step.{next_of};
-ghost use Rattle.kw_world.specs.Transition.{outcome};
-ghost use Rattle.kw_world.specs.WalkTransitions.{is_stop, offered};
-ghost use Rattle.kw_world.specs.declared.event.StepDone.TheVariants.{Moved};
-ghost use Rattle.kw_table.specs.Passes.{view};
-ghost use Rattle.kw_follow.specs.Calling.{KeepsCalls};
-ghost use Rattle.kw_follow.specs.Following.{Follows, GoesTo, held};
-ghost use Rattle.kw_follow.specs.OwnEvents.{MetAs};
+ghost use Rattle.kw_world.specs.WalkTransitions.{is_stop};
+ghost use Rattle.kw_follow.specs.Following.{Follows};
+ghost use Rattle.kw_follow.specs.Moving.{WentOn};
+ghost use Rattle.kw_follow.specs.Reaching.{Advances};
 ghost use Rattle.kw_follow.specs.Within.{IsWithinCall};
 ghost use Rattle.kw_live_rebal.specs.Rebalancing.{HasEnded, stands_after};
 
@@ -74,13 +69,10 @@ pub fn rebalance<R: Wait>(
     requires follows { Follows shared.now pass.old local.old }
     requires activity { local.old.activity ≡ Activity.Rebalance (Rebalance.Engage Engage.Clock) }
     requires untidied { local.old.tidies ≡ false }
-    ensures goes { GoesTo shared.now pass.old pass.new }
-    ensures follows { Follows shared.now pass.new local.new }
+    ensures on { Advances shared.now pass.old pass.new local.new }
     ensures stands { local.new.activity ≡ stands_after result }
     ensures call { local.new.call ≡ local.old.call }
     ensures cause { HasEnded pass.old pass.new result }
-    ensures calls { KeepsCalls pass.old pass.new }
-    ensures held { held pass.new ≡ held pass.old }
 {
     for _ in rt.forever() {
         match local.activity {
@@ -143,16 +135,10 @@ fn begins_row(activity: &Activity) -> bool
 // Makes the next event with this choice. Where that is `Go`, the frequent events are made by steps
 // of their own.
 #[inline(always)]
-fn go_on(shared: &Shared, pass: &mut Pass, local: &mut Local, choice: Choice) -> u64
+fn go_on(shared: &Shared, pass: &mut Pass, local: &mut Local, choice: Choice)
     requires follows { Follows shared.now pass.old local.old }
     requires within { IsWithinCall local.old.activity }
-    ensures goes { GoesTo shared.now pass.old pass.new }
-    ensures follows { Follows shared.now pass.new local.new }
-    ensures line { outcome local.new Moved ≡ next_of product (view pass.old).opening.rows
-        (offered (view pass.old).opening.rows choice) local.old result }
-    ensures met { MetAs pass.old pass.new local.old choice result }
-    ensures calls { KeepsCalls pass.old pass.new }
-    ensures held { is_stop choice ≡ false → held pass.new ≡ held pass.old }
+    ensures { WentOn shared.now pass.old local.old choice pass.new local.new }
 {
     match choice {
         Choice::Go => go_build(shared, pass, local),
@@ -193,11 +179,8 @@ fn finish<R: Wait>(
     requires follows { Follows shared.now pass.old local.old }
     requires won { local.old.activity ≡ Activity.Rebalance (Rebalance.Replace Replace.Normalise) }
     requires untidied { local.old.tidies ≡ false }
-    ensures goes { GoesTo shared.now pass.old pass.new }
-    ensures follows { Follows shared.now pass.new local.new }
+    ensures on { Advances shared.now pass.old pass.new local.new }
     ensures again { local.new.activity ≡ Activity.Retry }
-    ensures calls { KeepsCalls pass.old pass.new }
-    ensures held { held pass.new ≡ held pass.old }
 {
     for _ in rt.forever() {
         if let Activity::Retry = local.activity {

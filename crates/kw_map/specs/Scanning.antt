@@ -1,5 +1,5 @@
 -- Where a scan stands between its rows, and what it took when it stopped.
-use Rattle.std.specs.Prelude.{◌≡◌, ◌⊎◌, ◌≤◌, ◌++◌, ℕ, true, Option, List, Result, OnOk, OnErr, take}
+use Rattle.std.specs.Prelude.{◌≡◌, ◌⊎◌, ◌≤◌, ◌++◌, ℕ, true, Option, List, Result, OnOk, OnErr, MatchResult, take}
 use mathlib.Core.List.{IsPrefix}
 use Rattle.kw_model.specs.declared.call.Call.{Call}
 use Rattle.kw_world.specs.declared.answer.Answer.TheVariants as answer
@@ -54,3 +54,11 @@ pub record ReadsRows {S : Type 0} (last : S → Option ℕ) (stands : S → Pair
   pub prefix : OnErr ended (TakesPrefix last stands old pairs new)
   pub stopped : OnErr ended (CountRose (stops old) (stops new))
   pub never_falls : stops old ≤ stops new
+
+-- a scan of this call read its rows: it is about to leave with its pairs, all of which the gatherer
+-- took, or because it stopped
+pub record GathersRows {S : Type 0} (last : S → Option ℕ) (stands : S → Pairs → Type 0) (stops : S → ℕ) (p : Pass) (l : Local) (old : S) (q : Pass) (m : Local) (new : S) (ended : Result Unit Stop) : Type 0 where
+  pub leaves : MatchResult ended (λ done. m.activity ≡ Activity.Leave answer.Pairs) (λ stop. m.activity ≡ Activity.Leave answer.Stopped)
+  pub all : OnOk ended (Takes last stands old (held q) new)
+  pub prefix : OnErr ended (StoppedAt (λ pairs. Takes last stands old pairs new) p q l.call)
+  pub stopped : OnErr ended (CountRose (stops old) (stops new))

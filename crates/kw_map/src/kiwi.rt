@@ -7,7 +7,7 @@
 //! come to wait for others; a get and a scan never do. So all events are the core's, and the
 //! clauses say what follows: the call is the pass's next one, it has ended, its answer is the
 //! recorded reply, and the order of all calls that the pass has seen is legal.
-ghost use Rattle.std.specs.Prelude.{◌≡◌, ℕ, ◌<◌, ◌≤◌, true, false, Some, IfOk, vec_len, slice_index_or, All};
+ghost use Rattle.std.specs.Prelude.{◌≡◌, ℕ, ◌<◌, true, false, Some, IfOk, vec_len, slice_index_or, All};
 ghost use Rattle.kw_words.specs.declared.sizes.TheConstants.{VALUE_END};
 ghost use Rattle.kw_core.specs.Events.{is_call_in_range};
 ghost use Rattle.kw_core.specs.Stages.{is_put};
@@ -17,8 +17,9 @@ ghost use Rattle.kw_model.specs.Counts.{CountRose};
 ghost use Rattle.kw_model.specs.Map.{found};
 ghost use Rattle.kw_table.specs.Passes.{IsFresh, IsPassOf, opening_of, view};
 ghost use Rattle.kw_table.specs.Views.{Meets};
-ghost use Rattle.kw_follow.specs.Calling.{Calls, KeepsCalls};
+ghost use Rattle.kw_follow.specs.Calling.{Calls};
 ghost use Rattle.kw_follow.specs.Following.{Follows, GoesTo};
+ghost use Rattle.kw_follow.specs.Reaching.{Reaches};
 ghost use Rattle.kw_map.specs.Gather.{IsBelow, Takes};
 ghost use Rattle.kw_map.specs.Kiwi.{AnswersScan, HasCause, IsIdle, IsOrdered, put_reply, stands_after};
 ghost use Rattle.kw_map.specs.Meetings.{AtEach, MeetsAt, front_seen};
@@ -286,11 +287,9 @@ fn make_room<R: Wait>(
     requires activity { local.old.activity ≡ Activity.Rebalance (Rebalance.Engage Engage.Clock) }
     requires untidied { local.old.tidies ≡ false }
     requires update { is_put local.old.call ≡ true }
-    ensures goes { GoesTo shared.now pass.old pass.new }
-    ensures follows { Follows shared.now pass.new local.new }
+    ensures on { Reaches shared.now pass.old pass.new local.new }
     ensures stands { local.new.activity ≡ stands_after result }
     ensures call { local.new.call ≡ local.old.call }
-    ensures calls { KeepsCalls pass.old pass.new }
 {
     match rebalance(rt, shared, index, hints, pass, local) {
         Rebalanced::Done | Rebalanced::Again => {

@@ -3,13 +3,12 @@
 //! A scan that has entered reads row after row, and hands on the pairs of each as soon as it has
 //! them. The functions here take it from its entry to the point where it is about to leave, with
 //! all its pairs or because the gatherer stopped.
-ghost use Rattle.std.specs.Prelude.{◌≡◌, ℕ, true, Some, [], OnOk, OnErr, MatchResult};
+ghost use Rattle.std.specs.Prelude.{◌≡◌, ℕ, true, Some, []};
 ghost use Rattle.kw_core.specs.Stages.{is_walking};
-ghost use Rattle.kw_model.specs.Counts.{CountRose};
-ghost use Rattle.kw_follow.specs.Calling.{KeepsCalls};
-ghost use Rattle.kw_follow.specs.Following.{Follows, GoesTo, held};
-ghost use Rattle.kw_map.specs.Gather.{IsBelow, Takes};
-ghost use Rattle.kw_map.specs.Scanning.{IsBetween, ReadsRows, StoppedAt};
+ghost use Rattle.kw_follow.specs.Following.{Follows, held};
+ghost use Rattle.kw_follow.specs.Reaching.{Reaches};
+ghost use Rattle.kw_map.specs.Gather.{IsBelow};
+ghost use Rattle.kw_map.specs.Scanning.{GathersRows, IsBetween, ReadsRows};
 
 use crate::gather::{Gather, Stop, take_pairs};
 use crate::handing::hand_rows;
@@ -39,16 +38,8 @@ pub(crate) fn gather_rows<G: Gather>(
     requires scan { (from : ℕ) × (local.old.call ≡ Some (Call.Scan from upto)) }
     requires between { IsBetween G.last into.old local.old }
     requires none { held pass.old ≡ [] }
-    ensures goes { GoesTo shared.now pass.old pass.new }
-    ensures follows { Follows shared.now pass.new local.new }
-    ensures calls { KeepsCalls pass.old pass.new }
-    ensures leaves { MatchResult result
-        (λ done. local.new.activity ≡ Activity.Leave Answer.Pairs)
-        (λ stop. local.new.activity ≡ Activity.Leave Answer.Stopped) }
-    ensures all { OnOk result (Takes G.last G.stands into.old (held pass.new) into.new) }
-    ensures prefix { OnErr result
-        (StoppedAt (λ pairs. Takes G.last G.stands into.old pairs into.new) pass.old pass.new local.old.call) }
-    ensures stopped { OnErr result (CountRose (G.stops into.old) (G.stops into.new)) }
+    ensures on { Reaches shared.now pass.old pass.new local.new }
+    ensures gathers { GathersRows G.last G.stands G.stops pass.old local.old into.old pass.new local.new into.new result }
 {
     while Stage::of(&local.activity).is_walking() {
         if let Err(Stop) = gather_row(shared, pass, local, guess, upto, into) {
@@ -77,10 +68,8 @@ fn gather_row<G: Gather>(
     requires scan { (from : ℕ) × (local.old.call ≡ Some (Call.Scan from upto)) }
     requires going { is_walking local.old.activity ≡ true }
     requires above { IsBelow (G.last into.old) local.old.want }
-    ensures goes { GoesTo shared.now pass.old pass.new }
-    ensures follows { Follows shared.now pass.new local.new }
+    ensures on { Reaches shared.now pass.old pass.new local.new }
     ensures call { local.new.call ≡ local.old.call }
-    ensures calls { KeepsCalls pass.old pass.new }
     ensures reads { ReadsRows G.last G.stands G.stops upto pass.old local.old into.old pass.new local.new into.new result }
 {
     locate(shared, pass, local, guess);

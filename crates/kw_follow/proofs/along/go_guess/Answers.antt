@@ -1,21 +1,7 @@
-use Rattle.std.proofs.Common.{refl}
-use Rattle.kw_world.specs.declared.event.Choice.TheVariants.{Guess}
-use Rattle.kw_follow.proofs.OneEvent.{went, within_goes, goes_in, goes_stay, went_follows, went_line, went_held, went_met}
-use Rattle.kw_follow.proofs.Growing.{keeps}
-use Rattle.kw_follow.proofs.WayEvents.{starts_within}
+use Rattle.std.proofs.Common.{subst, sym}
+use Rattle.kw_follow.proofs.Carrying.{IsGoingOn}
+use Rattle.kw_follow.proofs.Moving.{went_on}
 use Rattle.kw_follow.proofs.along.go_guess.Goals as goal
 
-pub returns-clause-follows : goal.returns-clause-follows
-returns-clause-follows c = went_follows (went _ _ _ (Guess c.args.row) _ _ _ _ _ _ c.requires.follows c.load_guessed_state-happened.ensures.makes refl refl c.load_guessed_state-happened.ensures.line) (within_goes _ (starts_within _ c.requires.start))
-
-pub returns-clause-line : goal.returns-clause-line
-returns-clause-line c = went_line (went _ _ _ (Guess c.args.row) _ _ _ _ _ _ c.requires.follows c.load_guessed_state-happened.ensures.makes refl refl c.load_guessed_state-happened.ensures.line) (within_goes _ (starts_within _ c.requires.start))
-
-pub returns-clause-held : goal.returns-clause-held
-returns-clause-held c = went_held (went _ _ _ (Guess c.args.row) _ _ _ _ _ _ c.requires.follows c.load_guessed_state-happened.ensures.makes refl refl c.load_guessed_state-happened.ensures.line) (within_goes _ (starts_within _ c.requires.start)) refl
-
-pub returns-clause-met : goal.returns-clause-met
-returns-clause-met c = went_met (went _ _ _ (Guess c.args.row) _ _ _ _ _ _ c.requires.follows c.load_guessed_state-happened.ensures.makes refl refl c.load_guessed_state-happened.ensures.line) (starts_within _ c.requires.start)
-
-pub returns-clause-calls : goal.returns-clause-calls
-returns-clause-calls c = keeps c.load_guessed_state-happened.ensures.makes (goes_stay _ (goes_in _ _ _ c.requires.follows (within_goes _ (starts_within _ c.requires.start))))
+pub returns : goal.returns
+returns c = went_on c.requires.follows (subst IsGoingOn (sym c.requires.activity) tt) c.load_guessed_state.ensures

@@ -1,19 +1,19 @@
-use Rattle.std.proofs.Common.{refl, ◌∙◌, subst}
+use Rattle.std.proofs.Common.{refl, subst}
 use Rattle.kw_world.specs.declared.activity.Activity.TheVariants as Activity
 use Rattle.kw_world.specs.declared.activity.look.Look.TheVariants as Look
 use Rattle.kw_follow.specs.Following.{Follows}
-use Rattle.kw_follow.proofs.PutEvents.{next_at}
 use Rattle.kw_follow.proofs.WayEvents.{entry_below, entry_room}
+use Rattle.kw_follow.proofs.Moving.{moves_at}
 use Rattle.kw_follow.proofs.along.look_at_entry.Goals as goal
 
 pub load_entry-told-requires : goal.load_entry-told-requires
 load_entry-told-requires c = (c.args.local.now, subst (λ a. Follows c.args.shared.now c.args.pass.now (record c.args.local.now { activity = a })) c.requires.activity c.requires.follows, refl)
 
-pub meet_entry-done-requires-clause-entry : goal.meet_entry-done-requires-clause-entry
-meet_entry-done-requires-clause-entry c = entry_below _ _ c.args.local.now _ c.requires.follows c.requires.activity
+pub meet_entry-requires-clause-entry : goal.meet_entry-requires-clause-entry
+meet_entry-requires-clause-entry c = entry_below _ _ c.args.local.now _ c.requires.follows c.requires.activity
 
-pub meet_entry-done-requires-clause-room : goal.meet_entry-done-requires-clause-room
-meet_entry-done-requires-clause-room c = entry_room _ _ c.args.local.now _ c.requires.follows c.requires.activity
+pub meet_entry-requires-clause-room : goal.meet_entry-requires-clause-room
+meet_entry-requires-clause-room c = entry_room _ _ c.args.local.now _ c.requires.follows c.requires.activity
 
-pub returns-clause-line : goal.returns-clause-line
-returns-clause-line c = c.meet_entry-done.ensures ∙ next_at _ (Activity.Look (Look.Entry c.args.entry)) c.args.local.now _ c.requires.activity
+pub returns : goal.returns
+returns c = moves_at (Activity.Look (Look.Entry c.args.entry)) c.requires c.load_entry-told.ensures c.meet_entry.ensures

@@ -1,34 +1,16 @@
-use Rattle.std.proofs.Common.{refl, subst}
-use Rattle.kw_world.specs.declared.activity.Activity.{Activity}
-use Rattle.kw_follow.specs.OwnEvents.{MetOnly}
-use Rattle.kw_follow.proofs.OneEvent.{went, follows_ranges, follows_room, asks, begins_in, moves_in, within_busy, within_goes, goes_in, goes_stay, went_follows, went_line, went_held, went_met, same_activity}
-use Rattle.kw_follow.proofs.Growing.{keeps}
-use Rattle.kw_follow.proofs.OwnEvents.{only_event}
+use Rattle.std.proofs.Common.{refl}
+use Rattle.kw_follow.proofs.Moving.{went_on}
+use Rattle.kw_follow.proofs.OneEvent.{follows_ranges, follows_room, asks, begins_in, moves_in, within_busy, within_goes}
 use Rattle.kw_follow.proofs.going.go.Goals as goal
 
-pub event-happened-requires-clause-ranges : goal.event-happened-requires-clause-ranges
-event-happened-requires-clause-ranges c = follows_ranges _ _ _ c.requires.follows
+pub event-requires-clause-ranges : goal.event-requires-clause-ranges
+event-requires-clause-ranges c = follows_ranges _ _ _ c.requires.follows
 
-pub event-happened-requires-clause-room : goal.event-happened-requires-clause-room
-event-happened-requires-clause-room c = follows_room _ _ _ c.requires.follows
+pub event-requires-clause-room : goal.event-requires-clause-room
+event-requires-clause-room c = follows_room _ _ _ c.requires.follows
 
-pub event-happened-requires-clause-asks : goal.event-happened-requires-clause-asks
-event-happened-requires-clause-asks c = asks _ _ c.args.choice _ _ _ _ _ c.requires.follows (begins_in _ _ _ c.args.choice c.requires.follows (within_busy _ c.requires.within)) (moves_in _ _ _ c.args.choice c.requires.follows (within_busy _ c.requires.within)) refl refl refl refl
+pub event-requires-clause-asks : goal.event-requires-clause-asks
+event-requires-clause-asks c = asks _ _ c.args.choice _ _ _ _ _ c.requires.follows (begins_in _ _ _ c.args.choice c.requires.follows (within_busy _ c.requires.within)) (moves_in _ _ _ c.args.choice c.requires.follows (within_busy _ c.requires.within)) refl refl refl refl
 
-pub returns-clause-follows : goal.returns-clause-follows
-returns-clause-follows c = went_follows (went _ _ _ c.args.choice _ _ _ _ _ _ c.requires.follows c.event-happened.ensures.makes refl refl c.event-happened.ensures.line) (within_goes _ c.requires.within)
-
-pub returns-clause-line : goal.returns-clause-line
-returns-clause-line c = went_line (went _ _ _ c.args.choice _ _ _ _ _ _ c.requires.follows c.event-happened.ensures.makes refl refl c.event-happened.ensures.line) (within_goes _ c.requires.within)
-
-pub returns-clause-held : goal.returns-clause-held
-returns-clause-held c = went_held (went _ _ _ c.args.choice _ _ _ _ _ _ c.requires.follows c.event-happened.ensures.makes refl refl c.event-happened.ensures.line) (within_goes _ c.requires.within)
-
-pub returns-clause-met : goal.returns-clause-met
-returns-clause-met c = went_met (went _ _ _ c.args.choice _ _ _ _ _ _ c.requires.follows c.event-happened.ensures.makes refl refl c.event-happened.ensures.line) c.requires.within
-
-pub returns-clause-calls : goal.returns-clause-calls
-returns-clause-calls c = keeps c.event-happened.ensures.makes (goes_stay _ (goes_in _ _ _ c.requires.follows (within_goes _ c.requires.within)))
-
-pub returns-clause-only : goal.returns-clause-only
-returns-clause-only c = subst (λ (a : Activity). MetOnly c.args.pass.now c.event-happened.new.pass a c.event-happened.result.told) (same_activity _ _ _ c.requires.follows) (only_event c.event-happened.ensures.makes)
+pub returns : goal.returns
+returns c = went_on c.requires.follows (within_goes _ c.requires.within) c.event.ensures

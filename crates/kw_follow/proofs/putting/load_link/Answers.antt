@@ -1,15 +1,15 @@
-use Rattle.std.proofs.Common.{◌∙◌}
 use Rattle.kw_world.specs.declared.activity.Activity.TheVariants as Activity
 use Rattle.kw_world.specs.declared.activity.insert.Insert.TheVariants as Insert
-use Rattle.kw_follow.proofs.PutEvents.{asks_link, next_at}
+use Rattle.kw_follow.proofs.PutEvents.{asks_link}
 use Rattle.kw_follow.proofs.OneEvent.{follows_ranges}
+use Rattle.kw_follow.proofs.Moving.{moves_at}
 use Rattle.kw_follow.proofs.putting.load_link.Goals as goal
 
 pub load_after-told-requires : goal.load_after-told-requires
 load_after-told-requires c = asks_link _ _ c.args.local.now _ c.requires.follows c.requires.activity c.link_name-link.ensures
 
-pub insert_from-done-requires : goal.insert_from-done-requires
-insert_from-done-requires c = (follows_ranges _ _ _ c.requires.follows).walked
+pub insert_from-requires : goal.insert_from-requires
+insert_from-requires c = (follows_ranges _ _ _ c.requires.follows).walked
 
-pub returns-clause-line : goal.returns-clause-line
-returns-clause-line c = c.insert_from-done.ensures ∙ next_at _ (Activity.Insert Insert.Link) c.args.local.now _ c.requires.activity
+pub returns : goal.returns
+returns c = moves_at (Activity.Insert Insert.Link) c.requires c.load_after-told.ensures c.insert_from.ensures

@@ -1,12 +1,11 @@
-use Rattle.std.proofs.Common.{ap, refl, subst, sym}
+use Rattle.std.proofs.Common.{ap, refl}
 use Rattle.kw_words.specs.declared.layout.Name.TheVariants.{Pass}
 use Rattle.kw_world.specs.declared.activity.Activity.TheVariants as Activity
 use Rattle.kw_world.specs.declared.activity.enter.Enter.TheVariants as Enter
 use Rattle.kw_follow.specs.Ways.{entering}
-use Rattle.kw_follow.proofs.Growing.{IsStaying, keeps}
-use Rattle.kw_follow.proofs.OneEvent.{follows_ranges, same_activity, went_follows}
+use Rattle.kw_follow.proofs.OneEvent.{follows_ranges}
 use Rattle.kw_follow.proofs.PutEvents.{asks_stored_at}
-use Rattle.kw_follow.proofs.ReadEvents.{goes_by}
+use Rattle.kw_follow.proofs.Reaching.{reaches_by}
 use Rattle.kw_follow.proofs.RestingCall.{announces}
 use Rattle.kw_follow.proofs.way.store_call_epoch.Goals as goal
 
@@ -16,11 +15,5 @@ pack_pass-requires c = (follows_ranges _ _ _ c.requires).epoch.0
 pub store_pass-requires : goal.store_pass-requires
 store_pass-requires c = asks_stored_at _ _ (entering c.args.key c.args.epoch) (Activity.Enter Enter.Announce) _ _ _ _ _ c.requires refl tt (ap Pass c.number.ensures) c.pack_pass.ensures.value refl
 
-pub returns-clause-goes : goal.returns-clause-goes
-returns-clause-goes c = goes_by _ _ _ _ _ c.store_pass.ensures
-
-pub returns-clause-follows : goal.returns-clause-follows
-returns-clause-follows c = went_follows (announces c.args.key c.args.epoch c.requires c.store_pass.ensures) tt
-
-pub returns-clause-calls : goal.returns-clause-calls
-returns-clause-calls c = keeps c.store_pass.ensures (subst IsStaying (sym (same_activity _ _ _ c.requires)) tt)
+pub returns : goal.returns
+returns c = reaches_by (announces c.args.key c.args.epoch c.requires c.store_pass.ensures) tt

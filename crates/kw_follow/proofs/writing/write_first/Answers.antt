@@ -1,20 +1,21 @@
-use Rattle.std.proofs.Common.{refl, ap, ◌∙◌}
+use Rattle.std.proofs.Common.{refl, ap}
 use Rattle.kw_world.specs.declared.activity.Activity.TheVariants as Activity
 use Rattle.kw_world.specs.declared.activity.rebalance.Rebalance.TheVariants as Rebalance
 use Rattle.kw_world.specs.declared.activity.rebalance.write.Write.TheVariants as Write
 use Rattle.kw_words.specs.declared.layout.Name.TheVariants.{First}
 use Rattle.kw_follow.proofs.OneEvent.{follows_ranges}
-use Rattle.kw_follow.proofs.PutEvents.{asks_stored_at, next_at}
+use Rattle.kw_follow.proofs.PutEvents.{asks_stored_at}
+use Rattle.kw_follow.proofs.Moving.{moves_at}
 use Rattle.kw_follow.proofs.writing.write_first.Goals as goal
 
 pub first_word-first-requires : goal.first_word-first-requires
 first_word-first-requires c = follows_ranges _ _ _ c.requires.follows
 
-pub store_infant-told-requires : goal.store_infant-told-requires
-store_infant-told-requires c = asks_stored_at _ _ c.args.local.now (Activity.Rebalance (Rebalance.Write Write.First)) _ _ _ _ _ c.requires.follows c.requires.activity tt (ap First c.infant.ensures) c.first_word-first.ensures refl
+pub store_infant-requires : goal.store_infant-requires
+store_infant-requires c = asks_stored_at _ _ c.args.local.now (Activity.Rebalance (Rebalance.Write Write.First)) _ _ _ _ _ c.requires.follows c.requires.activity tt (ap First c.infant.ensures) c.first_word-first.ensures refl
 
-pub to_write_entry-done-requires : goal.to_write_entry-done-requires
-to_write_entry-done-requires c = follows_ranges _ _ _ c.requires.follows
+pub to_write_entry-requires : goal.to_write_entry-requires
+to_write_entry-requires c = follows_ranges _ _ _ c.requires.follows
 
-pub returns-clause-line : goal.returns-clause-line
-returns-clause-line c = c.to_write_entry-done.ensures ∙ next_at _ (Activity.Rebalance (Rebalance.Write Write.First)) c.args.local.now _ c.requires.activity
+pub returns : goal.returns
+returns c = moves_at (Activity.Rebalance (Rebalance.Write Write.First)) c.requires c.store_infant.ensures c.to_write_entry.ensures

@@ -1,8 +1,9 @@
-use Rattle.std.proofs.Common.{◌∙◌, ap, subst, sym}
+use Rattle.std.proofs.Common.{◌∙◌, ap, refl, subst, sym}
 use Rattle.kw_world.specs.declared.local.Local.{Local}
 use Rattle.kw_core.specs.Stages.{IsBusy, is_put}
 use Rattle.kw_follow.specs.Within.{IsWithinCall}
 use Rattle.kw_follow.proofs.CallStays.{call_stays}
+use Rattle.kw_follow.proofs.Reaching.{advances_on, advances_trans}
 use Rattle.kw_live.proofs.Anew.{takes_back, loads_anew, starts_anew}
 use Rattle.kw_live.proofs.entering.enter_anew.Goals as goal
 
@@ -13,6 +14,9 @@ pub go_along-requires-clause-within : goal.go_along-requires-clause-within
 go_along-requires-clause-within c =
     let back = takes_back _ _ _ _ c.requires.again c.go.ensures.line in
     subst (λ (k : Local). IsWithinCall k.activity) (sym (loads_anew _ _ _ _ (ap (λ (k : Local). k.activity) back) c.go-2.ensures.line)) tt
+
+pub returns-clause-on : goal.returns-clause-on
+returns-clause-on c = advances_trans (advances_trans (advances_on c.go.ensures refl) (advances_on c.go-2.ensures refl)) (advances_on c.go_along.ensures refl)
 
 pub returns-clause-starts : goal.returns-clause-starts
 returns-clause-starts c =

@@ -1,3 +1,4 @@
+use Rattle.std.proofs.Common.{refl}
 use Rattle.kw_live.proofs.LookStages.{look_goes}
 use Rattle.kw_live.proofs.looking.look_on.Goals as goal
 
@@ -8,7 +9,7 @@ returns-in_default c =
       goes = c.go_along.ensures.goes;
       follows = c.go_along.ensures.follows;
       calls = c.go_along.ensures.calls;
-      held = c.go_along.ensures.held;
+      held = c.go_along.ensures.held refl;
       looks = looked.looks;
       fewer = looked.fewer;
     }

@@ -16,13 +16,11 @@ loop-pass-preserved-in-Link-1 c = (tries_further _ _ _ _ _ _ c.loop-pass.invaria
 
 pub loop-pass-smaller : goal.loop-pass-smaller
 loop-pass-smaller c =
-    let one = tries_on _ _ _ _ _ _ _ _ c.loop-pass.invariant (sym c.is_putting.ensures ∙ c.loop-pass-test.true) c.go_put.ensures.goes c.go_put.ensures.follows c.go_put.ensures.calls c.go_put.ensures.held c.go_put.ensures.met c.go_put.ensures.line in
-    one.fewer
+    (tries_on c.loop-pass.invariant (sym c.is_putting.ensures ∙ c.loop-pass-test.true) c.go_put.ensures).fewer
 
 pub loop-pass-preserved : goal.loop-pass-preserved
 loop-pass-preserved c =
-    let one = tries_on _ _ _ _ _ _ _ _ c.loop-pass.invariant (sym c.is_putting.ensures ∙ c.loop-pass-test.true) c.go_put.ensures.goes c.go_put.ensures.follows c.go_put.ensures.calls c.go_put.ensures.held c.go_put.ensures.met c.go_put.ensures.line in
-    one.trying
+    (tries_on c.loop-pass.invariant (sym c.is_putting.ensures ∙ c.loop-pass-test.true) c.go_put.ensures).trying
 
 pub returns-in-Leave-clause-stands : goal.returns-in-Leave-clause-stands
 returns-in-Leave-clause-stands c = c.in-Leave.is ∙ ap Activity.Leave (leaves_done c.args.pass.now c.loop-pass.pass _ (subst (HasFound c.args.pass.now c.loop-pass.pass) c.in-Leave.is c.loop-pass.invariant.found))
@@ -37,12 +35,9 @@ pub returns-in_default-activity : goal.returns-in_default-activity
 returns-in_default-activity c =
     let full = stands_full c.args.pass.now c.loop-pass.pass _ c.loop-pass.invariant.found (sym c.is_putting.ensures ∙ c.loop-pass-test.false) c.in_default-activity.not-Leave in
     record {
-      goes = c.loop-pass.invariant.goes;
-      follows = c.loop-pass.invariant.follows;
+      on = record { goes = c.loop-pass.invariant.goes; follows = c.loop-pass.invariant.follows; calls = c.loop-pass.invariant.calls; held = c.loop-pass.invariant.held };
       stands = full.0;
       call = call_stays _ _ _ _ _ c.requires.follows c.loop-pass.invariant.follows c.loop-pass.invariant.calls (subst IsBusy (sym c.requires.activity) tt) (subst IsBusy (sym full.0) tt);
       untidied = c.loop-pass.invariant.untidied;
       cause = (refl, full.1);
-      calls = c.loop-pass.invariant.calls;
-      held = c.loop-pass.invariant.held;
     }

@@ -7,11 +7,11 @@ go_remembered-requires-clause-remembered c = remembered_at _ c.requires.remember
 
 pub returns-clause-reads : goal.returns-clause-reads
 returns-clause-reads c =
-    let read = reads _ _ _ _ _ _ c.requires.follows c.go_remembered.ensures.goes c.go_remembered.ensures.follows c.go_remembered.ensures.seat c.go_remembered.ensures.met (remembered_reads _ c.requires.remembered) in
+    let read = reads _ _ _ _ _ _ c.requires.follows c.go_remembered.ensures.reads.goes c.go_remembered.ensures.follows c.go_remembered.ensures.reads.seat c.go_remembered.ensures.reads.met (remembered_reads _ c.requires.remembered) in
     record {
-      goes = c.go_remembered.ensures.goes;
+      goes = c.go_remembered.ensures.reads.goes;
       follows = c.go_remembered.ensures.follows;
-      calls = c.go_remembered.ensures.calls;
+      calls = c.go_remembered.ensures.reads.calls;
       call = read.call;
       version = read.version;
       on = read.on;
@@ -20,4 +20,4 @@ returns-clause-reads c =
     }
 
 pub returns-clause-over : goal.returns-clause-over
-returns-clause-over c = remembered_over _ _ _ _ _ _ c.requires.follows c.go_remembered.ensures.follows c.go_remembered.ensures.seat c.requires.remembered
+returns-clause-over c = remembered_over _ _ _ _ _ _ c.requires.follows c.go_remembered.ensures.follows c.go_remembered.ensures.reads.seat c.requires.remembered

@@ -1,3 +1,4 @@
+use Rattle.std.proofs.Common.{refl}
 use Rattle.kw_live.proofs.WalkStages.{walk_goes}
 use Rattle.kw_live.proofs.walking.walk_on.Goals as goal
 
@@ -8,7 +9,7 @@ returns-in-Walk-GuessedLeast c =
       goes = c.go_guess_min.ensures.goes;
       follows = c.go_guess_min.ensures.follows;
       calls = c.go_guess_min.ensures.calls;
-      held = c.go_guess_min.ensures.held;
+      held = c.go_guess_min.ensures.held refl;
       walks = on.walks;
       fewer = on.fewer;
     }
@@ -20,7 +21,7 @@ returns-in_default c =
       goes = c.go_along.ensures.goes;
       follows = c.go_along.ensures.follows;
       calls = c.go_along.ensures.calls;
-      held = c.go_along.ensures.held;
+      held = c.go_along.ensures.held refl;
       walks = on.walks;
       fewer = on.fewer;
     }

@@ -4,6 +4,7 @@ use Rattle.kw_core.specs.Stages.{IsBusy}
 use Rattle.kw_table.specs.Passes.{view}
 use Rattle.kw_follow.proofs.CallStays.{call_stays}
 use Rattle.kw_follow.proofs.OwnEvents.{goes_trans}
+use Rattle.kw_follow.proofs.Reaching.{advances_trans}
 use Rattle.kw_live_rebal.specs.Standing.{HasMet}
 use Rattle.kw_live_rebal.proofs.Meets.{ends_refused, within, won_on}
 use Rattle.kw_live_rebal.proofs.Stages.{keeps_met, stays_untidied}
@@ -43,11 +44,11 @@ returns-in-Leave-clause-cause g c =
 pub returns-in-Leave-clause-call : goal.returns-in-Leave-clause-call
 returns-in-Leave-clause-call g c = call_stays _ _ _ _ _ c.requires.follows c.loop.invariant.on.follows c.loop.invariant.on.calls (subst IsBusy (sym c.requires.activity) tt) (subst IsBusy (sym c.in-Leave.is) tt)
 
-pub returns-then-has_won-clause-goes : goal.returns-then-has_won-clause-goes
-returns-then-has_won-clause-goes g c = goes_trans _ _ _ _ c.loop.invariant.on.goes c.finish.ensures.goes
+pub returns-then-has_won-clause-on : goal.returns-then-has_won-clause-on
+returns-then-has_won-clause-on g c = advances_trans (record { goes = c.loop.invariant.on.goes; follows = c.loop.invariant.on.follows; calls = c.loop.invariant.on.calls; held = c.loop.invariant.on.held }) c.finish.ensures.on
 
 pub returns-then-has_won-clause-call : goal.returns-then-has_won-clause-call
-returns-then-has_won-clause-call g c = call_stays _ _ _ _ _ c.requires.follows c.finish.ensures.follows (c.finish.ensures.calls ∙ c.loop.invariant.on.calls) (subst IsBusy (sym c.requires.activity) tt) (subst IsBusy (sym c.finish.ensures.again) tt)
+returns-then-has_won-clause-call g c = call_stays _ _ _ _ _ c.requires.follows c.finish.ensures.on.follows (c.finish.ensures.on.calls ∙ c.loop.invariant.on.calls) (subst IsBusy (sym c.requires.activity) tt) (subst IsBusy (sym c.finish.ensures.again) tt)
 
 pub returns-then-has_won-clause-cause : goal.returns-then-has_won-clause-cause
-returns-then-has_won-clause-cause g c = won_on c.args.pass.now c.finish.ensures.goes (subst (λ (a : Activity). HasMet c.args.pass.now c.loop.pass a c.loop.local) (c.has_won.ensures.won (search rules)) c.loop.invariant.on.met)
+returns-then-has_won-clause-cause g c = won_on c.args.pass.now c.finish.ensures.on.goes (subst (λ (a : Activity). HasMet c.args.pass.now c.loop.pass a c.loop.local) (c.has_won.ensures.won (search rules)) c.loop.invariant.on.met)

@@ -6,7 +6,7 @@ pub go_build-requires-clause-within : goal.go_build-requires-clause-within
 go_build-requires-clause-within g c = building_within _ c.loop.invariant.building
 
 pub returns-then-not-is_gathering-clause-on : goal.returns-then-not-is_gathering-clause-on
-returns-then-not-is_gathering-clause-on g c o r = event_goes_on _ c.loop.pass _ c.loop.local c.go_build.new.local _ _ c.go_build.ensures.goes c.go_build.ensures.follows c.go_build.ensures.calls c.go_build.ensures.held c.go_build.ensures.met c.go_build.ensures.line c.loop.invariant.building o (c.loop.invariant.on o r)
+returns-then-not-is_gathering-clause-on g c o r = event_goes_on c.go_build.ensures c.loop.invariant.building o (c.loop.invariant.on o r)
 
 pub loop-preserved : goal.loop-preserved
 loop-preserved g c = record {
@@ -14,5 +14,5 @@ loop-preserved g c = record {
   is_finite = search rules;
   follows = c.go_build.ensures.follows;
   building = c.is_gathering.ensures (search rules);
-  on = λ o r. event_goes_on _ c.loop.pass _ c.loop.local c.go_build.new.local _ _ c.go_build.ensures.goes c.go_build.ensures.follows c.go_build.ensures.calls c.go_build.ensures.held c.go_build.ensures.met c.go_build.ensures.line c.loop.invariant.building o (c.loop.invariant.on o r);
+  on = λ o r. event_goes_on c.go_build.ensures c.loop.invariant.building o (c.loop.invariant.on o r);
 }

@@ -23,13 +23,13 @@ look_at_row-requires-clause-stage g c = λ not.
     absurd (cc)
 
 pub returns-then-is_err-clause-goes : goal.returns-then-is_err-clause-goes
-returns-then-is_err-clause-goes g c = goes_trans _ _ _ _ c.loop-local.invariant.goes c.look_at_row.ensures.goes
+returns-then-is_err-clause-goes g c = goes_trans _ _ _ _ c.loop-local.invariant.goes c.look_at_row.ensures.on.goes
 
 pub returns-then-is_err-clause-hands : goal.returns-then-is_err-clause-hands
 returns-then-is_err-clause-hands g c =
     let i = c.loop-local.invariant in
     let r = c.look_at_row.ensures in
-    hands_still _ _ _ _ _ _ _ _ _ _ i.hands r.calls r.held r.looks
+    hands_still _ _ _ _ _ _ _ _ _ _ i.hands r.on.calls r.on.held r.looks
 
 pub hand_row-ended-requires-clause-scan : goal.hand_row-ended-requires-clause-scan
 hand_row-ended-requires-clause-scan g c = (c.requires.scan.0, c.look_at_row.ensures.looks.call ∙ c.loop-local.invariant.hands.call ∙ c.requires.scan.1)
@@ -48,8 +48,8 @@ loop-local-preserved g c =
     let r = c.look_at_row.ensures in
     let h = c.hand_row-ended.ensures in
     record {
-      goes = goes_trans _ _ _ _ i.goes (goes_trans _ _ _ _ r.goes h.goes);
+      goes = goes_trans _ _ _ _ i.goes (goes_trans _ _ _ _ r.on.goes h.goes);
       follows = h.follows;
       stage = h.activity;
-      hands = hands_behind _ _ _ _ _ _ _ _ _ _ _ _ (sym c.is_err.ensures.value ∙ c.if-is_err.false) (hands_still _ _ _ _ _ _ _ _ _ _ i.hands r.calls r.held r.looks) h.hands;
+      hands = hands_behind _ _ _ _ _ _ _ _ _ _ _ _ (sym c.is_err.ensures.value ∙ c.if-is_err.false) (hands_still _ _ _ _ _ _ _ _ _ _ i.hands r.on.calls r.on.held r.looks) h.hands;
     }

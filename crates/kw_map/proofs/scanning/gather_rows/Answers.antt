@@ -7,17 +7,15 @@ use Rattle.kw_map.proofs.RowStages.{fewer_rows, prefix_behind, rose_later, stopp
 use Rattle.kw_map.proofs.TakeLemmas.{Takes-append}
 use Rattle.kw_map.proofs.scanning.gather_rows.Goals as goal
 
-pub returns-in-Err-clause-prefix : goal.returns-in-Err-clause-prefix
-returns-in-Err-clause-prefix g c =
+pub returns-in-Err-clause-gathers : goal.returns-in-Err-clause-gathers
+returns-in-Err-clause-gathers g c =
     let i = c.loop-guess.invariant in
     let r = c.in-Err.ensures in
     let took = subst (λ (ps : Pairs). TakesPrefix g.G.Gather.last g.G.Gather.stands c.args.into.now ps c.gather_row.new.into) (sym r.reads.held)
     (prefix_behind g.G.Gather.last g.G.Gather.stands c.args.into.now c.loop-guess.into c.gather_row.new.into _ _ i.takes r.reads.prefix) in
-    stopped_here (λ (ps : Pairs). Takes g.G.Gather.last g.G.Gather.stands c.args.into.now ps c.gather_row.new.into) c.args.shared.now c.args.pass.now c.gather_row.new.pass c.stop_scan.new.pass c.gather_row.new.local c.args.local.now.call
-    r.reads.low c.args.upto c.loop-guess.local.version (goes_trans _ _ _ _ i.goes r.goes) c.stop_scan.ensures.goes r.follows (r.call ∙ i.asks) (c.requires.scan.0, (r.call ∙ i.asks) ∙ c.requires.scan.1) r.reads.stage took
-
-pub returns-in-Err-clause-stopped : goal.returns-in-Err-clause-stopped
-returns-in-Err-clause-stopped g c = rose_later _ _ _ c.loop-guess.invariant.counts c.in-Err.ensures.reads.stopped
+    let prefix = stopped_here (λ (ps : Pairs). Takes g.G.Gather.last g.G.Gather.stands c.args.into.now ps c.gather_row.new.into) c.args.shared.now c.args.pass.now c.gather_row.new.pass c.stop_scan.new.pass c.gather_row.new.local c.args.local.now.call
+    r.reads.low c.args.upto c.loop-guess.local.version (goes_trans _ _ _ _ i.goes r.on.goes) c.stop_scan.ensures.on.goes r.on.follows (r.call ∙ i.asks) (c.requires.scan.0, (r.call ∙ i.asks) ∙ c.requires.scan.1) r.reads.stage took in
+    record { leaves = c.stop_scan.ensures.activity; all = tt; prefix = prefix; stopped = rose_later _ _ _ i.counts r.reads.stopped }
 
 pub loop-guess-smaller : goal.loop-guess-smaller
 loop-guess-smaller g c =
@@ -29,10 +27,10 @@ loop-guess-preserved g c =
     let i = c.loop-guess.invariant in
     let r = c.in_default.ensures in
     record {
-      goes = goes_trans _ _ _ _ i.goes r.goes;
-      follows = r.follows;
+      goes = goes_trans _ _ _ _ i.goes r.on.goes;
+      follows = r.on.follows;
       asks = r.call ∙ i.asks;
-      calls = r.calls ∙ i.calls;
+      calls = r.on.calls ∙ i.calls;
       takes = subst (λ (ps : Pairs). Takes g.G.Gather.last g.G.Gather.stands c.args.into.now ps c.gather_row.new.into) (sym r.reads.held)
           (Takes-append g.G.Gather.last g.G.Gather.stands c.args.into.now c.loop-guess.into c.gather_row.new.into _ _ i.takes r.reads.all);
       counts = omega (arith, i.counts, r.reads.never_falls);

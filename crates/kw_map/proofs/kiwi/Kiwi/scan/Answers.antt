@@ -21,7 +21,7 @@ enter-requires-clause-idle g c = rw c.pass.view_is c.requires.idle.idle
 
 pub gather_rows-gathered-requires-clause-between : goal.gather_rows-gathered-requires-clause-between
 gather_rows-gathered-requires-clause-between g c =
-    entered_between g.G.Gather.last c.args.into.now c.self.inside.shared c.enter.new.pass c.enter.new.local c.args.from c.args.to c.enter.ensures.follows c.enter.ensures.call c.enter.ensures.entered c.in_default.not-Leave c.requires.above
+    entered_between g.G.Gather.last c.args.into.now c.self.inside.shared c.enter.new.pass c.enter.new.local c.args.from c.args.to c.enter.ensures.begins.follows c.enter.ensures.begins.asks c.enter.ensures.entered c.in_default.not-Leave c.requires.above
 
 pub returns-in-Leave : goal.returns-in-Leave
 returns-in-Leave g c =
@@ -29,10 +29,10 @@ returns-in-Leave g c =
     let spent = c.enter.ensures.spent refl in
     rw (← c.self.view_is, ← c.pass.view_is) record {
       idle = record { of_map = c.leave.ensures.goes.of_table; idle = c.leave.ensures.idle };
-      goes = goes_trans _ _ _ _ c.enter.ensures.goes c.leave.ensures.goes;
+      goes = goes_trans _ _ _ _ c.enter.ensures.begins.goes c.leave.ensures.goes;
       answers = record {
         reply = Spent;
-        calls = whole c.enter.ensures.opens refl (c.leave.ensures.closes answer.Spent (leaves_with answer.Spent c.enter.ensures.follows is)).0;
+        calls = whole c.enter.ensures.begins.opens refl (c.leave.ensures.closes answer.Spent (leaves_with answer.Spent c.enter.ensures.begins.follows is)).0;
         gave = (refl, refl);
         clock = spent.0;
         met = clock_later spent.1 c.leave.ensures.goes;
@@ -48,13 +48,13 @@ returns-in-Ok g c =
     let pairs = held c.gather_rows-gathered.new.pass in
     rw (← c.self.view_is, ← c.pass.view_is) record {
       idle = record { of_map = c.leave-2.ensures.goes.of_table; idle = c.leave-2.ensures.idle };
-      goes = goes_trans _ _ _ _ c.enter.ensures.goes (goes_trans _ _ _ _ gathered.goes c.leave-2.ensures.goes);
+      goes = goes_trans _ _ _ _ c.enter.ensures.begins.goes (goes_trans _ _ _ _ gathered.on.goes c.leave-2.ensures.goes);
       answers = record {
         reply = Pairs pairs;
-        calls = whole c.enter.ensures.opens gathered.calls (c.leave-2.ensures.closes answer.Pairs (leaves_with answer.Pairs gathered.follows gathered.leaves)).0;
-        gave = (pairs, refl, gathered.all);
+        calls = whole c.enter.ensures.begins.opens gathered.on.calls (c.leave-2.ensures.closes answer.Pairs (leaves_with answer.Pairs gathered.on.follows gathered.gathers.leaves)).0;
+        gave = (pairs, refl, gathered.gathers.all);
         clock = spent.0;
-        met = clock_later (clock_later spent.1 gathered.goes) c.leave-2.ensures.goes;
+        met = clock_later (clock_later spent.1 gathered.on.goes) c.leave-2.ensures.goes;
         spent = (λ e. absurd (cc e), λ e. absurd (c.in_default.not-Leave answer.Spent (spent.2.1 e)));
       };
       ordered = pass_ordered c.leave-2.new.pass;
@@ -65,16 +65,16 @@ returns-in-Err g c =
     let gathered = c.in-Err.ensures in
     let spent = c.enter.ensures.spent refl in
     let took = λ (pairs : List (ℕ × ℕ)). Takes g.G.Gather.last g.G.Gather.stands c.args.into.now pairs c.gather_rows-gathered.new.into in
-    let stopped = subst (λ (x : Option Call). StoppedAt took c.enter.new.pass c.gather_rows-gathered.new.pass x) c.enter.ensures.call gathered.prefix in
+    let stopped = subst (λ (x : Option Call). StoppedAt took c.enter.new.pass c.gather_rows-gathered.new.pass x) c.enter.ensures.begins.asks gathered.gathers.prefix in
     rw (← c.self.view_is, ← c.pass.view_is) record {
       idle = record { of_map = c.leave-2.ensures.goes.of_table; idle = c.leave-2.ensures.idle };
-      goes = goes_trans _ _ _ _ c.enter.ensures.goes (goes_trans _ _ _ _ gathered.goes c.leave-2.ensures.goes);
+      goes = goes_trans _ _ _ _ c.enter.ensures.begins.goes (goes_trans _ _ _ _ gathered.on.goes c.leave-2.ensures.goes);
       answers = record {
         reply = Stopped;
-        calls = whole c.enter.ensures.opens gathered.calls (c.leave-2.ensures.closes answer.Stopped (leaves_with answer.Stopped gathered.follows gathered.leaves)).0;
-        gave = (refl, gathered.stopped, stopped_within took _ _ _ _ _ _ c.enter.ensures.goes c.leave-2.ensures.goes stopped);
+        calls = whole c.enter.ensures.begins.opens gathered.on.calls (c.leave-2.ensures.closes answer.Stopped (leaves_with answer.Stopped gathered.on.follows gathered.gathers.leaves)).0;
+        gave = (refl, gathered.gathers.stopped, stopped_within took _ _ _ _ _ _ c.enter.ensures.begins.goes c.leave-2.ensures.goes stopped);
         clock = spent.0;
-        met = clock_later (clock_later spent.1 gathered.goes) c.leave-2.ensures.goes;
+        met = clock_later (clock_later spent.1 gathered.on.goes) c.leave-2.ensures.goes;
         spent = (λ e. absurd (cc e), λ e. absurd (c.in_default.not-Leave answer.Spent (spent.2.1 e)));
       };
       ordered = pass_ordered c.leave-2.new.pass;

@@ -19,29 +19,29 @@ pub loop-init : goal.loop-init
 loop-init g c = record {
   can_next = search rules;
   is_finite = search rules;
-  goes = rw (← c.pass.view_is) c.enter.ensures.goes;
-  follows = c.enter.ensures.follows;
+  goes = rw (← c.pass.view_is) c.enter.ensures.begins.goes;
+  follows = c.enter.ensures.begins.follows;
   activity = put_starts c.args.call _ c.requires.update c.enter.ensures.entered;
-  call = c.enter.ensures.call;
-  opens = rw (← c.pass.view_is) c.enter.ensures.opens;
+  call = c.enter.ensures.begins.asks;
+  opens = rw (← c.pass.view_is) c.enter.ensures.begins.opens;
 }
 
 pub returns-in-Done-clause-idle : goal.returns-in-Done-clause-idle
 returns-in-Done-clause-idle g c = rw (← c.self.view_is) record { of_map = c.leave.ensures.goes.of_table; idle = c.leave.ensures.idle }
 
 pub returns-in-Done-clause-goes : goal.returns-in-Done-clause-goes
-returns-in-Done-clause-goes g c = rw (← c.self.view_is) (goes_trans _ _ _ _ (goes_trans _ _ _ _ c.loop.invariant.goes c.locate.ensures.goes) (goes_trans _ _ _ _ c.try_put.ensures.goes c.leave.ensures.goes))
+returns-in-Done-clause-goes g c = rw (← c.self.view_is) (goes_trans _ _ _ _ (goes_trans _ _ _ _ c.loop.invariant.goes c.locate.ensures.on.goes) (goes_trans _ _ _ _ c.try_put.ensures.on.goes c.leave.ensures.goes))
 
 pub returns-in-Done-clause-calls : goal.returns-in-Done-clause-calls
 returns-in-Done-clause-calls g c =
-    let leaves = leaves_with Done c.try_put.ensures.follows c.in-Done.ensures.stands in
-    whole c.loop.invariant.opens (c.try_put.ensures.calls ∙ c.locate.ensures.calls) (c.leave.ensures.closes Done leaves).0
+    let leaves = leaves_with Done c.try_put.ensures.on.follows c.in-Done.ensures.stands in
+    whole c.loop.invariant.opens (c.try_put.ensures.on.calls ∙ c.locate.ensures.on.calls) (c.leave.ensures.closes Done leaves).0
 
 pub make_room-requires-clause-activity : goal.make_room-requires-clause-activity
 make_room-requires-clause-activity g c = is_full c.try_put.result c.try_put.new.local.activity c.in_default.not-Done c.try_put.ensures.stands
 
 pub make_room-requires-clause-update : goal.make_room-requires-clause-update
-make_room-requires-clause-update g c = subst (λ call. is_put call ≡ true) (sym (c.try_put.ensures.call ∙ (c.locate.ensures.call ∙ c.loop.invariant.call))) c.requires.update
+make_room-requires-clause-update g c = subst (λ call. is_put call ≡ true) (sym (c.try_put.ensures.call ∙ (c.locate.ensures.walks.call ∙ c.loop.invariant.call))) c.requires.update
 
 pub leave-requires-in-Some-make_room-clause-leaving : goal.leave-requires-in-Some-make_room-clause-leaving
 leave-requires-in-Some-make_room-clause-leaving g c = let ends = ends_with c.in-Some-make_room.end c.make_room.new.local.activity [] c.in-Some-make_room.ensures.stands in (ends.0, ends.1)
@@ -51,24 +51,24 @@ returns-in-Some-make_room-clause-idle g c = rw (← c.self.view_is) record { of_
 
 pub returns-in-Some-make_room-clause-goes : goal.returns-in-Some-make_room-clause-goes
 returns-in-Some-make_room-clause-goes g c =
-    let before = goes_trans _ _ _ _ (goes_trans _ _ _ _ c.loop.invariant.goes c.locate.ensures.goes) c.try_put.ensures.goes in
-    rw (← c.self.view_is) (goes_trans _ _ _ _ before (goes_trans _ _ _ _ c.make_room.ensures.goes c.leave-in-Some-make_room.ensures.goes))
+    let before = goes_trans _ _ _ _ (goes_trans _ _ _ _ c.loop.invariant.goes c.locate.ensures.on.goes) c.try_put.ensures.on.goes in
+    rw (← c.self.view_is) (goes_trans _ _ _ _ before (goes_trans _ _ _ _ c.make_room.ensures.on.goes c.leave-in-Some-make_room.ensures.goes))
 
 pub returns-in-Some-make_room-clause-calls : goal.returns-in-Some-make_room-clause-calls
 returns-in-Some-make_room-clause-calls g c =
     let ends = ends_with c.in-Some-make_room.end c.make_room.new.local.activity (held c.make_room.new.pass) c.in-Some-make_room.ensures.stands in
-    let closes = (c.leave-in-Some-make_room.ensures.closes ends.0 (leaves_with ends.0 c.make_room.ensures.follows ends.1)).0 in
-    whole c.loop.invariant.opens (c.make_room.ensures.calls ∙ (c.try_put.ensures.calls ∙ c.locate.ensures.calls)) (subst (Closes c.make_room.new.pass c.leave-in-Some-make_room.new.pass) ends.2 closes)
+    let closes = (c.leave-in-Some-make_room.ensures.closes ends.0 (leaves_with ends.0 c.make_room.ensures.on.follows ends.1)).0 in
+    whole c.loop.invariant.opens (c.make_room.ensures.on.calls ∙ (c.try_put.ensures.on.calls ∙ c.locate.ensures.on.calls)) (subst (Closes c.make_room.new.pass c.leave-in-Some-make_room.new.pass) ends.2 closes)
 
 pub loop-preserved : goal.loop-preserved
 loop-preserved g c =
-    let before = goes_trans _ _ _ _ (goes_trans _ _ _ _ c.loop.invariant.goes c.locate.ensures.goes) c.try_put.ensures.goes in
+    let before = goes_trans _ _ _ _ (goes_trans _ _ _ _ c.loop.invariant.goes c.locate.ensures.on.goes) c.try_put.ensures.on.goes in
     record {
       can_next = search rules;
       is_finite = search rules;
-      goes = goes_trans _ _ _ _ before c.make_room.ensures.goes;
-      follows = c.make_room.ensures.follows;
+      goes = goes_trans _ _ _ _ before c.make_room.ensures.on.goes;
+      follows = c.make_room.ensures.on.follows;
       activity = begins_anew c.make_room.result c.make_room.new.local.activity c.in_default-make_room.not-Some c.make_room.ensures.stands;
-      call = c.make_room.ensures.call ∙ (c.try_put.ensures.call ∙ (c.locate.ensures.call ∙ c.loop.invariant.call));
-      opens = opens_on c.loop.invariant.opens (c.make_room.ensures.calls ∙ (c.try_put.ensures.calls ∙ c.locate.ensures.calls));
+      call = c.make_room.ensures.call ∙ (c.try_put.ensures.call ∙ (c.locate.ensures.walks.call ∙ c.loop.invariant.call));
+      opens = opens_on c.loop.invariant.opens (c.make_room.ensures.on.calls ∙ (c.try_put.ensures.on.calls ∙ c.locate.ensures.on.calls));
     }
