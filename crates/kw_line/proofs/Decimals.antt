@@ -82,6 +82,26 @@ tens_more i value byte l low high = omega (arith, pow_more 10 i, l)
 pub tens_fit : (i value : ℕ) → i < 19 → value < 10 ^ i → value * 10 + 9 < 2 ^ 64
 tens_fit i value l h = let p : 10 ^ i ≤ 10 ^ 18 = pow-le-pow_right {n = 10} (omega arith) {i = i} {j = 18} (omega arith) in omega (arith, p, h)
 
+-- so many bytes in front are digits, and this is their value
+pub record IsRead (bytes : List ℕ) (count value : ℕ) : Type 0 where
+  pub digits : AllDigits 10 (take count bytes)
+  pub worth : value ≡ digits_value 10 (take count bytes)
+  pub below : value < 10 ^ count
+
+-- no bytes are read
+pub none_read : (bytes : List ℕ) → IsRead bytes 0 0
+none_read bytes = record { digits = search rules; worth = search rules; below = omega arith }
+
+-- one digit more is read
+pub read_on : (bytes : List ℕ) (i value byte more : ℕ) → i < length bytes → byte ≡ get_or bytes i 0 → IsRead bytes i value → (48 ≤ byte) × (byte ≤ 57) × (more ≡ value * 10 + (byte - 48)) → IsRead bytes (i + 1) more
+read_on bytes i value byte more lt at read digit =
+    let on = digits_read_on bytes i value byte lt at digit.0 digit.1 read.digits read.worth in
+    record { digits = on.0; worth = digit.2 ∙ on.1; below = subst (λ n. n < 10 ^ (i + 1)) (sym digit.2) (tens_more i value byte read.below digit.0 digit.1) }
+
+-- what is read of up to 19 bytes fits
+pub read_fits : (bytes : List ℕ) (i value : ℕ) → i ≤ 19 → IsRead bytes i value → value < 2 ^ 64
+read_fits bytes i value le read = let p : 10 ^ i ≤ 10 ^ 19 = pow-le-pow_right {n = 10} (omega arith) {i = i} {j = 19} le in let b = read.below in omega (arith, p, b)
+
 -- digits in front without a leading zero are the decimal text of their value, and the rest stands
 -- behind it
 pub split_decimal : (bytes : List ℕ) (most count value : ℕ) → AllDigits 10 (take count (take most bytes)) → value ≡ digits_value 10 (take count (take most bytes)) → count ≤ length (take most bytes) → most ≤ length bytes → value < 2 ^ 64 → (0 < count) × (get_or bytes 0 0 ≡ 48 → count ≡ 1) → bytes ≡ decimal value ++ take (length bytes - count) (drop count bytes)

@@ -2,7 +2,7 @@
 //!
 //! Every reader and writer of numbers in a line goes through here, so that each number has one
 //! text.
-ghost use Rattle.std.specs.Prelude.{◌≡◌, ◌≢◌, ◌<◌, ◌≤◌, ◌^◌, ◌++◌, ◌⊎◌, ℕ, IsTrue, false, decimal, length, slice_index, take, IfSome, MatchOption, OnOk, OnErr};
+ghost use Rattle.std.specs.Prelude.{◌≡◌, ◌≢◌, ◌<◌, ◌≤◌, ◌+◌, ◌-◌, ◌*◌, ◌^◌, ◌++◌, ◌⊎◌, ℕ, IsTrue, false, decimal, length, slice_index, take, IfSome, MatchOption, OnOk, OnErr};
 ghost use Rattle.std.specs.Str.Parse.{AllDigits, digits_value};
 
 use itoa::Buffer;
@@ -40,6 +40,8 @@ fn is_plain(bytes: &[u8], count: usize) -> bool
 }
 
 /// The value of the digits that the bytes begin with, and how many they are.
+///
+/// Each round looks at two bytes, so that counting the rounds costs a digit half as much.
 fn leading_digits(bytes: &[u8]) -> (u64, usize)
     requires { length bytes.now ≤ FITTING_DIGITS }
     ensures within { result.1 ≤ length bytes.now }
@@ -48,13 +50,39 @@ fn leading_digits(bytes: &[u8]) -> (u64, usize)
     ensures fits { result.0 < 2 ^ 64 }
 {
     let mut value = 0;
-    for (count, byte) in bytes.iter().enumerate() {
-        if *byte < b'0' || b'9' < *byte {
-            return (value, count);
-        }
-        value = value * 10 + u64::from(*byte - b'0');
+    for pair in 0..bytes.len() / 2 {
+        let at = 2 * pair;
+        let Some(one_more) = with_digit(value, bytes[at]) else {
+            return (value, at);
+        };
+        let Some(two_more) = with_digit(one_more, bytes[at + 1]) else {
+            return (one_more, at + 1);
+        };
+        value = two_more;
     }
-    (value, bytes.len())
+    let paired = bytes.len() / 2 * 2;
+    if paired == bytes.len() {
+        return (value, paired);
+    }
+    match with_digit(value, bytes[paired]) {
+        Some(one_more) => (one_more, paired + 1),
+        None => (value, paired),
+    }
+}
+
+/// The number whose digits are those of this one and, behind them, this byte; or none where the
+/// byte is no digit.
+fn with_digit(number: u64, byte: u8) -> Option<u64>
+    requires { number * 10 + 9 < 2 ^ 64 }
+    ensures { IfSome result (λ more. (48 ≤ byte) × (byte ≤ 57)
+        × (more ≡ number * 10 + (byte - 48))) }
+{
+    // one subtraction serves both bounds: below the digits it wraps to a great number
+    let digit = u64::from(byte).wrapping_sub(u64::from(b'0'));
+    if 9 < digit {
+        return None;
+    }
+    Some(number * 10 + digit)
 }
 
 /// The number whose decimal text the bytes are, or none.
