@@ -12,6 +12,7 @@ pub mod CutPlaces
 pub mod Runs
 pub mod Shown
 pub mod MapVec
+pub mod Groups
 pub mod LineOrdersPlaces
 pub mod LineOrders
 pub mod AnswerForms

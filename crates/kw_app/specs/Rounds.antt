@@ -1,6 +1,9 @@
 -- One block, answered by its workers.
-use Rattle.std.specs.Prelude.{◌≡◌, ℕ, ◌<◌, List, ◌++◌, length, drop, All, IfOk, Vec, slice_index_or}
+use Rattle.std.specs.Prelude.{◌≡◌, ℕ, ◌<◌, List, ◌++◌, length, map, drop, All, IfOk, Ok, Vec, slice_index_or}
+use Rattle.std.specs.List.{flat_map}
+use Rattle.std.specs.declared.alloc.AllocError.{AllocError}
 use Rattle.std.specs.declared.alloc.Global.{Global}
+use Rattle.std.specs.declared.result.Result.{Result}
 use mathlib.Core.List.{IsPrefix}
 use Rattle.kw_laws.specs.SeatCalls.{CallSeen}
 use Rattle.kw_world.specs.declared.event.Event.{Event}
@@ -11,6 +14,7 @@ use Rattle.kw_table.specs.Passes.{view}
 use Rattle.kw_follow.specs.Following.{GoesTo}
 use Rattle.kw_map.specs.declared.kiwi.Kiwi.{Kiwi}
 use Rattle.kw_map.specs.Kiwi.{IsIdle}
+use Rattle.kw_map.specs.Meetings.{AtEach}
 use Rattle.kw_work.specs.declared.line.Line.{Line}
 use Rattle.kw_work.specs.Dealing.{Dealt, part}
 use Rattle.kw_work.specs.Collecting.{answers_of}
@@ -23,6 +27,17 @@ pub record IsDone (m : Kiwi) (b : Dealt) (p : Pass) (d : Done) : Type 0 where
   pub idle : IsIdle m d.pass
   pub goes : GoesTo m p d.pass
   pub works : IfOk d.answers (λ v. Works p d.pass (part b.workers (view p).number b.lines) v.items)
+
+-- so did each of the passes, in their order
+pub record AreDone (m : Kiwi) (b : Dealt) (ps : List Pass) (ds : List Done) : Type 0 where
+  pub len : length ds ≡ length ps
+  pub each : AtEach (IsDone m b) ps ds
+
+-- what passes did that stood in groups, where no group wanted memory: one group after the other
+pub record AreOfGroups (parts : List (Result (Vec Done Global) AllocError)) (ds : List Done) : Type 0 where
+  pub groups : List (Vec Done Global)
+  pub parts_are : parts ≡ map Ok groups
+  pub dones_are : ds ≡ flat_map (λ (group : Vec Done Global). group.items) groups
 
 -- p became q by the lines of the block that are dealt to it, and has these answers
 pub record Worked (m : Kiwi) (b : Dealt) (p q : Pass) (answers : List Answer) : Type 0 where

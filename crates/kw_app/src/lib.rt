@@ -8,11 +8,12 @@
 //! - `replay` makes the text of the replies to an input's lines, `simulating` that of a script, and
 //!   `judging` that of a verdict; `gen_command`, `generate` and `summary` the summary of the
 //!   replies to generated lines. `printed` is what they make, and `crew` has who answers lines.
-//! - `running`, `rounds` and `working` run lines on the concurrent map: all blocks, one block, one
-//!   worker; `kw_ask`, a crate of its own, asks one line. Block after block, each worker answers in
-//!   a thread of its own the lines that are dealt to it; then all passes meet, so that all have
-//!   seen one list of events, and the next block begins. That workers run beside each other is no
-//!   clause, and that a put ends is none: tests show it.
+//! - `running`, `rounds`, `sharing` and `working` run lines on the concurrent map: all blocks, one
+//!   block, its passes, one worker; `kw_ask`, a crate of its own, asks one line. Block after block,
+//!   each worker answers the lines that are dealt to it, in a thread of its own where others have
+//!   lines too; then all passes meet, so that all have seen one list of events, and the next block
+//!   begins. That workers run beside each other is no clause, and that a put ends is none: tests
+//!   show it.
 //! - `outcome` and `fault` say how a run ended, and `faultless` that a run on streams that never
 //!   fail is never told of a fault.
 //!
@@ -33,6 +34,7 @@ mod replay;
 mod rounds;
 pub mod run;
 mod running;
+mod sharing;
 mod simulating;
 mod summary;
 pub mod working;

@@ -1,27 +1,26 @@
 //! One block, answered by all workers beside each other.
 //!
-//! Each pass gets a thread, which takes the lines of the block that are dealt to it and answers
-//! them. When all have ended, the passes meet: all have then seen one list of events. Only after
-//! that are the answers collected, so a block's calls have all ended before anything of a later
-//! one.
+//! Each pass answers the lines of the block that are dealt to it, those that have any in threads
+//! beside each other. When all have ended, the passes meet: all have then seen one list of events.
+//! Only after that are the answers collected, so a block's calls have all ended before anything of
+//! a later one.
 ghost use Rattle.std.specs.Prelude.{◌≡◌, All, IfOk, Ok, vec_len};
 ghost use Rattle.kw_map.specs.Meetings.{AtEach, MeetsAt, front_seen};
 ghost use Rattle.kw_table.specs.Passes.{IsPassOf, opening_of};
 ghost use Rattle.kw_follow.specs.Following.{GoesTo};
-ghost use Rattle.kw_map.specs.Kiwi.{IsIdle};
 ghost use Rattle.kw_work.specs.Dealing.{IsLine};
-ghost use Rattle.kw_app.specs.Rounds.{AreTogether, Grew, IsDone};
+ghost use Rattle.kw_app.specs.Rounds.{AreTogether, Grew};
 
-use crate::working::{Gate, work};
+use crate::sharing::finish_all;
+use crate::working::Gate;
 use kw_line::answer::Answer;
 use kw_map::Pass;
 use kw_map::kiwi::Kiwi;
 use kw_model::memory::Memory;
 use kw_work::block::Block;
 use kw_work::collect::collect;
-use std::alloc::{AllocError, Global};
+use std::alloc::Global;
 use std::sync::Wait;
-use std::thread;
 use std::thread::Threads;
 
 /// What one worker hands back.
@@ -29,35 +28,6 @@ use std::thread::Threads;
 pub(crate) struct Done {
     pub(crate) pass: Pass,
     pub(crate) answers: Result<Vec<Answer>, Memory>,
-}
-
-/// What all passes do, each in a thread of its own.
-fn finish_all<R: Threads + Wait + Sync, G: Gate + Sync>(
-    rt: &R,
-    alloc: Global,
-    kiwi: &Kiwi,
-    block: &Block<'_>,
-    passes: Vec<Pass>,
-    gate: &G,
-) -> Result<Vec<Done>, AllocError>
-    requires idle { All (IsIdle kiwi.now) passes.items }
-    requires lines { All IsLine block.now.lines }
-    ensures len { IfOk result (λ dones. vec_len dones ≡ vec_len passes) }
-    ensures each { IfOk result (λ dones. AtEach (IsDone kiwi.now block.now) passes.items dones.items) }
-{
-    thread::map_vec(
-        rt,
-        passes,
-        &|pass: Pass|
-            requires idle { IsIdle kiwi.now pass }
-            requires lines { All IsLine block.now.lines }
-            ensures { IsDone kiwi.entry.now block.entry.now pass result }
-        {
-            let mut pass = pass;
-            let answers = work(rt, alloc, kiwi, &mut pass, block, gate);
-            Done { pass, answers }
-        },
-    )
 }
 
 /// The passes and the answers, where no worker wanted memory.
@@ -69,8 +39,8 @@ fn parted(alloc: Global, dones: Vec<Done>) -> Result<(Vec<Pass>, Vec<Vec<Answer>
     ensures parts { IfOk result (λ both. AtEach (λ done part. done.answers
         ≡ Ok part) dones.items both.1.items) }
 {
-    let mut passes = Vec::new(alloc);
-    let mut parts = Vec::new(alloc);
+    let mut passes = Vec::with_capacity(alloc, dones.len())?;
+    let mut parts = Vec::with_capacity(alloc, dones.len())?;
     for done in dones {
         let Done { pass, answers } = done;
         let part = answers?;
@@ -93,7 +63,7 @@ fn met(kiwi: &Kiwi, passes: Vec<Pass>) -> Vec<Pass>
 }
 
 /// Answers one block: the passes, which then have all seen one list of events, and the answers in
-/// line order. A block without lines starts no thread.
+/// line order. A block whose lines are all one worker's starts no thread.
 ///
 /// There is a pass for each worker of the block, numbered from 0, and all are idle and have seen
 /// one list, as they are and have afterwards. The only error is the want of memory.

@@ -15,6 +15,7 @@ use kw_map::Pass;
 use kw_map::kiwi::Kiwi;
 use kw_model::memory::Memory;
 use kw_work::block::Block;
+use kw_work::share::share;
 use std::alloc::Global;
 use std::sync::Wait;
 
@@ -61,7 +62,8 @@ pub fn work<R: Wait, G: Gate>(
 {
     let worker = pass.number();
     let workers = block.workers();
-    let mut answers = Vec::with_capacity(alloc, block.len().div_ceil(workers as usize))?;
+    // A pass without lines, as most have in a small block, takes no memory.
+    let mut answers = Vec::with_capacity(alloc, share(block, worker))?;
     for at in 0..block.len() {
         let line = block.line(at);
         if line.worker(workers) == worker {

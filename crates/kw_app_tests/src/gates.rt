@@ -9,17 +9,24 @@ use std::thread;
 // How many turns a worker waits for the other one.
 const TURNS: u32 = 1_000_000;
 
-// The worker 0 before line 1 and the worker 1 before line 2 wait here for each other.
+// The worker 0 before line 1 and the other before line 2 wait here for each other.
 #[derive(Drop)]
 struct Meeting {
+    other: u32,
     first: AtomicU64,
     second: AtomicU64,
     met: AtomicU64,
 }
 
 impl Meeting {
+    // of the workers 0 and 1
     fn new() -> Meeting {
+        Meeting::with(1)
+    }
+
+    fn with(other: u32) -> Meeting {
         Meeting {
+            other,
             first: AtomicU64::new(0),
             second: AtomicU64::new(0),
             met: AtomicU64::new(0),
@@ -40,10 +47,10 @@ impl Meeting {
 
 impl Gate for Meeting {
     fn before(&self, worker: u32, line: u32) {
-        match (worker, line) {
-            (0, 1) => self.wait(&self.first, &self.second),
-            (1, 2) => self.wait(&self.second, &self.first),
-            _ => {}
+        if worker == 0 && line == 1 {
+            self.wait(&self.first, &self.second);
+        } else if worker == self.other && line == 2 {
+            self.wait(&self.second, &self.first);
         }
     }
 
@@ -57,6 +64,17 @@ fn workers_run_beside_each_other(rt: HostRuntime) -> Result<(), Fail> {
     let words = ["replay", "--workers", "2"];
     let ended = ran_past(&rt, rt.alloc(), &words, input, NO_FAULTS, &gate)?;
     expect_end(&rt, &ended, Status::Done, 0, b"ok\nok\n", 0);
+    assert_eq!(rt; gate.met.load(Ordering::SeqCst), 2);
+    Ok(())
+}
+
+#[test]
+fn workers_run_beside_each_other_past_others_without_lines(rt: HostRuntime) -> Result<(), Fail> {
+    let gate = Meeting::with(3);
+    let input = b"put 0 1\nput 3 1\nwait\nget 3\nwait\nget 1\n";
+    let words = ["replay", "--workers", "5"];
+    let ended = ran_past(&rt, rt.alloc(), &words, input, NO_FAULTS, &gate)?;
+    expect_end(&rt, &ended, Status::Done, 0, b"ok\nok\n1\nnone\n", 0);
     assert_eq!(rt; gate.met.load(Ordering::SeqCst), 2);
     Ok(())
 }
