@@ -67,6 +67,11 @@ module _ (call : ℕ → Call) (reply_of : ℕ → Reply) where
   same_value k zs ws s =
       value-went_all k [] (map call zs) (map reply_of zs) ∙ same_shown call reply_of k zs ws None s ∙ sym (value-went_all k [] (map call ws) (map reply_of ws))
 
+  -- lists of lines that are alike for each key leave the same map
+  pub same_map : (zs ws : List ℕ) → ((k : ℕ) → AreAlike call reply_of k zs ws) → map_after [] zs ≡ map_after [] ws
+  same_map zs ws s =
+      same_from_values 0 0 (map_after [] zs) (map_after [] ws) (rises-went_all [] (map call zs) (map reply_of zs) tt) (rises-went_all [] (map call ws) (map reply_of ws) tt) (λ k. same_value k zs ws (s k))
+
   -- lists of lines that are alike for each key leave the same pairs in a range
   pub same_range : (a b : ℕ) (zs ws : List ℕ) → ((k : ℕ) → AreAlike call reply_of k zs ws) → between a b (map_after [] zs) ≡ between a b (map_after [] ws)
   same_range a b zs ws s =

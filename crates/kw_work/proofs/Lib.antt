@@ -15,3 +15,4 @@ pub mod QuietReplies
 pub mod WorkerOrders
 pub mod MadeCalls
 pub mod QuietItems
+pub mod AllKeys

@@ -54,7 +54,7 @@ module _ (n : ℕ) (items : List Item) (rs : List Reply) where
     where
       each : QuietServed (blocks_of n items) rs
       each =
-          quiet_answered (blocks_of n items) rs xs (long ∙ sym long_as) (subst HaveForms (sym (joined-blocks_of n items)) (have_forms n items all)) (subst (λ m. IsOrderOf m xs) (sym long_as) o) keeps
+          quiet_answered (blocks_of n items) rs xs (long ∙ sym long_as) (subst (λ m. IsOrderOf m xs) (sym long_as) o) keeps (subst HaveForms (sym (joined-blocks_of n items)) (have_forms n items all))
           (λ j m s e g u. served j m.form s (form_at j m e) g u) (subst (λ cs. IsLegalIn cs rs xs) (sym calls_are) legal)
 
       l : (l : Line) × (slice_get (joined (blocks_of n items)) i ≡ Some l)

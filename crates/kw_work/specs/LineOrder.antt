@@ -1,13 +1,13 @@
 -- Orders of the lines of an input: the calls and replies in such an order, and what an order keeps
 -- of the order of the lines.
-use Rattle.std.specs.Prelude.{ℕ, ◌≡◌, ◌<◌, ◌≤◌, ◌⊎◌, true, false, IsTrue, All, List, [], map, length, take, get_or, slice_get, Option, Some, None}
+use Rattle.std.specs.Prelude.{ℕ, ◌≡◌, ◌-◌, ◌^◌, ◌<◌, ◌≤◌, ◌⊎◌, true, false, IsTrue, All, List, [], map, length, take, get_or, slice_get, Option, Some, None}
 use Rattle.std.specs.List.{flat_map}
 use Rattle.kw_model.specs.declared.call.Call.{Call}
 use Rattle.kw_model.specs.declared.call.Call.TheVariants as call
 use Rattle.kw_model.specs.declared.call.Reply.{Reply}
 use Rattle.kw_model.specs.declared.call.Reply.TheVariants.{Done}
-use Rattle.kw_model.specs.Map.{answers}
-use Rattle.kw_model.specs.Legal.{IsLegal, may_refuse, is_refusal}
+use Rattle.kw_model.specs.Map.{Pairs, answers}
+use Rattle.kw_model.specs.Legal.{IsLegal, IsRight, may_refuse, is_refusal, went_all}
 use Rattle.kw_line.specs.declared.item.Form.{Form}
 use Rattle.kw_line.specs.declared.item.Item.{Item}
 use Rattle.kw_line.specs.Line.{IsCallOf, calls, forms}
@@ -90,6 +90,24 @@ IsAnswered l r answer = (answer ≡ Some r) ⊎ (IsTrue (is_range l.form) × IsT
 abbrev pub QuietServed : List (List Line) → List Reply → Type 0
 QuietServed blocks rs =
     (i : ℕ) (l : Line) (r : Reply) → slice_get (joined blocks) i ≡ Some l → slice_get rs i ≡ Some r → slice_get (flat_map quiet_lines blocks) i ≡ Some true → IsAnswered l r (slice_get (answers [] (calls_of (joined blocks))) i)
+
+-- the map after all lines, asked in this order. A refusal leaves the map as it is, so this is the
+-- map of the lines that were accepted
+abbrev pub map_in : List Call → List Reply → List ℕ → Pairs
+map_in cs rs xs = went_all [] (map (call_at cs) xs) (map (reply_at rs) xs)
+
+-- the greatest key that a call may have
+abbrev pub greatest_key : ℕ
+greatest_key = 2 ^ 32 - 1
+
+-- the map of the lines above line i that were accepted, in line order
+abbrev pub accepted_above : List Call → List Reply → ℕ → Pairs
+accepted_above cs rs i = went_all [] (take i cs) (take i rs)
+
+-- each quiet line has the reply that the map of the accepted lines above it gives, or was refused
+abbrev pub QuietRight : List (List Line) → List Reply → Type 0
+QuietRight blocks rs =
+    (i : ℕ) (l : Line) (r : Reply) → slice_get (joined blocks) i ≡ Some l → slice_get rs i ≡ Some r → slice_get (flat_map quiet_lines blocks) i ≡ Some true → IsRight (accepted_above (calls_of (joined blocks)) rs i) l.call r
 
 -- Calls that were made, by their numbers, and the lines that they are of.
 

@@ -3,21 +3,21 @@
 //! Nothing runs here: the functions' clauses are the statements. Whoever runs the workers needs
 //! them to speak of an input's lines where the contracts of `deal` and `collect` speak of blocks
 //! and parts.
-ghost use Rattle.std.specs.Prelude.{ℕ, ◌≡◌, ◌<◌, false, List, [], length, map, All, IsPermutation};
+ghost use Rattle.std.specs.Prelude.{ℕ, suc, ◌≡◌, ◌<◌, false, List, [], length, map, slice_get, Some, All, IsPermutation};
 ghost use Rattle.std.specs.List.{flat_map, range_with_len, AllByRecursion};
 ghost use Rattle.kw_model.specs.declared.call.Call.{Call};
 ghost use Rattle.kw_model.specs.declared.call.Reply.{Reply};
-ghost use Rattle.kw_model.specs.Map.{answers};
-ghost use Rattle.kw_model.specs.Legal.{IsLegal, is_refusal};
+ghost use Rattle.kw_model.specs.Map.{answers, between};
+ghost use Rattle.kw_model.specs.Legal.{IsLegal, is_refusal, went, went_all};
 ghost use Rattle.kw_line.specs.declared.item.Item.{Item};
 ghost use Rattle.kw_line.specs.Line.{calls, forms, IsItem};
 ghost use Rattle.kw_line.specs.Quiet.{blocks, quiet};
 ghost use Rattle.kw_work.specs.declared.line.Line.{Line};
 ghost use Rattle.kw_line.specs.declared.answer.Answer.{Answer};
-ghost use Rattle.kw_work.specs.Dealing.{blocks_of, lines_of, part};
+ghost use Rattle.kw_work.specs.Dealing.{blocks_of, lines_of, part, IsLine};
 ghost use Rattle.kw_work.specs.Collecting.{merge, no_answer};
 ghost use Rattle.kw_work.specs.Lines.{all_parts, quiet_lines, IsItemOf, AreRising};
-ghost use Rattle.kw_work.specs.LineOrder.{IsOrderOf, StandsBefore, IsLegalIn, joined, calls_of, KeepsKeys, KeepsWorkers, HaveForms, NoneRefused, QuietServed, NoItemRefused, QuietItemsAnswered, AreOfLines, StandsBeforeBy};
+ghost use Rattle.kw_work.specs.LineOrder.{IsOrderOf, StandsBefore, IsLegalIn, joined, calls_of, map_in, accepted_above, greatest_key, KeepsKeys, KeepsWorkers, HaveForms, NoneRefused, QuietRight, QuietServed, NoItemRefused, QuietItemsAnswered, AreOfLines, StandsBeforeBy};
 
 /// The lines are the items that make calls, in order. The blocks, one after another, are the lines,
 /// cut where the waits stand, and a line is as quiet as its item. The lines of a worker in a block
@@ -84,6 +84,29 @@ pub fn quiet_laws()
         AllByRecursion IsItem items → length rs ≡ length (calls items) →
         IsOrderOf (length (calls items)) xs → KeepsKeys (blocks_of n items) xs →
         NoItemRefused items rs → IsLegalIn (calls items) rs xs → QuietItemsAnswered items rs }
+{}
+
+/// What was accepted, where updates may be refused too. A refusal leaves the map as it is. So in an
+/// order that keeps the blocks and the lines on each key all lines leave the map that the accepted
+/// ones leave in line order; and where the replies are right in it, each quiet line is answered of
+/// the map of the accepted lines above it. What a range line of a block without updates was given
+/// are that map's pairs, and where it asked for all keys they are the whole map. Of the map above
+/// one line that above the next is made by the line's call, unless it was refused.
+pub fn accepted_laws()
+    ensures whole { (blocks : List (List Line)) (rs : List Reply) (xs : List ℕ) →
+        length rs ≡ length (joined blocks) → IsOrderOf (length (joined blocks)) xs →
+        KeepsKeys blocks xs → map_in (calls_of (joined blocks)) rs xs
+        ≡ went_all [] (calls_of (joined blocks)) rs }
+    ensures quiet { (blocks : List (List Line)) (rs : List Reply) (xs : List ℕ) →
+        length rs ≡ length (joined blocks) → HaveForms (joined blocks) →
+        IsOrderOf (length (joined blocks)) xs → KeepsKeys blocks xs →
+        IsLegalIn (calls_of (joined blocks)) rs xs → QuietRight blocks rs }
+    ensures step { (cs : List Call) (rs : List Reply) (i : ℕ) (c : Call) (r : Reply) →
+        slice_get cs i ≡ Some c → slice_get rs i ≡ Some r → accepted_above cs rs (suc i)
+        ≡ went (accepted_above cs rs i) c r }
+    ensures all_keys { (lines : List Line) (rs : List Reply) (i : ℕ) → All IsLine lines →
+        between 0 greatest_key (accepted_above (calls_of lines) rs i)
+        ≡ accepted_above (calls_of lines) rs i }
 {}
 
 /// Calls that were made in some order, each of one line: by their lines this is an order of the

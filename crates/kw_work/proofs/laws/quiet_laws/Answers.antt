@@ -13,6 +13,6 @@ returns c = record {
   answered = λ cs rs none legal. answers_only [] cs rs none legal;
   one_worker = keeps_all;
   keys = keeps_keys;
-  quiet = λ blocks rs xs long forms o keeps served legal. quiet_answered blocks rs xs long forms o keeps served legal;
+  quiet = λ blocks rs xs long forms o keeps served legal. quiet_answered blocks rs xs long o keeps forms served legal;
   items = λ n items rs xs all long o keeps served legal. quiet_items_answered n items rs xs all long o keeps served legal;
 }
