@@ -1,0 +1,4 @@
+pub mod Passes
+pub mod Cuts
+pub mod Ways
+pub mod Coming

@@ -1,0 +1,5 @@
+use Rattle.kiwid.proofs.Coming.{whole}
+use Rattle.kiwid.proofs.session.session.Goals as goal
+
+pub returns-clause-whole : goal.returns-clause-whole
+returns-clause-whole g c = λ bytes. whole _ c.answer_reads.result _ _ _ _ bytes _ _ c.answer_reads.ensures.served c.answer_reads.ensures.read_fault c.answer_reads.ensures.write_fault
