@@ -88,7 +88,7 @@ fn told(before: Local, word: u64) -> Local
 fn at_a_state(alloc: Global) -> Local
     ensures ranges { IsLocal product result }
     ensures room { HasRoom product result }
-    ensures at { result.activity ≡ Activity.Rebalance (Rebalance.Engage Engage.State) }
+    ensures part { part_of Choice.Go result ≡ Part.Rebalance }
 {
     let mut local = Local::idle(alloc);
     local.activity = Activity::Rebalance(Rebalance::Engage(Engage::State));
@@ -97,18 +97,19 @@ fn at_a_state(alloc: Global) -> Local
     local
 }
 
+// What it does next, its row and that row's least key, where the state is this word.
+fn after_state(alloc: Global, word: u64) -> (Activity, u32, u32) {
+    let local = told(at_a_state(alloc), word);
+    (local.activity, local.row, local.lower)
+}
+
 // a leader of one row has the word 3 + 8, and one of two rows 3 + 16
 #[test]
 fn a_leader_of_one_row_is_helped(rt: HostRuntime) {
-    let helping = told(at_a_state(rt.alloc()), 11);
+    let helps = Activity::Rebalance(Rebalance::Engage(Engage::MarkLink(1)));
     assert_eq!(rt;
-        helping.activity,
-        Activity::Rebalance(Rebalance::Engage(Engage::MarkLink(1)))
-    );
-    let anew = told(at_a_state(rt.alloc()), 19);
-    assert_eq!(rt;
-        (anew.activity, anew.row, anew.lower),
-        (Activity::Retry, 0, 0)
+        [after_state(rt.alloc(), 11), after_state(rt.alloc(), 19)],
+        [(helps, 2, 40), (Activity::Retry, 0, 0)]
     );
 }
 
@@ -116,7 +117,7 @@ fn a_leader_of_one_row_is_helped(rt: HostRuntime) {
 fn at_an_entry(alloc: Global) -> Local
     ensures ranges { IsLocal product result }
     ensures room { HasRoom product result }
-    ensures at { result.activity ≡ Activity.Rebalance (Rebalance.Freeze (Freeze.Look 3)) }
+    ensures part { part_of Choice.Go result ≡ Part.Rebalance }
 {
     let mut local = Local::idle(alloc);
     local.activity = Activity::Rebalance(Rebalance::Freeze(Freeze::Look(3)));
@@ -128,15 +129,17 @@ fn at_an_entry(alloc: Global) -> Local
 #[test]
 fn a_stamped_cell_is_remembered(rt: HostRuntime) {
     let local = told(at_an_entry(rt.alloc()), 98_326);
-    assert_eq!(rt;
-        local.activity,
-        Activity::Rebalance(Rebalance::Freeze(Freeze::Look(4)))
-    );
     let mark = Mark {
         cell: 5,
         version: 3,
     };
-    assert_eq!(rt; local.rebalance.marks.as_slice(), [mark].as_slice());
+    assert_eq!(rt;
+        (local.activity, local.rebalance.marks.as_slice()),
+        (
+            Activity::Rebalance(Rebalance::Freeze(Freeze::Look(4))),
+            [mark].as_slice()
+        )
+    );
 }
 
 // A seat has tried to give the version 6 to the scan of the last seat, which waited with the clock
@@ -144,7 +147,7 @@ fn a_stamped_cell_is_remembered(rt: HostRuntime) {
 fn at_a_scan(alloc: Global) -> Local
     ensures ranges { IsLocal product result }
     ensures room { HasRoom product result }
-    ensures at { result.activity ≡ Activity.Rebalance (Rebalance.Freeze (Freeze.Settle 7)) }
+    ensures part { part_of Choice.Go result ≡ Part.Rebalance }
 {
     let mut local = Local::idle(alloc);
     local.activity = Activity::Rebalance(Rebalance::Freeze(Freeze::Settle(7)));
@@ -158,10 +161,12 @@ fn at_a_scan(alloc: Global) -> Local
 fn the_version_of_a_helped_scan_is_needed(rt: HostRuntime) {
     let local = told(at_a_scan(rt.alloc()), 17);
     assert_eq!(rt;
-        local.activity,
-        Activity::Rebalance(Rebalance::Gather(Gather::Link))
+        (local.activity, local.rebalance.needed.as_slice()),
+        (
+            Activity::Rebalance(Rebalance::Gather(Gather::Link)),
+            [6].as_slice()
+        )
     );
-    assert_eq!(rt; local.rebalance.needed.as_slice(), [6].as_slice());
 }
 
 // A seat is about to read the value of the last cell of the full row, of key 45 and version 3, at
@@ -169,7 +174,7 @@ fn the_version_of_a_helped_scan_is_needed(rt: HostRuntime) {
 fn at_the_last_cell(alloc: Global) -> Local
     ensures ranges { IsLocal product result }
     ensures room { HasRoom product result }
-    ensures at { result.activity ≡ Activity.Rebalance (Rebalance.Gather Gather.LeftOverValue) }
+    ensures part { part_of Choice.Go result ≡ Part.Rebalance }
 {
     let mut local = Local::idle(alloc);
     local.activity = Activity::Rebalance(Rebalance::Gather(Gather::LeftOverValue));
@@ -183,36 +188,40 @@ fn at_the_last_cell(alloc: Global) -> Local
 #[test]
 fn the_last_cell_is_kept_in_one_new_row(rt: HostRuntime) {
     let local = told(at_the_last_cell(rt.alloc()), 9_223_372_036_854_775_816);
-    assert_eq!(rt;
-        (
-            local.activity,
-            local.rebalance.sought,
-            local.rebalance.asked
-        ),
-        (Activity::Rebalance(Rebalance::Seek(Seek::First)), 0, 1)
-    );
     let kept = Cell {
         key: 45,
         place: 9,
         version: 3,
         value: Some(8),
     };
-    assert_eq!(rt; local.rebalance.kept.as_slice(), [kept].as_slice());
-    assert_eq!(rt; local.rebalance.starts.as_slice(), [0].as_slice());
+    assert_eq!(rt;
+        (
+            local.activity,
+            (local.rebalance.sought, local.rebalance.asked),
+            local.rebalance.kept.as_slice(),
+            local.rebalance.starts.as_slice()
+        ),
+        (
+            Activity::Rebalance(Rebalance::Seek(Seek::First)),
+            (0, 1),
+            [kept].as_slice(),
+            [0].as_slice()
+        )
+    );
 }
 
 // A seat needs one row, has asked two, of which row 1 was the last, knows the number 6, and does
-// this next.
-fn asking(alloc: Global, activity: Activity) -> Local
-    requires activity { IsActivity product activity }
+// this next of its search.
+fn asking(alloc: Global, seek: Seek) -> Local
+    requires activity { IsActivity product (Activity.Rebalance (Rebalance.Seek seek)) }
     ensures ranges { IsLocal product result }
     ensures room { HasRoom product result }
-    ensures at { result.activity ≡ activity }
+    ensures part { part_of Choice.Go result ≡ Part.Rebalance }
 {
     let mut starts = RowCuts::new();
     starts.push(0);
     let mut local = Local::idle(alloc);
-    local.activity = activity;
+    local.activity = Activity::Rebalance(Rebalance::Seek(seek));
     local.rebalance.starts = Starts::of(starts);
     local.rebalance.sought = 1;
     local.rebalance.asked = 2;
@@ -220,106 +229,94 @@ fn asking(alloc: Global, activity: Activity) -> Local
     local
 }
 
+// What it does then, which row it asks, how many it has asked, and the number that it knows.
+fn after_asking(alloc: Global, seek: Seek, word: u64) -> (Activity, u32, u32, u64)
+    requires { IsActivity product (Activity.Rebalance (Rebalance.Seek seek)) }
+{
+    let local = told(asking(alloc, seek), word);
+    (
+        local.activity,
+        local.rebalance.sought,
+        local.rebalance.asked,
+        local.rebalance.number,
+    )
+}
+
+// The first of the rows that it has taken then, and how many these are.
+fn taken_after_asking(alloc: Global, seek: Seek, word: u64) -> (Option<u32>, usize)
+    requires { IsActivity product (Activity.Rebalance (Rebalance.Seek seek)) }
+{
+    let local = told(asking(alloc, seek), word);
+    let taken = local.rebalance.taken.as_slice();
+    (taken.first().copied(), taken.len())
+}
+
+// The operation that it makes.
+fn asked(alloc: Global, seek: Seek) -> Operation
+    requires { IsActivity product (Activity.Rebalance (Rebalance.Seek seek)) }
+{
+    rebalance_operation(1, &asking(alloc, seek), Choice::Go)
+}
+
+// What goes on with the search.
+fn seeks(seek: Seek) -> Activity {
+    Activity::Rebalance(Rebalance::Seek(seek))
+}
+
 // a free row has the word 0, and a normal one the word 2
 #[test]
 fn a_row_is_taken_where_it_was_free(rt: HostRuntime) {
-    let taking = told(
-        asking(rt.alloc(), Activity::Rebalance(Rebalance::Seek(Seek::Take))),
-        0,
-    );
+    let writes = Activity::Rebalance(Rebalance::Write(Write::Count));
     assert_eq!(rt;
-        taking.activity,
-        Activity::Rebalance(Rebalance::Write(Write::Count))
+        [
+            after_asking(rt.alloc(), Seek::Take, 0),
+            after_asking(rt.alloc(), Seek::Take, 2)
+        ],
+        [(writes, 1, 2, 6), (seeks(Seek::Next), 2, 3, 6)]
     );
-    assert_eq!(rt; taking.rebalance.taken.as_slice(), [1].as_slice());
-    let lost = told(
-        asking(rt.alloc(), Activity::Rebalance(Rebalance::Seek(Seek::Take))),
-        2,
-    );
-    assert_eq!(rt;
-        (lost.activity, lost.rebalance.sought, lost.rebalance.asked),
-        (Activity::Rebalance(Rebalance::Seek(Seek::Next)), 2, 3)
-    );
+    assert_eq!(rt; taken_after_asking(rt.alloc(), Seek::Take, 0), (Some(1), 1));
 }
 
 // a row that was retired with the number 9 has the word 5 + 8 * 9
 #[test]
 fn the_number_of_a_retired_row_is_remembered(rt: HostRuntime) {
-    let local = told(
-        asking(rt.alloc(), Activity::Rebalance(Rebalance::Seek(Seek::Next))),
-        77,
-    );
     assert_eq!(rt;
-        (
-            local.activity,
-            local.rebalance.sought,
-            local.rebalance.number
-        ),
-        (Activity::Rebalance(Rebalance::Seek(Seek::Pass(0))), 1, 9)
+        after_asking(rt.alloc(), Seek::Next, 77),
+        (seeks(Seek::Pass(0)), 1, 2, 9)
     );
 }
 
 // a seat that announces no epoch has the word 0 for its pass, and any other one its epoch
 #[test]
 fn the_pass_of_each_seat_is_looked_at(rt: HostRuntime) {
-    let looking = asking(
-        rt.alloc(),
-        Activity::Rebalance(Rebalance::Seek(Seek::Pass(2))),
-    );
     let load = Operation {
         kind: Kind::LoadPass,
         name: Name::Pass(2),
         action: Action::Load,
     };
-    assert_eq!(rt; rebalance_operation(1, &looking, Choice::Go), load);
-    let quiet = told(looking, 0);
-    let later = told(
-        asking(
-            rt.alloc(),
-            Activity::Rebalance(Rebalance::Seek(Seek::Pass(2))),
-        ),
-        7,
-    );
-    let last = told(
-        asking(
-            rt.alloc(),
-            Activity::Rebalance(Rebalance::Seek(Seek::Pass(7))),
-        ),
-        7,
-    );
+    assert_eq!(rt; asked(rt.alloc(), Seek::Pass(2)), load);
     assert_eq!(rt;
-        [quiet.activity, later.activity, last.activity],
         [
-            Activity::Rebalance(Rebalance::Seek(Seek::Pass(3))),
-            Activity::Rebalance(Rebalance::Seek(Seek::Pass(3))),
-            Activity::Rebalance(Rebalance::Seek(Seek::Reclaim))
+            after_asking(rt.alloc(), Seek::Pass(2), 0),
+            after_asking(rt.alloc(), Seek::Pass(2), 7),
+            after_asking(rt.alloc(), Seek::Pass(7), 7)
+        ],
+        [
+            (seeks(Seek::Pass(3)), 1, 2, 6),
+            (seeks(Seek::Pass(3)), 1, 2, 6),
+            (seeks(Seek::Reclaim), 1, 2, 6)
         ]
     );
 }
 
 #[test]
 fn a_pass_up_to_the_number_keeps_the_row_from_use(rt: HostRuntime) {
-    let kept = told(
-        asking(
-            rt.alloc(),
-            Activity::Rebalance(Rebalance::Seek(Seek::Pass(2))),
-        ),
-        6,
-    );
     assert_eq!(rt;
-        (kept.activity, kept.rebalance.sought, kept.rebalance.asked),
-        (Activity::Rebalance(Rebalance::Seek(Seek::Next)), 2, 3)
-    );
-    let by_the_last = told(
-        asking(
-            rt.alloc(),
-            Activity::Rebalance(Rebalance::Seek(Seek::Pass(7))),
-        ),
-        5,
-    );
-    assert_eq!(rt;
-        by_the_last.activity,
-        Activity::Rebalance(Rebalance::Seek(Seek::Next))
+        [
+            after_asking(rt.alloc(), Seek::Pass(2), 6),
+            after_asking(rt.alloc(), Seek::Pass(7), 5)
+        ],
+        [(seeks(Seek::Next), 2, 3, 6); 2]
     );
 }
 
@@ -327,33 +324,18 @@ fn a_pass_up_to_the_number_keeps_the_row_from_use(rt: HostRuntime) {
 // normal one the word 2
 #[test]
 fn a_row_that_is_freed_is_tried(rt: HostRuntime) {
-    let freeing = asking(
-        rt.alloc(),
-        Activity::Rebalance(Rebalance::Seek(Seek::Reclaim)),
-    );
     let reclaim = Operation {
         kind: Kind::Reclaim,
         name: Name::State(1),
         action: Action::Exchange(53, 0),
     };
-    assert_eq!(rt; rebalance_operation(1, &freeing, Choice::Go), reclaim);
-    let freed = told(freeing, 53);
-    let lost = told(
-        asking(
-            rt.alloc(),
-            Activity::Rebalance(Rebalance::Seek(Seek::Reclaim)),
-        ),
-        2,
-    );
+    assert_eq!(rt; asked(rt.alloc(), Seek::Reclaim), reclaim);
     assert_eq!(rt;
         [
-            (freed.activity, freed.rebalance.sought),
-            (lost.activity, lost.rebalance.sought)
+            after_asking(rt.alloc(), Seek::Reclaim, 53),
+            after_asking(rt.alloc(), Seek::Reclaim, 2)
         ],
-        [
-            (Activity::Rebalance(Rebalance::Seek(Seek::Take)), 1),
-            (Activity::Rebalance(Rebalance::Seek(Seek::Take)), 1)
-        ]
+        [(seeks(Seek::Take), 1, 2, 6); 2]
     );
 }
 
@@ -372,13 +354,13 @@ fn tombstone(key: u32, version: u64) -> Cell
 // A seat has two new rows, 3 and 5, of three kept cells and of one, and does this next, with the
 // first or the second at hand. The full row is row 2, whose least key is 40, and after it stands
 // row 7.
-fn with_new_rows(alloc: Global, activity: Activity, at: usize) -> Local
-    requires activity { IsActivity product activity }
-    requires done { IsTakingRows activity → ⊥ }
+fn with_new_rows(alloc: Global, rebalance: Rebalance, at: usize) -> Local
+    requires activity { IsActivity product (Activity.Rebalance rebalance) }
+    requires done { IsTakingRows (Activity.Rebalance rebalance) → ⊥ }
     requires at { at ≤ 2 }
     ensures ranges { IsLocal product result }
     ensures room { HasRoom product result }
-    ensures at { result.activity ≡ activity }
+    ensures part { part_of Choice.Go result ≡ Part.Rebalance }
 {
     let mut kept = Kept::new();
     kept.push(tombstone(45, 1));
@@ -389,7 +371,7 @@ fn with_new_rows(alloc: Global, activity: Activity, at: usize) -> Local
     starts.push(0);
     starts.push(3);
     let mut local = Local::idle(alloc);
-    local.activity = activity;
+    local.activity = Activity::Rebalance(rebalance);
     local.row = 2;
     local.lower = 40;
     local.rebalance.after = Some(7);
@@ -401,11 +383,12 @@ fn with_new_rows(alloc: Global, activity: Activity, at: usize) -> Local
     local
 }
 
-// What a seat stores by its event.
-fn stored(local: Local) -> Option<(Name, u64)>
-    requires ranges { IsLocal product local }
-    requires part { part_of Choice.Go local ≡ Part.Rebalance }
+// What it stores by its event.
+fn stored(alloc: Global, write: Write, at: usize) -> Option<(Name, u64)>
+    requires activity { IsActivity product (Activity.Rebalance (Rebalance.Write write)) }
+    requires at { at ≤ 2 }
 {
+    let local = with_new_rows(alloc, Rebalance::Write(write), at);
     match rebalance_operation(1, &local, Choice::Go) {
         Operation {
             name,
@@ -421,26 +404,10 @@ fn stored(local: Local) -> Option<(Name, u64)>
 #[test]
 fn a_new_row_is_listed_by_falling_version(rt: HostRuntime) {
     let links = [
-        stored(with_new_rows(
-            rt.alloc(),
-            Activity::Rebalance(Rebalance::Write(Write::First)),
-            0,
-        )),
-        stored(with_new_rows(
-            rt.alloc(),
-            Activity::Rebalance(Rebalance::Write(Write::After(1))),
-            0,
-        )),
-        stored(with_new_rows(
-            rt.alloc(),
-            Activity::Rebalance(Rebalance::Write(Write::After(0))),
-            0,
-        )),
-        stored(with_new_rows(
-            rt.alloc(),
-            Activity::Rebalance(Rebalance::Write(Write::After(2))),
-            0,
-        )),
+        stored(rt.alloc(), Write::First, 0),
+        stored(rt.alloc(), Write::After(1), 0),
+        stored(rt.alloc(), Write::After(0), 0),
+        stored(rt.alloc(), Write::After(2), 0),
     ];
     let wanted = [
         Some((Name::First(3), 2)),
@@ -455,31 +422,11 @@ fn a_new_row_is_listed_by_falling_version(rt: HostRuntime) {
 #[test]
 fn new_rows_are_linked_before_the_row_after_the_full_one(rt: HostRuntime) {
     let words = [
-        stored(with_new_rows(
-            rt.alloc(),
-            Activity::Rebalance(Rebalance::Write(Write::Count)),
-            0,
-        )),
-        stored(with_new_rows(
-            rt.alloc(),
-            Activity::Rebalance(Rebalance::Write(Write::Least)),
-            0,
-        )),
-        stored(with_new_rows(
-            rt.alloc(),
-            Activity::Rebalance(Rebalance::Write(Write::Next)),
-            0,
-        )),
-        stored(with_new_rows(
-            rt.alloc(),
-            Activity::Rebalance(Rebalance::Write(Write::Next)),
-            1,
-        )),
-        stored(with_new_rows(
-            rt.alloc(),
-            Activity::Rebalance(Rebalance::Write(Write::Least)),
-            1,
-        )),
+        stored(rt.alloc(), Write::Count, 0),
+        stored(rt.alloc(), Write::Least, 0),
+        stored(rt.alloc(), Write::Next, 0),
+        stored(rt.alloc(), Write::Next, 1),
+        stored(rt.alloc(), Write::Least, 1),
     ];
     let wanted = [
         Some((Name::Count(3), 3)),
@@ -491,39 +438,50 @@ fn new_rows_are_linked_before_the_row_after_the_full_one(rt: HostRuntime) {
     assert_eq!(rt; words, wanted);
 }
 
+// A seat that is about to link its new rows in place of the full one.
+fn linking(alloc: Global) -> Local
+    ensures ranges { IsLocal product result }
+    ensures room { HasRoom product result }
+    ensures part { part_of Choice.Go result ≡ Part.Rebalance }
+{
+    with_new_rows(alloc, Rebalance::Replace(Replace::Exchange), 0)
+}
+
+// The operation by which it links them.
+fn links_by(alloc: Global) -> Operation {
+    rebalance_operation(1, &linking(alloc), Choice::Go)
+}
+
+// What it does once that has met this word, in a table of nine rows, which of the new rows is at
+// hand, and what follows once they are given back.
+fn after_linking(alloc: Global, word: u64) -> (Activity, usize, Afterwards) {
+    let mut local = linking(alloc);
+    rebalance_resume(&mut local, 9, Choice::Go, word);
+    (
+        local.activity,
+        local.rebalance.at,
+        local.rebalance.afterwards,
+    )
+}
+
 // an unmarked link to the full row has the word 3, and a marked one 2^32 more
 #[test]
 fn new_rows_are_made_normal_once_they_are_linked(rt: HostRuntime) {
-    let mut linked = with_new_rows(
-        rt.alloc(),
-        Activity::Rebalance(Rebalance::Replace(Replace::Exchange)),
-        0,
-    );
     let replace = Operation {
         kind: Kind::Replace,
         name: Name::Head,
         action: Action::Exchange(3, 4),
     };
-    assert_eq!(rt; rebalance_operation(1, &linked, Choice::Go), replace);
-    rebalance_resume(&mut linked, 9, Choice::Go, 3);
+    assert_eq!(rt; links_by(rt.alloc()), replace);
+    let normalises = Activity::Rebalance(Rebalance::Replace(Replace::Normalise));
     assert_eq!(rt;
-        (linked.activity, linked.rebalance.at),
-        (
-            Activity::Rebalance(Rebalance::Replace(Replace::Normalise)),
-            0
-        )
-    );
-    let mut lost = with_new_rows(
-        rt.alloc(),
-        Activity::Rebalance(Rebalance::Replace(Replace::Exchange)),
-        0,
-    );
-    rebalance_resume(&mut lost, 9, Choice::Go, 4_294_967_299);
-    assert_eq!(rt;
-        (lost.activity, lost.rebalance.afterwards),
-        (
-            Activity::Rebalance(Rebalance::Seek(Seek::GiveBack)),
-            Afterwards::MoveLeft
-        )
+        [
+            after_linking(rt.alloc(), 3),
+            after_linking(rt.alloc(), 4_294_967_299)
+        ],
+        [
+            (normalises, 0, Afterwards::TryAgain),
+            (seeks(Seek::GiveBack), 0, Afterwards::MoveLeft)
+        ]
     );
 }

@@ -1,4 +1,13 @@
 //! Places and words against numbers that were computed apart from the crate of the words.
+//!
+//! The words, and what they stand for, are asked without the clauses of the functions that give
+//! them: the tests need not know these, and else the proof of a test carries those of all its
+//! calls.
+ghost use Rattle.kw_words.specs.Link.{IsLink};
+ghost use Rattle.kw_words.specs.Pend.{IsPend};
+ghost use Rattle.kw_words.specs.Scan.{IsScan};
+ghost use Rattle.kw_words.specs.State.{IsState};
+
 use kw_words::count::Count;
 use kw_words::kind::{KINDS, Kind};
 use kw_words::layout::{Layout, Name};
@@ -76,8 +85,78 @@ fn last_words_of_the_largest_table_lie_in_place(rt: HostRuntime) {
     }
 }
 
+fn entry_word(entry: Pend) -> u64
+    requires { IsPend entry }
+{
+    entry.pack()
+}
+
+fn state_word(state: State) -> u64
+    requires { IsState state }
+{
+    state.pack()
+}
+
+fn link_word(link: Link) -> u64
+    requires { IsLink link }
+{
+    link.pack()
+}
+
+fn count_word(count: Count) -> u64 {
+    count.pack()
+}
+
+fn scan_word(scan: ScanWord) -> u64
+    requires { IsScan scan }
+{
+    scan.pack()
+}
+
+fn entry_of(word: u64) -> Option<Pend> {
+    Pend::unpack(word)
+}
+
+fn state_of(word: u64) -> Option<State> {
+    State::unpack(word)
+}
+
+fn link_of(word: u64) -> Option<Link> {
+    Link::unpack(word)
+}
+
+fn count_of(word: u64) -> Option<Count> {
+    Count::unpack(word)
+}
+
+fn scan_of(word: u64) -> Option<ScanWord> {
+    ScanWord::unpack(word)
+}
+
 #[test]
-fn values_have_their_words(rt: HostRuntime) {
+fn entries_and_states_have_their_words(rt: HostRuntime) {
+    let words = [
+        (entry_word(Pend::Pending(5)), 21),
+        (entry_word(Pend::Stamped(5, 9)), 294_934),
+        (
+            entry_word(Pend::Stamped(127, VERSION_END - 1)),
+            18_446_744_073_709_519_358,
+        ),
+        (state_word(State::Infant(15)), 121),
+        (state_word(State::Leader(2)), 19),
+        (state_word(State::Follower(65_535)), 524_284),
+        (
+            state_word(State::Retired(NUMBER_END - 1)),
+            4_503_599_627_370_493,
+        ),
+    ];
+    for (word, wanted) in words {
+        assert_eq!(rt; word, wanted);
+    }
+}
+
+#[test]
+fn links_counts_and_scans_have_their_words(rt: HostRuntime) {
     let last = Link {
         row: Some(65_535),
         marked: true,
@@ -87,23 +166,22 @@ fn values_have_their_words(rt: HostRuntime) {
         frozen: true,
     };
     let words = [
-        (Pend::Pending(5).pack(), 21),
-        (Pend::Stamped(5, 9).pack(), 294_934),
+        (link_word(last), 4_295_032_832),
+        (count_word(frozen), 4_294_967_366),
         (
-            Pend::Stamped(127, VERSION_END - 1).pack(),
-            18_446_744_073_709_519_358,
-        ),
-        (State::Infant(15).pack(), 121),
-        (State::Leader(2).pack(), 19),
-        (State::Follower(65_535).pack(), 524_284),
-        (State::Retired(NUMBER_END - 1).pack(), 4_503_599_627_370_493),
-        (last.pack(), 4_295_032_832),
-        (frozen.pack(), 4_294_967_366),
-        (
-            ScanWord::Waiting(VERSION_END - 1).pack(),
+            scan_word(ScanWord::Waiting(VERSION_END - 1)),
             2_251_799_813_685_245,
         ),
-        (ScanWord::Drawn(3).pack(), 14),
+        (scan_word(ScanWord::Drawn(3)), 14),
+    ];
+    for (word, wanted) in words {
+        assert_eq!(rt; word, wanted);
+    }
+}
+
+#[test]
+fn plain_values_have_their_words(rt: HostRuntime) {
+    let words = [
         (plain::pack_value(Some(7)), 9_223_372_036_854_775_815),
         (plain::pack_value(None), 0),
         (plain::pack_cell_link(Some(127)), 128),
@@ -117,22 +195,42 @@ fn values_have_their_words(rt: HostRuntime) {
 }
 
 #[test]
-fn words_of_nothing_are_refused(rt: HostRuntime) {
+fn words_of_no_entry_are_refused(rt: HostRuntime) {
     for word in [2, 4, 7, 510, 513, 514, 32_771, 33_282, 1 << 63, u64::MAX] {
-        assert_eq!(rt; Pend::unpack(word), None, "entry {word}");
+        assert_eq!(rt; entry_of(word), None, "entry {word}");
     }
+}
+
+#[test]
+fn words_of_no_state_are_refused(rt: HostRuntime) {
     for word in [5, 6, 7, 8, 10, 27, 129, 524_292, 4_503_599_627_370_501] {
-        assert_eq!(rt; State::unpack(word), None, "state {word}");
+        assert_eq!(rt; state_of(word), None, "state {word}");
     }
+}
+
+#[test]
+fn words_of_no_link_are_refused(rt: HostRuntime) {
     for word in [65_537, 4_294_967_295, 4_295_032_833, 8_589_934_592] {
-        assert_eq!(rt; Link::unpack(word), None, "link {word}");
+        assert_eq!(rt; link_of(word), None, "link {word}");
     }
+}
+
+#[test]
+fn words_of_no_count_are_refused(rt: HostRuntime) {
     for word in [8_589_934_592, u64::MAX] {
-        assert_eq!(rt; Count::unpack(word), None, "count {word}");
+        assert_eq!(rt; count_of(word), None, "count {word}");
     }
+}
+
+#[test]
+fn words_of_no_cell_are_refused(rt: HostRuntime) {
     for word in [129, 4_294_967_297, u64::MAX] {
         assert_eq!(rt; plain::unpack_cell_link(word), None, "cell {word}");
     }
+}
+
+#[test]
+fn words_of_no_scan_are_refused(rt: HostRuntime) {
     for word in [
         1,
         2,
@@ -143,12 +241,12 @@ fn words_of_nothing_are_refused(rt: HostRuntime) {
         2_251_799_813_685_249,
         2_251_799_813_685_250,
     ] {
-        assert_eq!(rt; ScanWord::unpack(word), None, "scan {word}");
+        assert_eq!(rt; scan_of(word), None, "scan {word}");
     }
 }
 
 #[test]
-fn entries_and_states_are_read_back(rt: HostRuntime) {
+fn entries_are_read_back(rt: HostRuntime) {
     let entries = [
         (294_934, Pend::Stamped(5, 9)),
         (0, Pend::Idle),
@@ -156,8 +254,12 @@ fn entries_and_states_are_read_back(rt: HostRuntime) {
         (3, Pend::Frozen),
     ];
     for (word, entry) in entries {
-        assert_eq!(rt; Pend::unpack(word), Some(entry), "entry {word}");
+        assert_eq!(rt; entry_of(word), Some(entry), "entry {word}");
     }
+}
+
+#[test]
+fn states_are_read_back(rt: HostRuntime) {
     let states = [
         (0, State::Free),
         (121, State::Infant(15)),
@@ -167,12 +269,12 @@ fn entries_and_states_are_read_back(rt: HostRuntime) {
         (61, State::Retired(7)),
     ];
     for (word, state) in states {
-        assert_eq!(rt; State::unpack(word), Some(state), "state {word}");
+        assert_eq!(rt; state_of(word), Some(state), "state {word}");
     }
 }
 
 #[test]
-fn words_are_read_back(rt: HostRuntime) {
+fn links_are_read_back(rt: HostRuntime) {
     let end = Link {
         row: None,
         marked: true,
@@ -182,20 +284,28 @@ fn words_are_read_back(rt: HostRuntime) {
         marked: false,
     };
     for (word, link) in [(4_294_967_296, end), (65_536, last)] {
-        assert_eq!(rt; Link::unpack(word), Some(link), "link {word}");
+        assert_eq!(rt; link_of(word), Some(link), "link {word}");
     }
+}
+
+#[test]
+fn counts_are_read_back(rt: HostRuntime) {
     let frozen = Count {
         given: 4_294_967_295,
         frozen: true,
     };
-    assert_eq!(rt; Count::unpack(8_589_934_591), Some(frozen));
+    assert_eq!(rt; count_of(8_589_934_591), Some(frozen));
+}
+
+#[test]
+fn scans_are_read_back(rt: HostRuntime) {
     let scans = [
         (0, ScanWord::Quiet),
         (14, ScanWord::Drawn(3)),
         (5, ScanWord::Waiting(1)),
     ];
     for (word, scan) in scans {
-        assert_eq!(rt; ScanWord::unpack(word), Some(scan), "scan {word}");
+        assert_eq!(rt; scan_of(word), Some(scan), "scan {word}");
     }
 }
 
@@ -210,6 +320,10 @@ fn plain_words_are_read_back(rt: HostRuntime) {
     for (number, wanted) in numbers {
         assert_eq!(rt; number, wanted);
     }
+}
+
+#[test]
+fn links_to_cells_and_keys_are_read_back(rt: HostRuntime) {
     assert_eq!(rt;
         (
             plain::unpack_cell_link(128),
@@ -230,7 +344,15 @@ fn kinds_have_their_names(rt: HostRuntime) {
     for (name, wanted) in names {
         assert_eq!(rt; name, wanted);
     }
+}
+
+#[test]
+fn kinds_are_numbered(rt: HostRuntime) {
     assert_eq!(rt; (KINDS.len(), Kind::Insert.place()), (47, 46));
+}
+
+#[test]
+fn kinds_are_found_by_their_names(rt: HostRuntime) {
     let kinds = [
         ("store_after", Some(Kind::StoreAfter)),
         ("freeze_count", Some(Kind::FreezeCount)),
