@@ -13,7 +13,7 @@ use Rattle.kw_world.specs.declared.activity.Activity.{Activity}
 use Rattle.kw_world.specs.declared.activity.rebalance.freeze.Freeze.TheVariants as Freeze
 use Rattle.kw_world.specs.declared.activity.rebalance.gather.Gather.TheVariants as Gather
 use Rattle.kw_world.specs.declared.activity.rebalance.Rebalance.TheVariants as Rebalance
-use Rattle.kw_world.specs.declared.activity.rebalance.write.Write.TheVariants as Write
+use Rattle.kw_world.specs.declared.activity.rebalance.write.Write.{Write}
 use Rattle.kw_world.specs.declared.event.Choice.TheVariants.{Go}
 use Rattle.kw_world.specs.declared.local.Local.{Local}
 use Rattle.kw_world.specs.declared.operation.Action.TheVariants.{Load}
@@ -58,8 +58,8 @@ module _ (s : Shared) (p : Pass) (l : Local) (f : Follows s p l) where
   needed_few a is most = subst (λ n. length l.rebalance.needed ≤ n) most (subst (λ b. length l.rebalance.needed ≤ needed_by product b) is (follows_room s p l f).rebalance.needed)
 
   -- the kept cells rise where a row is written
-  pub kept_rises : (j : ℕ) → l.activity ≡ Activity.Rebalance (Rebalance.Write (Write.After j)) → AreRising l.rebalance.kept
-  kept_rises j is = subst (λ (k : Local). AreRising k.rebalance.kept) (sym f.carries) (subst AreRising (sym kept) (kept_of-rising seat.rebalance.gathered seat.rebalance.needed))
+  pub kept_rises : (w : Write) → l.activity ≡ Activity.Rebalance (Rebalance.Write w) → AreRising l.rebalance.kept
+  kept_rises w is = subst (λ (k : Local). AreRising k.rebalance.kept) (sym f.carries) (subst AreRising (sym kept) (kept_of-rising seat.rebalance.gathered seat.rebalance.needed))
     where
       seat : Local
       seat = local_in (view p)

@@ -6,3 +6,5 @@ pub mod Within
 pub mod Cursors
 pub mod Ways
 pub mod Reaching
+pub mod BuildsOn
+pub mod Searches

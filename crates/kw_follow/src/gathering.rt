@@ -1,19 +1,15 @@
-//! The events that freeze a full row and gather its cells, each by its own step of the table.
+//! The events that freeze a full row and gather the cells that were not met in its list, each by
+//! its own step of the table.
 //!
 //! A rebalance looks at each entry of the full row, and freezes it where no version is stamped
-//! there; it looks at each scan; and then it goes along the row's list, with four events for each
-//! cell, as a reader does who gathers all. What the local does next says which step it is, as in
-//! `putting`; `building` asks for it.
+//! there; it looks at each scan; and then it goes along the row's list, as `row_gathering` says.
+//! What it remembers of the entries and did not meet there it reads after it. What the local does
+//! next says which step it is, as in `putting`; `building` asks for it.
 ghost use Rattle.kw_follow.specs.Moving.{FollowsAt, Moves};
 
-use kw_step_put::operation::link_name;
 use kw_step_rebal::resume_freeze::{entry_tried, look, scan};
-use kw_step_rebal::resume_take::{
-    rest_value, take_from, take_key, take_rest_key, take_value, take_version,
-};
-use kw_table::{
-    Pass, Shared, freeze_pend, load_after, load_key, load_pend, load_scan, load_value, load_version,
-};
+use kw_step_rebal::resume_take::{rest_value, take_rest_key};
+use kw_table::{Pass, Shared, freeze_pend, load_key, load_pend, load_scan, load_value};
 use kw_words::layout::Name;
 use kw_words::pend::Pend;
 use kw_world::activity::Activity;
@@ -73,54 +69,6 @@ pub(crate) fn look_at_scan(
 {
     let told = load_scan(shared, pass, Choice::Go, Name::Scan(seat));
     scan(local, seat, told)
-}
-
-// Loads the link at which the rebalance stands.
-#[inline(always)]
-pub(crate) fn load_link(shared: &Shared, pass: &mut Pass, local: &mut Local) -> StepDone
-    requires { FollowsAt shared.now pass.old local.old
-        (Activity.Rebalance (Rebalance.Gather Gather.Link)) }
-    ensures { Moves shared.now pass.old local.old Choice.Go pass.new local.new result }
-{
-    let link = link_name(local.row, local.link);
-    let told = load_after(shared, pass, Choice::Go, link);
-    take_from(local, told)
-}
-
-// Loads the key of the cell that it has met.
-#[inline(always)]
-pub(crate) fn load_met_key(shared: &Shared, pass: &mut Pass, local: &mut Local) -> StepDone
-    requires { FollowsAt shared.now pass.old local.old
-        (Activity.Rebalance (Rebalance.Gather Gather.Key)) }
-    ensures { Moves shared.now pass.old local.old Choice.Go pass.new local.new result }
-{
-    let key = Name::Key(local.row, local.place);
-    let told = load_key(shared, pass, Choice::Go, key);
-    take_key(local, told)
-}
-
-// Loads the version of that cell.
-#[inline(always)]
-pub(crate) fn load_met_version(shared: &Shared, pass: &mut Pass, local: &mut Local) -> StepDone
-    requires { FollowsAt shared.now pass.old local.old
-        (Activity.Rebalance (Rebalance.Gather Gather.Version)) }
-    ensures { Moves shared.now pass.old local.old Choice.Go pass.new local.new result }
-{
-    let version = Name::Version(local.row, local.place);
-    let told = load_version(shared, pass, Choice::Go, version);
-    take_version(local, told)
-}
-
-// Loads the value of that cell, which is gathered.
-#[inline(always)]
-pub(crate) fn load_met_value(shared: &Shared, pass: &mut Pass, local: &mut Local) -> StepDone
-    requires { FollowsAt shared.now pass.old local.old
-        (Activity.Rebalance (Rebalance.Gather Gather.Value)) }
-    ensures { Moves shared.now pass.old local.old Choice.Go pass.new local.new result }
-{
-    let value = Name::Value(local.row, local.place);
-    let told = load_value(shared, pass, Choice::Go, value);
-    take_value(local, told)
 }
 
 // Loads the key of a remembered cell that was not met.

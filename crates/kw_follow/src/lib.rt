@@ -8,9 +8,10 @@
 //! guessed row, `go_draw` those by which a scan gets its version, `go_put` those of a put at its
 //! row, `Cursor` those of a reader along the list of its row and of a put that passes cells there,
 //! `go_remembered` those at the cells that a reader remembers and did not meet there, and
-//! `go_build` those of a rebalance, most of which gather the full row and write the new ones: each
-//! by its own step of the table. A get that meets nothing on its way leaves its local at rest and
-//! goes by a `Way`, which `end_resting` ends.
+//! `go_build` those of a rebalance that freeze the full row and take free ones: each by its own
+//! step of the table. A rebalance gathers the full row by `meet_next` and `gather_cell`, asks rows
+//! by a `Search`, and writes a new row by `write_row`, many events at once. A get that meets
+//! nothing on its way leaves its local at rest and goes by a `Way`, which `end_resting` ends.
 //!
 //! `specs/Following.antt` says what it is to follow a pass and what it is that a pass went on,
 //! `specs/Calling.antt` how the calls of a pass go on, and `specs/OwnEvents.antt` which events it
@@ -26,8 +27,10 @@ mod gathering;
 mod going;
 mod putting;
 mod reading;
+mod row_gathering;
+mod row_writing;
+mod seeking;
 mod way;
-mod writing;
 
 pub use along::{
     go_along, go_guess, go_guess_min, load_entry, load_row_least, load_row_link, meet_entry,
@@ -39,4 +42,7 @@ pub use drawing::go_draw;
 pub use going::{begin, clear, end, go};
 pub use putting::{go_put, meet_insert_key, meet_insert_link};
 pub use reading::{go_remembered, go_to_rest};
+pub use row_gathering::{gather_cell, meet_next};
+pub use row_writing::write_row;
+pub use seeking::{Search, is_in_use};
 pub use way::{Way, end_resting};

@@ -1,32 +1,89 @@
--- A rebalance that gathers the full row or writes a new one goes on by each event.
-use Rattle.std.proofs.Common.{◌∙◌, refl, subst}
+-- A rebalance that gathers the full row, seeks free ones or writes a new one goes on by each
+-- stretch of such events.
+use Rattle.std.proofs.Common.{◌≡◌, ℕ, ◌∙◌, ap, refl, subst, sym}
 use Rattle.kw_world.specs.declared.activity.Activity.{Activity}
 use Rattle.kw_world.specs.declared.activity.rebalance.Rebalance.TheVariants as Rebalance
+use Rattle.kw_world.specs.declared.activity.rebalance.replace.Replace.TheVariants as Replace
+use Rattle.kw_world.specs.declared.activity.rebalance.seek.Seek.TheVariants as Seek
 use Rattle.kw_world.specs.declared.event.Choice.TheVariants.{Go}
+use Rattle.kw_world.specs.declared.event.StepDone.{StepDone}
 use Rattle.kw_world.specs.declared.local.Local.{Local}
+use Rattle.kw_world.specs.Sizes.{product}
+use Rattle.kw_world.specs.Step.{next_of}
+use Rattle.kw_world.specs.Transition.{outcome}
 use Rattle.kw_table.specs.declared.pass.Pass.{Pass}
 use Rattle.kw_table.specs.declared.shared.Shared.{Shared}
-use Rattle.kw_table.specs.Passes.{view}
-use Rattle.kw_follow.specs.Following.{held}
+use Rattle.kw_table.specs.Passes.{view, Makes}
+use Rattle.kw_follow.specs.declared.seeking.Search.{Search}
+use Rattle.kw_follow.specs.BuildsOn.{Builds, IsBuildingOn}
+use Rattle.kw_follow.specs.Following.{Follows}
 use Rattle.kw_follow.specs.Moving.{WentOn}
-use Rattle.kw_follow.specs.Within.{IsWithinCall}
+use Rattle.kw_follow.specs.Searches.{seeking_at}
+use Rattle.kw_follow.proofs.Moving.{moves, went_on}
 use Rattle.kw_follow.proofs.OwnEvents.{goes_trans}
-use Rattle.kw_live_rebal.specs.Standing.{GoesOn, IsBuilding}
+use Rattle.kw_live_rebal.specs.Standing.{GoesOn, HasMet, Rebalances}
+use Rattle.kw_live_rebal.proofs.Meets.{search_on}
 use Rattle.kw_live_rebal.proofs.Stages.{keeps_met, stays_untidied}
 
--- each of its events is one in the middle of a call
-pub building_within : (a : Activity) → IsBuilding a → IsWithinCall a
-building_within (Activity.Rebalance (Rebalance.Gather _)) h = tt
-building_within (Activity.Rebalance (Rebalance.Write _)) h = tt
-building_within _ h = absurd h
+-- nothing was to be met where it stands after a stretch
+built_met : (o q : Pass) (a : Activity) (m : Local) → IsBuildingOn a → HasMet o q a m
+built_met o q (Activity.Rebalance (Rebalance.Gather _)) m h = tt
+built_met o q (Activity.Rebalance (Rebalance.Write _)) m h = tt
+built_met o q (Activity.Rebalance (Rebalance.Seek Seek.First)) m h = tt
+built_met o q (Activity.Rebalance (Rebalance.Replace Replace.Start)) m h = tt
+built_met o q _ m h = absurd h
 
--- one event goes on
-pub event_goes_on : {s : Shared} {p q : Pass} {l m : Local} → WentOn s p l Go q m → IsBuilding l.activity → GoesOn s p l q m
-event_goes_on {s} {p} {q} {l} {m} w building o r = record {
-  goes = goes_trans _ _ _ _ r.goes w.goes;
-  follows = w.follows;
-  calls = w.calls ∙ r.calls;
-  held = w.held refl ∙ r.held;
-  met = keeps_met s o p q l m Go (view p).opening.rows w.told r.goes w.goes w.met w.line r.untidied r.met (λ is. subst IsBuilding is building) (λ is. subst IsBuilding is building) (λ x is. subst IsBuilding is building);
-  untidied = stays_untidied o p l m Go (view p).opening.rows w.told w.line r.met (λ is. subst IsBuilding is building) (λ x is. subst IsBuilding is building) r.untidied;
+-- the full row was gathered, or a new one written
+pub stretch_goes_on : {s : Shared} {p q : Pass} {l m : Local} → Builds s p q m → m.tidies ≡ l.tidies → IsBuildingOn m.activity → GoesOn s p l q m
+stretch_goes_on {s} {p} {q} {l} {m} b tidies stands o r = record {
+  goes = goes_trans _ _ _ _ r.goes b.reaches.goes;
+  follows = b.reaches.follows;
+  calls = b.reaches.calls ∙ r.calls;
+  held = b.held ∙ r.held;
+  met = built_met o q m.activity m stands;
+  untidied = tidies ∙ r.untidied;
 }
+
+-- rows in use were passed over
+pub search_goes_on : {s : Shared} {p q : Pass} {l : Local} (x : Search) → l.activity ≡ Activity.Rebalance (Rebalance.Seek Seek.Next) → Builds s p q (seeking_at x l) → GoesOn s p l q (seeking_at x l)
+search_goes_on {s} {p} {q} {l} x is b o r = record {
+  goes = goes_trans _ _ _ _ r.goes b.reaches.goes;
+  follows = b.reaches.follows;
+  calls = b.reaches.calls ∙ r.calls;
+  held = b.held ∙ r.held;
+  met = search_on o b.reaches.goes (subst (λ a. HasMet o p a l) is r.met);
+  untidied = r.untidied;
+}
+
+-- The row with which a stretch ends.
+
+-- it asks for a state, and does nothing else
+abbrev IsElsewhere : Activity → Type 0
+IsElsewhere (Activity.Rebalance (Rebalance.Seek Seek.Next)) = ⊥
+IsElsewhere _ = Unit {0}
+
+seeks_no_more : (a : Activity) → Activity.Rebalance (Rebalance.Seek Seek.Next) ≡ a → IsElsewhere a → ⊥
+seeks_no_more a e h = subst IsElsewhere (sym e) h
+
+module _ {s : Shared} {p q r : Pass} {told : ℕ} (x : Search) (l k m : Local) (done : StepDone) (rows : ℕ) (is : l.activity ≡ Activity.Rebalance (Rebalance.Seek Seek.Next)) (same : k ≡ l) (counts : rows ≡ s.opening.rows) (b : Builds s p q (seeking_at x k)) (makes : Makes s q Go told r) (line : outcome m done ≡ next_of product rows Go (seeking_at x k) told) where
+  before : Builds s p q (seeking_at x l)
+  before = subst (λ (n : Local). Builds s p q (seeking_at x n)) same b
+
+  row_went : WentOn s q (seeking_at x l) Go r m
+  row_went = went_on before.reaches.follows tt (moves makes (line ∙ (ap (λ (n : Local). next_of product rows Go (seeking_at x n) told) same ∙ ap (λ n. next_of product n Go (seeking_at x l) told) counts)))
+
+  pub row_follows : Follows s r m
+  row_follows = row_went.follows
+
+  pub row_goes_on : GoesOn s p l r m
+  row_goes_on o u =
+      let v : Rebalances s o q (seeking_at x l) = search_goes_on x is before o u in
+      let w : WentOn s q (seeking_at x l) Go r m = row_went in
+      record {
+        goes = goes_trans _ _ _ _ v.goes w.goes;
+        follows = w.follows;
+        calls = w.calls ∙ v.calls;
+        held = w.held refl ∙ v.held;
+        met = keeps_met s o q r (seeking_at x l) m Go (view q).opening.rows w.told v.goes w.goes w.met w.line v.untidied v.met (λ e. seeks_no_more (Activity.Rebalance (Rebalance.Replace Replace.Normalise)) e tt) (λ e. seeks_no_more Activity.Retry e tt) (λ y e. seeks_no_more (Activity.Leave y) e tt);
+        untidied = stays_untidied o q (seeking_at x l) m Go (view q).opening.rows w.told w.line v.met (λ e. seeks_no_more Activity.Retry e tt) (λ y e. seeks_no_more (Activity.Leave y) e tt) v.untidied;
+      }

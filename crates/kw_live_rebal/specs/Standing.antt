@@ -51,9 +51,3 @@ pub record Rebalances (s : Shared) (o p : Pass) (l : Local) : Type 0 where
 -- other
 abbrev pub GoesOn : Shared → Pass → Local → Pass → Local → Type 0
 GoesOn s p l q m = (o : Pass) → Rebalances s o p l → Rebalances s o q m
-
--- it gathers the cells of the full row, or writes a new one
-abbrev pub IsBuilding : Activity → Type 0
-IsBuilding (Activity.Rebalance (Rebalance.Gather _)) = Unit {0}
-IsBuilding (Activity.Rebalance (Rebalance.Write _)) = Unit {0}
-IsBuilding _ = ⊥

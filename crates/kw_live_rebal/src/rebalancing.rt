@@ -14,7 +14,7 @@ ghost use Rattle.kw_live_rebal.specs.Rebalancing.{HasEnded, stands_after};
 
 use crate::guessing::guess;
 use crate::publishing::tell_index;
-use crate::stretches::{gather_row, write_row};
+use crate::stretches::{gather_row, seek_row, write_new_row};
 use kw_follow::{go, go_build};
 use kw_index::hints::Hints;
 use kw_index::index::Index;
@@ -86,8 +86,9 @@ pub fn rebalance<R: Wait>(
                 if begins_gathering(&local.activity) {
                     gather_row(rt, shared, pass, local);
                 } else if begins_row(&local.activity) {
-                    warm_new_row(shared, local);
-                    write_row(rt, shared, pass, local);
+                    write_new_row(shared, pass, local);
+                } else if asks_on(&local.activity) {
+                    seek_row(shared, pass, local);
                 } else {
                     let choice = choice_at(shared, local, index, hints);
                     go_on(shared, pass, local, choice);
@@ -132,6 +133,17 @@ fn begins_row(activity: &Activity) -> bool
     }
 }
 
+// Whether the next event asks another row for its state.
+#[inline(always)]
+fn asks_on(activity: &Activity) -> bool
+    ensures { result ≡ true → activity.now ≡ Activity.Rebalance (Rebalance.Seek Seek.Next) }
+{
+    match activity {
+        Activity::Rebalance(Rebalance::Seek(Seek::Next)) => true,
+        _ => false,
+    }
+}
+
 // Makes the next event with this choice. Where that is `Go`, the frequent events are made by steps
 // of their own.
 #[inline(always)]
@@ -143,15 +155,6 @@ fn go_on(shared: &Shared, pass: &mut Pass, local: &mut Local, choice: Choice)
     match choice {
         Choice::Go => go_build(shared, pass, local),
         _ => go(shared, pass, local, choice),
-    }
-}
-
-// The new row whose words are written next is loaded first: it may lie far away, and each word is
-// written by one step.
-#[inline(always)]
-fn warm_new_row(shared: &Shared, local: &Local) {
-    if let Some(row) = local.rebalance.taken.as_slice().get(local.rebalance.at) {
-        shared.warm_whole(*row);
     }
 }
 

@@ -1,82 +1,80 @@
 //! The stretches of a rebalance in which many events alike follow each other: it gathers the cells
-//! of the full row, and writes the words of a new one.
+//! of the full row, asks row after row for its state, and writes the words of a new row.
 //!
-//! A split makes some hundreds of such events. Between two of them nothing is asked but which of
-//! the stretch is the next one, which is what makes a rebalance fast; `rebalancing` asks what else
-//! is to be done before and after.
-ghost use Rattle.std.specs.Prelude.{◌≡◌, true};
+//! A split makes some hundreds of such events, and a search may ask each row of the table. Between
+//! two of a stretch nothing is asked but which of its events is the next one, and what changes with
+//! them is at hand, which is what makes a rebalance fast; `rebalancing` asks what else is to be
+//! done before and after.
+ghost use Rattle.std.specs.Prelude.{◌≡◌};
 ghost use Rattle.kw_follow.specs.Following.{Follows};
-ghost use Rattle.kw_live_rebal.specs.Standing.{GoesOn, IsBuilding};
+ghost use Rattle.kw_live_rebal.specs.Standing.{GoesOn};
 
-use kw_follow::go_build;
+use kw_follow::{Cursor, Search, gather_cell, is_in_use, meet_next, write_row};
 use kw_table::{Pass, Shared};
 use kw_world::activity::Activity;
 use kw_world::activity::rebalance::Rebalance;
 use kw_world::activity::rebalance::gather::Gather;
+use kw_world::activity::rebalance::seek::Seek;
 use kw_world::activity::rebalance::write::Write;
 use kw_world::local::Local;
 use std::sync::Wait;
 
-/// Goes along the list of the full row and gathers its cells, from the first link on, up to the
-/// first event that does not. Takes no memory.
+/// Goes along the list of the full row and gathers its cells, from the first link on to the end,
+/// and on to what comes after it. Takes no memory.
 pub(crate) fn gather_row<R: Wait>(rt: &R, shared: &Shared, pass: &mut Pass, local: &mut Local)
     requires follows { Follows shared.now pass.old local.old }
     requires activity { local.old.activity ≡ Activity.Rebalance (Rebalance.Gather Gather.Link) }
     ensures follows { Follows shared.now pass.new local.new }
     ensures on { GoesOn shared.now pass.old local.old pass.new local.new }
 {
+    let mut cursor = Cursor::of(local);
     for _ in rt.forever() {
-        go_build(shared, pass, local);
-        if !is_gathering(&local.activity) {
+        let Some(met) = meet_next(shared, pass, local, cursor) else {
             return;
-        }
+        };
+        cursor = gather_cell(shared, pass, local, met);
     }
     unreachable!()
 }
 
-/// Writes the words of a new row, from its count on, up to the first event that does not. Takes no
-/// memory.
-pub(crate) fn write_row<R: Wait>(rt: &R, shared: &Shared, pass: &mut Pass, local: &mut Local)
+/// Asks row after row for its state, from the one at hand on, to the first that is free or was
+/// retired, or to the last one, and on to what follows there. Takes no memory.
+pub(crate) fn seek_row(shared: &Shared, pass: &mut Pass, local: &mut Local)
+    requires follows { Follows shared.now pass.old local.old }
+    requires activity { local.old.activity ≡ Activity.Rebalance (Rebalance.Seek Seek.Next) }
+    ensures follows { Follows shared.now pass.new local.new }
+    ensures on { GoesOn shared.now pass.old local.old pass.new local.new }
+{
+    let rows = shared.rows();
+    let mut search = Search::of(local);
+    loop {
+        let found = search.load_state(shared, pass);
+        if is_in_use(found) && search.asked < rows {
+            search = search.behind(rows);
+        } else {
+            search.stop(local, rows, found);
+            return;
+        }
+    }
+}
+
+/// Writes the words of the new row at hand, from its count on, and on to what comes after it. Takes
+/// no memory.
+pub(crate) fn write_new_row(shared: &Shared, pass: &mut Pass, local: &mut Local)
     requires follows { Follows shared.now pass.old local.old }
     requires activity { local.old.activity ≡ Activity.Rebalance (Rebalance.Write Write.Count) }
     ensures follows { Follows shared.now pass.new local.new }
     ensures on { GoesOn shared.now pass.old local.old pass.new local.new }
 {
-    for _ in rt.forever() {
-        go_build(shared, pass, local);
-        if !is_in_row(&local.activity) {
-            return;
-        }
-    }
-    unreachable!()
+    warm_new_row(shared, local);
+    write_row(shared, pass, local);
 }
 
-// Whether the next event is one of those that gather the full row.
+// The new row at hand is loaded first: it may lie far away, and each of its words is written by one
+// step.
 #[inline(always)]
-fn is_gathering(activity: &Activity) -> bool
-    ensures { result ≡ true → IsBuilding activity.now }
-{
-    match activity {
-        Activity::Rebalance(Rebalance::Gather(_)) => true,
-        _ => false,
-    }
-}
-
-// Whether the next event writes a word of the new row that was begun. The one that writes a count
-// begins another row.
-#[inline(always)]
-fn is_in_row(activity: &Activity) -> bool
-    ensures { result ≡ true → IsBuilding activity.now }
-{
-    match activity {
-        Activity::Rebalance(Rebalance::Write(Write::Least))
-        | Activity::Rebalance(Rebalance::Write(Write::Next))
-        | Activity::Rebalance(Rebalance::Write(Write::First))
-        | Activity::Rebalance(Rebalance::Write(Write::Entry(_)))
-        | Activity::Rebalance(Rebalance::Write(Write::Key(_)))
-        | Activity::Rebalance(Rebalance::Write(Write::Value(_)))
-        | Activity::Rebalance(Rebalance::Write(Write::Version(_)))
-        | Activity::Rebalance(Rebalance::Write(Write::After(_))) => true,
-        _ => false,
+fn warm_new_row(shared: &Shared, local: &Local) {
+    if let Some(row) = local.rebalance.taken.as_slice().get(local.rebalance.at) {
+        shared.warm_whole(*row);
     }
 }

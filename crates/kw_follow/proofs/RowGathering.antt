@@ -1,0 +1,93 @@
+-- The events that gather a full row along its list, by a cursor: what follows from each.
+use Rattle.std.proofs.Common.{◌≡◌, ◌∙◌, ℕ, ◌≤◌, Option, Some, None, unwrap_or, nat_lt, if◌then◌else◌, List, refl, sym, ap, subst, length}
+use Rattle.kw_words.specs.Plain.{cell_of_link_word, key_of_word, value_of_word, version_of_word}
+use Rattle.kw_words.specs.declared.sizes.TheConstants.{CELLS, SEATS}
+use Rattle.kw_cells.specs.declared.cell.Cell.{Cell}
+use Rattle.kw_cells.specs.InOrder.{with_cell}
+use Rattle.kw_world.specs.declared.activity.Activity.{Activity}
+use Rattle.kw_world.specs.declared.activity.rebalance.Rebalance.TheVariants as Rebalance
+use Rattle.kw_world.specs.declared.activity.rebalance.gather.Gather.TheVariants as Gather
+use Rattle.kw_world.specs.declared.event.Choice.TheVariants.{Go}
+use Rattle.kw_world.specs.declared.event.StepDone.{StepDone}
+use Rattle.kw_world.specs.declared.local.Local.{Local}
+use Rattle.kw_world.specs.declared.marks.Mark.{Mark}
+use Rattle.kw_world.specs.Marks.{least_mark}
+use Rattle.kw_world.specs.Sizes.{product}
+use Rattle.kw_world.specs.TakeTransitions.{keeping, left_of, take_met}
+use Rattle.kw_world.specs.Transition.{Outcome, outcome}
+use Rattle.kw_table.specs.declared.pass.Pass.{Pass}
+use Rattle.kw_table.specs.declared.shared.Shared.{Shared}
+use Rattle.kw_table.specs.Passes.{Makes}
+use Rattle.kw_follow.specs.declared.cursor.Cursor.{Cursor}
+use Rattle.kw_follow.specs.BuildsOn.{Builds, forgetting_mark, taking_at}
+use Rattle.kw_follow.specs.Cursors.{cell_at, past, reached, with_cursor}
+use Rattle.kw_follow.specs.Following.{Follows}
+use Rattle.kw_follow.proofs.BuildEvents.{needed_few}
+use Rattle.kw_follow.proofs.BuildsOn.{builds_by}
+use Rattle.kw_follow.proofs.OneEvent.{follows_ranges, follows_room}
+use Rattle.kw_follow.proofs.RowWriting.{Ends}
+
+-- these cells are gathered
+abbrev pub with_gathered : List Cell → Local → Local
+with_gathered cells l = record l { rebalance = record l.rebalance { gathered = cells } }
+
+-- what the code that goes on after the list may count on
+pub record HasPlace (l : Local) : Type 0 where
+  pub walked : l.walked ≤ CELLS
+  pub gathered : length l.rebalance.gathered ≤ CELLS
+  pub needed : length l.rebalance.needed ≤ SEATS
+
+module _ {s : Shared} {p : Pass} (l : Local) (w : Cursor) (f : Follows s p (taking_at Gather.Link w l)) where
+  pub has_place : HasPlace (taking_at Gather.Link w l)
+  has_place = record {
+    walked = (follows_ranges s p (taking_at Gather.Link w l) f).walked;
+    gathered = (follows_room s p (taking_at Gather.Link w l) f).rebalance.gathered;
+    needed = needed_few s p (taking_at Gather.Link w l) f (Activity.Rebalance (Rebalance.Gather Gather.Link)) refl refl;
+  }
+
+module _ {s : Shared} {p q : Pass} {told : ℕ} (l : Local) (w : Cursor) where
+  -- the link led to a cell
+  pub link_met : (x : Cursor) (m : Local) (cell : ℕ) → x ≡ reached cell w → m ≡ forgetting_mark cell l → cell_of_link_word told ≡ Some cell → Follows s p (taking_at Gather.Link w l) → Makes s p Go told q → Builds s p q (taking_at Gather.Key x m)
+  link_met x m cell is left leads f makes =
+      builds_by (Activity.Rebalance (Rebalance.Gather Gather.Link)) (taking_at Gather.Link w l) (taking_at Gather.Key x m) f refl tt makes
+      (ap (λ (y : Cursor). taking_at Gather.Key y m) is
+      ∙ (ap (λ (k : Local). taking_at Gather.Key (reached cell w) k) left
+      ∙ ap (λ (c : Option ℕ). (take_met product c (taking_at Gather.Link w l)).local) (sym leads)))
+
+  -- it led to none: the seat goes on to what comes after the list
+  pub list_over : (k m : Local) (done : StepDone) → k ≡ taking_at Gather.Link w l → outcome m done ≡ take_met product (cell_of_link_word told) k → Follows s p (taking_at Gather.Link w l) → Makes s p Go told q → Builds s p q m
+  list_over k m done written line f makes =
+      builds_by (Activity.Rebalance (Rebalance.Gather Gather.Link)) (taking_at Gather.Link w l) m f refl tt makes
+      (ap (λ (x : Outcome). x.local) line ∙ ap (λ (n : Local). (take_met product (cell_of_link_word told) n).local) written)
+
+  -- the key of the cell was told
+  pub key_told : (x : Cursor) (key : ℕ) → x ≡ record w { key = key } → key ≡ key_of_word told → Follows s p (taking_at Gather.Key w l) → Makes s p Go told q → Builds s p q (taking_at Gather.Version x l)
+  key_told x key is keyed f makes =
+      builds_by (Activity.Rebalance (Rebalance.Gather Gather.Key)) (taking_at Gather.Key w l) (taking_at Gather.Version x l) f refl tt makes
+      (ap (λ (y : Cursor). taking_at Gather.Version y l) is ∙ ap (λ n. taking_at Gather.Version (record w { key = n }) l) keyed)
+
+  -- its version was told
+  pub version_told : (x : Cursor) → x ≡ record w { version = unwrap_or (version_of_word told) 1 } → Follows s p (taking_at Gather.Version w l) → Makes s p Go told q → Builds s p q (taking_at Gather.Value x l)
+  version_told x is f makes = builds_by (Activity.Rebalance (Rebalance.Gather Gather.Version)) (taking_at Gather.Version w l) (taking_at Gather.Value x l) f refl tt makes (ap (λ (y : Cursor). taking_at Gather.Value y l) is)
+
+  -- its value was told: the cell is gathered, and passed
+  pub value_told : (x : Cursor) (cells : List Cell) → x ≡ past w → cells ≡ (keeping product (value_of_word told) (taking_at Gather.Value w l)).rebalance.gathered → Follows s p (taking_at Gather.Value w l) → Makes s p Go told q → Builds s p q (taking_at Gather.Link x (with_gathered cells l))
+  value_told x cells is kept f makes =
+      builds_by (Activity.Rebalance (Rebalance.Gather Gather.Value)) (taking_at Gather.Value w l) (taking_at Gather.Link x (with_gathered cells l)) f refl tt makes
+      (ap (λ (y : Cursor). taking_at Gather.Link y (with_gathered cells l)) is ∙ ap (λ (cs : List Cell). taking_at Gather.Link (past w) (with_gathered cs l)) kept)
+
+-- the cell at hand is the one that is gathered
+pub cell_kept : {cells : List Cell} {cell : Cell} {value : Option ℕ} (l : Local) (w : Cursor) → cell ≡ cell_at w value → cells ≡ (if nat_lt (length l.rebalance.gathered) CELLS then with_cell cell l.rebalance.gathered else l.rebalance.gathered) → cells ≡ (keeping product value (taking_at Gather.Value w l)).rebalance.gathered
+cell_kept {cells} {cell} {value} l w is put = put ∙ ap (λ (c : Cell). if nat_lt (length l.rebalance.gathered) CELLS then with_cell c l.rebalance.gathered else l.rebalance.gathered) is
+
+-- where the seat stands once the list is over
+left_ends : (x : Option Mark) (l : Local) → Ends l (left_of product x l).local
+left_ends (Some m) l = record { stands = tt; tidies = refl }
+left_ends None l = record { stands = tt; tidies = refl }
+
+pub list_ends : (k m : Local) (done : StepDone) (cell : Option ℕ) → cell ≡ None → outcome m done ≡ take_met product cell k → Ends k m
+list_ends k m done cell none line = subst (Ends k) (sym (ap (λ (x : Outcome). x.local) line ∙ ap (λ (c : Option ℕ). (take_met product c k).local) none)) (left_ends (least_mark k.rebalance.marks) k)
+
+-- the walk begins with the cursor that the local has
+pub begins_gathering : {s : Shared} {p : Pass} (w : Cursor) (l : Local) → with_cursor l.activity w l ≡ l → l.activity ≡ Activity.Rebalance (Rebalance.Gather Gather.Link) → Follows s p l → Follows s p (taking_at Gather.Link w l)
+begins_gathering {s} {p} w l is at f = subst (λ (a : Activity). Follows s p (with_cursor a w l)) at (subst (Follows s p) (sym is) f)

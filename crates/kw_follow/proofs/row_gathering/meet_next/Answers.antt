@@ -1,0 +1,38 @@
+use Rattle.std.proofs.Common.{refl, sym, ◌∙◌, ap, subst, ◌≤◌, length}
+use Rattle.kw_words.specs.declared.sizes.TheConstants.{CELLS, SEATS}
+use Rattle.kw_world.specs.declared.activity.rebalance.gather.Gather.TheVariants as Gather
+use Rattle.kw_world.specs.declared.local.Local.{Local}
+use Rattle.kw_follow.specs.BuildsOn.{taking_at}
+use Rattle.kw_follow.proofs.BuildEvents.{asks_taken_link}
+use Rattle.kw_follow.proofs.RowGathering.{has_place, link_met, list_ends, list_over}
+use Rattle.kw_follow.proofs.row_gathering.meet_next.Goals as goal
+
+pub load_after-link-requires : goal.load_after-link-requires
+load_after-link-requires c = asks_taken_link _ _ (taking_at Gather.Link c.args.cursor c.args.local.now) _ c.requires refl c.link_name-name.ensures
+
+pub meet-requires : goal.meet-requires
+meet-requires c = (has_place c.args.local.now c.args.cursor c.requires).walked
+
+pub returns-in-Some-clause-met : goal.returns-in-Some-clause-met
+returns-in-Some-clause-met c = link_met c.args.local.now c.args.cursor c.meet.result c.meet.new.local c.in-Some.cell c.meet.ensures.cursor c.meet.ensures.local (sym c.unpack_cell_link.ensures.value ∙ c.in-Some.is) c.requires c.load_after-link.ensures
+
+pub returns-in-Some-clause-tidies : goal.returns-in-Some-clause-tidies
+returns-in-Some-clause-tidies c = ap (λ (l : Local). l.tidies) c.meet.ensures.local
+
+pub take_from-requires-clause-walked : goal.take_from-requires-clause-walked
+take_from-requires-clause-walked c = subst (λ (l : Local). l.walked ≤ CELLS) (sym c.write.ensures) (has_place c.args.local.now c.args.cursor c.requires).walked
+
+pub take_from-requires-clause-gathered : goal.take_from-requires-clause-gathered
+take_from-requires-clause-gathered c = subst (λ (l : Local). length l.rebalance.gathered ≤ CELLS) (sym c.write.ensures) (has_place c.args.local.now c.args.cursor c.requires).gathered
+
+pub take_from-requires-clause-needed : goal.take_from-requires-clause-needed
+take_from-requires-clause-needed c = subst (λ (l : Local). length l.rebalance.needed ≤ SEATS) (sym c.write.ensures) (has_place c.args.local.now c.args.cursor c.requires).needed
+
+pub returns-in-None-clause-over : goal.returns-in-None-clause-over
+returns-in-None-clause-over c = list_over c.args.local.now c.args.cursor c.write.new.local c.take_from.new.local c.take_from.result c.write.ensures c.take_from.ensures c.requires c.load_after-link.ensures
+
+pub returns-in-None-clause-stands : goal.returns-in-None-clause-stands
+returns-in-None-clause-stands c = (list_ends c.write.new.local c.take_from.new.local c.take_from.result _ (sym c.unpack_cell_link.ensures.value ∙ c.in-None.is) c.take_from.ensures).stands
+
+pub returns-in-None-clause-tidies : goal.returns-in-None-clause-tidies
+returns-in-None-clause-tidies c = (list_ends c.write.new.local c.take_from.new.local c.take_from.result _ (sym c.unpack_cell_link.ensures.value ∙ c.in-None.is) c.take_from.ensures).tidies ∙ ap (λ (l : Local). l.tidies) c.write.ensures

@@ -1,0 +1,27 @@
+use Rattle.std.proofs.Common.{refl}
+use Rattle.kw_world.specs.declared.activity.Activity.TheVariants as Activity
+use Rattle.kw_world.specs.declared.activity.rebalance.Rebalance.TheVariants as Rebalance
+use Rattle.kw_world.specs.declared.activity.rebalance.seek.Seek.TheVariants as Seek
+use Rattle.kw_follow.proofs.Moving.{moves}
+use Rattle.kw_follow.proofs.OneEvent.{follows_ranges, follows_room}
+use Rattle.kw_follow.proofs.PutEvents.{asks_exchanged}
+use Rattle.kw_follow.proofs.SeekEvents.{seek_part}
+use Rattle.kw_follow.proofs.seeking.free_row.Goals as goal
+
+pub pack-retired-requires : goal.pack-retired-requires
+pack-retired-requires c = (follows_ranges _ _ _ c.requires.follows).rebalance.number
+
+pub reclaim-told-requires : goal.reclaim-told-requires
+reclaim-told-requires c = asks_exchanged _ _ c.args.local.now (Activity.Rebalance (Rebalance.Seek Seek.Reclaim)) _ _ _ _ _ _ _ c.requires.follows c.requires.activity tt refl c.pack-retired.ensures.value c.pack-free.ensures.value refl
+
+pub seek_on-requires-clause-ranges : goal.seek_on-requires-clause-ranges
+seek_on-requires-clause-ranges c = follows_ranges _ _ _ c.requires.follows
+
+pub seek_on-requires-clause-room : goal.seek_on-requires-clause-room
+seek_on-requires-clause-room c = follows_room _ _ _ c.requires.follows
+
+pub seek_on-requires-clause-part : goal.seek_on-requires-clause-part
+seek_on-requires-clause-part c = seek_part c.args.local.now Seek.Reclaim c.requires.activity
+
+pub returns : goal.returns
+returns c = moves c.reclaim-told.ensures c.seek_on.ensures
