@@ -1,10 +1,9 @@
 //! The replies of a session: each is made as one text and written whole.
-ghost use Rattle.std.specs.Prelude.{◌≡◌, ◌≤◌, ◌<◌, ◌+◌, ◌++◌, ◌∷◌, [], IfOk, IfErr, OnOk, ◌≢◌};
+ghost use Rattle.std.specs.Prelude.{◌≡◌, ◌≤◌, ◌<◌, ◌+◌, ◌++◌, ◌∷◌, [], IfOk, IfErr, OnOk};
 ghost use Rattle.std.specs.Io.KnownBytes.{Appends};
 ghost use Rattle.kw_model.specs.Counts.{CountRose};
 ghost use Rattle.kiwid.specs.Requests.{answer_line, bad_text};
-ghost use Rattle.kiwid.specs.Session.{IfWriteFault};
-ghost use Rattle.kiwid.specs.Lines.{IsCutShort, Refuses};
+ghost use Rattle.kiwid.specs.Lines.{IsCutShort, IsEndAtLine, Refuses};
 ghost use Rattle.kiwid.specs.declared.request.TheConstants.{MOST_LINES};
 
 use crate::request::MOST_LINES;
@@ -44,10 +43,8 @@ impl Replies {
         ensures few { self.new.count ≤ MOST_LINES }
         ensures stops { IfErr result (λ end. IsCutShort end (answer_line answer.now)
             (K.written sink.old) (K.written sink.new)) }
-        ensures write_fault { IfErr result (λ end.
-            IfWriteFault end (CountRose (K.faults sink.old) (K.faults sink.new))) }
-        ensures not_ended { IfErr result (λ end. end ≢ SessionEnd.Ended) }
-        ensures no_read_fault { IfErr result (λ end. end ≢ SessionEnd.ReadFault) }
+        ensures cause { IfErr result (λ end.
+            IsEndAtLine end (CountRose (K.faults sink.old) (K.faults sink.new))) }
         ensures never_falls { K.faults sink.old ≤ K.faults sink.new }
     {
         if self.make_answer(answer).is_err() {
@@ -65,9 +62,7 @@ impl Replies {
         requires few { self.old.count ≤ MOST_LINES }
         ensures few { self.new.count ≤ MOST_LINES }
         ensures refuses { Refuses self.old.count result (K.written sink.old) (K.written sink.new) }
-        ensures write_fault { IfWriteFault result (CountRose (K.faults sink.old) (K.faults sink.new)) }
-        ensures not_ended { result ≢ SessionEnd.Ended }
-        ensures no_read_fault { result ≢ SessionEnd.ReadFault }
+        ensures cause { IsEndAtLine result (CountRose (K.faults sink.old) (K.faults sink.new)) }
         ensures never_falls { K.faults sink.old ≤ K.faults sink.new }
     {
         let line = self.count + 1;

@@ -10,11 +10,10 @@ ghost use Rattle.kw_model.specs.Counts.{CountRose};
 ghost use Rattle.kw_line.specs.Cut.{lines};
 ghost use Rattle.kw_line.specs.declared.words.TheConstants.{LINE_FEED};
 ghost use Rattle.kw_follow.specs.Calling.{calls_in};
-ghost use Rattle.kw_follow.specs.Following.{GoesTo};
 ghost use Rattle.kw_map.specs.Kiwi.{IsIdle};
 ghost use Rattle.kiwid.specs.Requests.{IsGood, IsRequestIn};
 ghost use Rattle.kiwid.specs.Session.{Ends, IfReadFault, IfWriteFault, IsServedWhole, ReadsOn, Session};
-ghost use Rattle.kiwid.specs.Lines.{LineDone, LineStops, StaysIdle, Took};
+ghost use Rattle.kiwid.specs.Lines.{AnswersUpTo, IsEndAtLine, IsEndOfLines, LineDone, LineStops, StaysIdle};
 ghost use Rattle.kiwid.specs.declared.request.TheConstants.{MOST_BYTES, MOST_LINES};
 
 use crate::replies::Replies;
@@ -62,8 +61,7 @@ pub fn session<R: Wait, S: Source, K: Sink>(
     sink: &mut K,
 ) -> SessionEnd
     requires idle { IsIdle kiwi.now pass.old }
-    ensures idle { IsIdle kiwi.now pass.new }
-    ensures goes { GoesTo kiwi.now pass.old pass.new }
+    ensures stays { StaysIdle kiwi.now pass.old pass.new }
     ensures served { Session (S.left source.old) result (calls_in pass.old) (calls_in pass.new)
         (K.written sink.old) (K.written sink.new) }
     ensures reads_on { ReadsOn (S.left source.old) (S.left source.new)
@@ -145,8 +143,7 @@ fn last_line<R: Wait, K: Sink>(
     ensures stays { StaysIdle kiwi.now pass.old pass.new }
     ensures ends { Ends held.now replies.old.count result (calls_in pass.old) (calls_in pass.new)
         (K.written sink.old) (K.written sink.new) }
-    ensures write_fault { IfWriteFault result (CountRose (K.faults sink.old) (K.faults sink.new)) }
-    ensures no_read_fault { result ≢ SessionEnd.ReadFault }
+    ensures cause { IsEndOfLines result (CountRose (K.faults sink.old) (K.faults sink.new)) }
     ensures never_falls { K.faults sink.old ≤ K.faults sink.new }
 {
     if held.is_empty() {
@@ -173,20 +170,14 @@ fn whole_lines<R: Wait, K: Sink>(
     requires few { replies.old.count ≤ MOST_LINES }
     ensures stays { StaysIdle kiwi.now pass.old pass.new }
     ensures few { replies.new.count ≤ MOST_LINES }
-    ensures within { IfOk result (λ at. at ≤ length held.now) }
-    ensures took { IfOk result (λ at. Took held.now (drop at held.now)
-        (calls_in pass.old) (calls_in pass.new) (K.written sink.old) (K.written sink.new)
+    ensures answers { IfOk result (λ at. AnswersUpTo held.now at (calls_in pass.old)
+        (calls_in pass.new) (K.written sink.old) (K.written sink.new)
         replies.old.count replies.new.count) }
-    ensures one_line { IfOk result (λ at. All (λ byte. byte ≢ LINE_FEED) (drop at held.now)) }
-    ensures short { IfOk result (λ at. length (drop at held.now) ≤ MOST_BYTES) }
-    ensures room { IfOk result (λ at. replies.new.count ≡ MOST_LINES → drop at held.now ≡ []) }
     ensures ends { IfErr result (λ end. (more : List ℕ) → Ends (held.now ++ more)
         replies.old.count end (calls_in pass.old) (calls_in pass.new)
         (K.written sink.old) (K.written sink.new)) }
-    ensures write_fault { IfErr result (λ end.
-        IfWriteFault end (CountRose (K.faults sink.old) (K.faults sink.new))) }
-    ensures not_ended { IfErr result (λ end. end ≢ SessionEnd.Ended) }
-    ensures no_read_fault { IfErr result (λ end. end ≢ SessionEnd.ReadFault) }
+    ensures cause { IfErr result (λ end.
+        IsEndAtLine end (CountRose (K.faults sink.old) (K.faults sink.new))) }
     ensures never_falls { K.faults sink.old ≤ K.faults sink.new }
 {
     let mut at = 0;
@@ -234,16 +225,13 @@ fn one_line<R: Wait, K: Sink>(
     requires idle { IsIdle kiwi.now pass.old }
     requires few { replies.old.count < MOST_LINES }
     ensures stays { StaysIdle kiwi.now pass.old pass.new }
-    ensures counted { OnOk result (replies.new.count ≡ replies.old.count + 1) }
     ensures few { replies.new.count ≤ MOST_LINES }
     ensures done { OnOk result (LineDone line.now (calls_in pass.old) (calls_in pass.new)
-        (K.written sink.old) (K.written sink.new)) }
+        (K.written sink.old) (K.written sink.new) × (replies.new.count ≡ replies.old.count + 1)) }
     ensures stops { IfErr result (λ end. LineStops line.now replies.old.count end
         (calls_in pass.old) (calls_in pass.new) (K.written sink.old) (K.written sink.new)) }
-    ensures write_fault { IfErr result (λ end.
-        IfWriteFault end (CountRose (K.faults sink.old) (K.faults sink.new))) }
-    ensures not_ended { IfErr result (λ end. end ≢ SessionEnd.Ended) }
-    ensures no_read_fault { IfErr result (λ end. end ≢ SessionEnd.ReadFault) }
+    ensures cause { IfErr result (λ end.
+        IsEndAtLine end (CountRose (K.faults sink.old) (K.faults sink.new))) }
     ensures never_falls { K.faults sink.old ≤ K.faults sink.new }
 {
     let Some(Request::Plain(call, form)) = request_in(line) else {

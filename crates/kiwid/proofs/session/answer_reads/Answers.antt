@@ -75,11 +75,11 @@ loop-preserved g c =
       can_next = tt;
       is_finite = tt;
       stays = stays_trans _ _ _ _ c.loop.invariant.stays c.whole_lines.ensures.stays;
-      sofar = more_answered_at _ _ c.extend_from_slice.new.self.items c.deref-in-loop.result.now c.drop_front.new.held.items c.in-Ok-whole_lines.at _ _ _ _ _ _ c.loop.replies.count c.whole_lines.new.replies.count (more_came _ _ _ held piece c.extend_from_slice.new.self.items _ _ _ _ c.loop.replies.count c.loop.invariant.sofar c.in-Ok.ensures.taken longer) c.deref-in-loop.ensures.value rest c.in-Ok-whole_lines.ensures.took;
-      clean = subst (HasNo LINE_FEED) (sym rest) c.in-Ok-whole_lines.ensures.one_line;
-      short = subst (λ x. length x ≤ MOST_BYTES) (sym rest) c.in-Ok-whole_lines.ensures.short;
+      sofar = more_answered_at _ _ c.extend_from_slice.new.self.items c.deref-in-loop.result.now c.drop_front.new.held.items c.in-Ok-whole_lines.at _ _ _ _ _ _ c.loop.replies.count c.whole_lines.new.replies.count (more_came _ _ _ held piece c.extend_from_slice.new.self.items _ _ _ _ c.loop.replies.count c.loop.invariant.sofar c.in-Ok.ensures.taken longer) c.deref-in-loop.ensures.value rest c.in-Ok-whole_lines.ensures.answers.took;
+      clean = subst (HasNo LINE_FEED) (sym rest) c.in-Ok-whole_lines.ensures.answers.one_line;
+      short = subst (λ x. length x ≤ MOST_BYTES) (sym rest) c.in-Ok-whole_lines.ensures.answers.short;
       few = c.whole_lines.ensures.few;
-      room = λ e. rest ∙ c.in-Ok-whole_lines.ensures.room e;
+      room = λ e. rest ∙ c.in-Ok-whole_lines.ensures.answers.room e;
       sources = omega (arith, c.loop.invariant.sources, c.read.ensures.never_falls);
       sinks = omega (arith, c.loop.invariant.sinks, c.whole_lines.ensures.never_falls);
     }

@@ -14,7 +14,7 @@ returns-then-is_empty-clause-ends g c = nothing_left _ _ _ c.args.held.now c.req
 pub returns-in-Ok-clause-ends : goal.returns-in-Ok-clause-ends
 returns-in-Ok-clause-ends g c =
     let some = eqb-false (length c.args.held.now) 0 (sym c.is_empty.ensures ∙ c.if-is_empty.false) in
-    last_done c.args.held.now _ _ _ _ _ (still_serves _ c.args.held.now c.requires.few c.requires.room (omega arith)) (omega arith) c.requires.one_line c.in-Ok.ensures.done
+    last_done c.args.held.now _ _ _ _ _ (still_serves _ c.args.held.now c.requires.few c.requires.room (omega arith)) (omega arith) c.requires.one_line c.in-Ok.ensures.done.0
 
 pub returns-in-Err-clause-ends : goal.returns-in-Err-clause-ends
 returns-in-Err-clause-ends g c =

@@ -1,4 +1,4 @@
-use Rattle.kiwid.proofs.Ways.{if_err, line_cut, line_done, line_stopped, on_ok, plain_is, refused}
+use Rattle.kiwid.proofs.Ways.{if_err, line_cut, line_done, line_stopped, on_both, plain_is, refused}
 use Rattle.kiwid.proofs.session.one_line.Goals as goal
 
 pub returns-in_default-clause-stops : goal.returns-in_default-clause-stops
@@ -12,7 +12,7 @@ returns-in_default-ask-clause-stops g c =
 pub returns-clause-done : goal.returns-clause-done
 returns-clause-done g c =
     let is = plain_is c.in-Some-Plain.field-0 in
-    on_ok c.say.result (line_done c.args.line.now _ _ _ _ _ _ _ (rw is at c.in-Some-Plain.ensures) (rw is at c.in-Ok.ensures.answers)) c.say.ensures.said
+    on_both c.say.result (λ text counted. (line_done c.args.line.now _ _ _ _ _ _ _ (rw is at c.in-Some-Plain.ensures) (rw is at c.in-Ok.ensures.answers) text, counted)) c.say.ensures.said c.say.ensures.counted
 
 pub returns-clause-stops : goal.returns-clause-stops
 returns-clause-stops g c =

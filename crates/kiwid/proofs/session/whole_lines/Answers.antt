@@ -40,6 +40,6 @@ loop-at-preserved g c =
       stays = stays_trans _ _ _ _ c.loop-at.invariant.stays done.stays;
       within = omega (arith, long, length-drop at held);
       few = done.few;
-      took = rw (rest_behind held line behind at cut) (rw done.counted (took_more held (drop at held) line behind _ _ _ _ _ _ _ _ c.loop-at.invariant.took cut c.in-Some.ensures.1 done.done));
+      took = rw (rest_behind held line behind at cut) (rw done.done.1 (took_more held (drop at held) line behind _ _ _ _ _ _ _ _ c.loop-at.invariant.took cut c.in-Some.ensures.1 done.done.0));
       never_falls = omega (arith, c.loop-at.invariant.never_falls, done.never_falls);
     }
