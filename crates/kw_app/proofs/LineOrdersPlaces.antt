@@ -4,7 +4,7 @@ use Rattle.std.specs.List.{slice_get}
 use Rattle.std.proofs.lemmas.Bool.Decides.{Decides-eqb}
 use Rattle.std.proofs.lemmas.List.{take-append-drop}
 use Rattle.std.proofs.lemmas.Option.{same_Some}
-use Rattle.kw_order.proofs.Turns.{filtered_at, place_of, counted_more, counted_once}
+use Rattle.kw_order.proofs.Turns.{filtered_at, index_of, counted_more, counted_once}
 use Rattle.kw_work.specs.declared.line.Line.{Line}
 use Rattle.kw_work.specs.Dealing.{worker_of, part}
 use Rattle.kw_work.specs.Collecting.{merge}
@@ -37,7 +37,7 @@ pub record IsShare (n w k : ℕ) (lines : List Line) (l : Line) : Type 0 where
 pub share_of : (n w k : ℕ) (lines : List Line) (l : Line) → slice_get (part n w lines) k ≡ Some l → IsShare n w k lines l
 unfolding part
 share_of n w k lines l e =
-    let p = place_of (λ m. worker_of n m == w) lines k l e in
+    let p = index_of (λ m. worker_of n m == w) lines k l e in
     record { place = p.place; here = p.here; worker = (Decides-eqb (worker_of n l) w).0 p.is_true; before = p.before }
 
 -- a later line of a worker has a later place in its part

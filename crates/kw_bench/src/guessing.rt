@@ -7,7 +7,7 @@
 ghost use Rattle.std.specs.Prelude.{◌≡◌, ◌≤◌, IfOk};
 
 use kw_index::change::Change;
-use kw_index::entries::{Entries, Entry};
+use kw_index::entries::{Entries, IndexEntry};
 use kw_index::index::Index;
 use kw_index::own::OwnEntries;
 use kw_model::memory::Memory;
@@ -38,7 +38,7 @@ fn next_key(key: u32) -> u32 {
     key.wrapping_mul(1_664_525).wrapping_add(1_013_904_223)
 }
 
-/// An entry for each row, whose minima lie equally far apart.
+/// An entry for each row, whose least keys lie equally far apart.
 pub fn entries_of_all(alloc: Global, rows: u32) -> Result<Entries, Memory>
     requires { 1 ≤ rows }
     ensures { IfOk result (λ entries. entries.rows ≡ rows) }
@@ -46,9 +46,9 @@ pub fn entries_of_all(alloc: Global, rows: u32) -> Result<Entries, Memory>
     let mut entries = Entries::new(alloc, rows)?;
     let apart = u32::MAX / rows;
     for row in 0..rows {
-        let min = row.wrapping_mul(apart);
+        let least = row.wrapping_mul(apart);
         entries.remove(row);
-        entries.insert(Entry { min, row });
+        entries.insert(IndexEntry { least, row });
     }
     Ok(entries)
 }
@@ -68,7 +68,7 @@ pub fn index_of_all(alloc: Global, rows: u32) -> Result<Index, Memory>
 }
 
 // Publishes that this row begins at this key, in place of no other.
-fn publish_entry(own: &mut OwnEntries, index: &Index, entry: Entry) -> bool {
+fn publish_entry(own: &mut OwnEntries, index: &Index, entry: IndexEntry) -> bool {
     let mut change = Change::without(index.rows());
     change.place(entry);
     own.publish(index, change)
@@ -78,7 +78,7 @@ fn publish_entry(own: &mut OwnEntries, index: &Index, entry: Entry) -> bool {
 #[derive(Clone, Copy)]
 pub enum Asked<'a> {
     /// A plain slice of entries, by std's own search.
-    Slice(&'a [Entry]),
+    Slice(&'a [IndexEntry]),
     /// An index, by own entries of the thread that asks.
     Index(&'a Index),
 }
@@ -97,12 +97,12 @@ impl Asked<'_> {
     }
 }
 
-fn search(list: &[Entry], first: u32, calls: u32) -> Told {
+fn search(list: &[IndexEntry], first: u32, calls: u32) -> Told {
     let mut key = first;
     let mut told = Told { rows: 0, sum: 0 };
     for _ in 0..calls {
         key = next_key(key);
-        let above = list.partition_point(|entry| entry.min <= key);
+        let above = list.partition_point(|entry| entry.least <= key);
         if above > 0 {
             told = counted(told, list[above - 1].row);
         }
@@ -191,7 +191,7 @@ fn publish_until(index: &Index, own: &mut OwnEntries, over: &AtomicBool) -> u64 
         if over.load(Ordering::SeqCst) {
             break;
         }
-        let is_published = publish_entry(own, index, Entry { min: 0, row: 0 });
+        let is_published = publish_entry(own, index, IndexEntry { least: 0, row: 0 });
         published = published.wrapping_add(u64::from(is_published));
     }
     published

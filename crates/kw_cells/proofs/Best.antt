@@ -1,5 +1,5 @@
--- The best cell of a key: the function meets the relation, and the other way round where cells can
--- be told apart.
+-- The best cell of a key: the function agrees with the relation, and the other way round where
+-- cells can be told apart.
 use Rattle.std.proofs.Common.{ℕ, zero, suc, Bool, true, false, ◌≡◌, ◌<◌, ◌≤◌, cond, Option, Some, None, List, [], ◌∷◌, ◌++◌, refl, sym, ap, subst, ◌∙◌, arith, All, Contains, MatchOption, IfSome, IsNone, is_some, ◌↔◌, length, get_or, drop, ◌+◌, add-one, drop-cons}
 use Rattle.std.proofs.lemmas.List.{drop_all}
 use Rattle.std.proofs.lemmas.Bool.Decides.{nat_tests}

@@ -6,7 +6,7 @@ use Rattle.kw_cells.specs.Kept.{AreRising}
 use Rattle.kw_cells.specs.Cuts.{AreCuts, end_of, starts_from, starts_at}
 use Rattle.kw_cells.specs.declared.cell.Cell.{Cell}
 use Rattle.kw_cells.proofs.Rising.{any_cell}
-use Rattle.kw_cells.proofs.Places.{place_beyond}
+use Rattle.kw_cells.proofs.Places.{index_beyond}
 use Rattle.kw_cells.proofs.Made.{next_of, starts_step, starts_stop}
 
 module _ (limit : ℕ) (kept : List Cell) (rising : AreRising kept) (others : List ℕ) (cut : AreCuts limit kept others) where
@@ -20,7 +20,7 @@ module _ (limit : ℕ) (kept : List Cell) (rising : AreRising kept) (others : Li
 
   -- one that starts within reach of a row from here on starts no later than the next that is filled
   catches_up : (j start : ℕ) → j + 1 < length others → get_or others (j + 1) 0 ≤ start + limit → start + limit < length kept → get_or others (j + 1) 0 ≤ next_of limit kept rising start
-  catches_up j start l near w = place_beyond kept rising (start + limit) (get_or others (j + 1) 0) near w (λ k g. cut.between (j + 1) k (get_or others (j + 1) 0) any_cell l g (omega arith) (cut.within j l))
+  catches_up j start l near w = index_beyond kept rising (start + limit) (get_or others (j + 1) 0) near w (λ k g. cut.between (j + 1) k (get_or others (j + 1) 0) any_cell l g (omega arith) (cut.within j l))
 
   -- from a start on that is not before one of the cut no more rows are filled than the cut has
   -- there

@@ -4,7 +4,7 @@ use Rattle.std.specs.Prelude.{insert, remove}
 use Rattle.std.proofs.lemmas.List.{get_or_default}
 use Rattle.std.proofs.lemmas.Bool.Decides.{nat_tests}
 use Rattle.std.proofs.lemmas.List.Kept.{AllPairs-cons}
-use Rattle.kw_cells.specs.InOrder.{stands_before, AreInOrder, place_in, with_cell}
+use Rattle.kw_cells.specs.InOrder.{stands_before, AreInOrder, index_in, with_cell}
 use Rattle.kw_cells.specs.declared.cell.Cell.{Cell}
 
 -- what stands before a cell stands before those behind it
@@ -70,11 +70,11 @@ with_cell-in_order c (d ∷ cells) o = which (stands_before d c) (stands_before 
 -- The place.
 
 -- the place of a cell, where those in front of it stand before it and the next one does not
-pub place_in-at : (c : Cell) (cells : List Cell) (n : ℕ) → n ≤ length cells → ((k : ℕ) (d : Cell) → k < n → stands_before (get_or cells k d) c ≡ true) → ((d : Cell) → n < length cells → stands_before (get_or cells n d) c ≡ false) → place_in c cells ≡ n
-place_in-at c [] n u f g = omega arith
-place_in-at c (d ∷ cells) zero u f g = rw (g d (omega arith)) refl
-place_in-at c (d ∷ cells) (suc n) u f g =
-    rw (f 0 d (omega arith)) (ap suc (place_in-at c cells n (omega arith) (λ k x w. f (suc k) x (omega arith)) (λ x w. g x (omega arith))))
+pub index_in-at : (c : Cell) (cells : List Cell) (n : ℕ) → n ≤ length cells → ((k : ℕ) (d : Cell) → k < n → stands_before (get_or cells k d) c ≡ true) → ((d : Cell) → n < length cells → stands_before (get_or cells n d) c ≡ false) → index_in c cells ≡ n
+index_in-at c [] n u f g = omega arith
+index_in-at c (d ∷ cells) zero u f g = rw (g d (omega arith)) refl
+index_in-at c (d ∷ cells) (suc n) u f g =
+    rw (f 0 d (omega arith)) (ap suc (index_in-at c cells n (omega arith) (λ k x w. f (suc k) x (omega arith)) (λ x w. g x (omega arith))))
 
 -- in order, what stands in front of a cell that stands before another stands before that
 pub front_before : (c : Cell) (cells : List Cell) (n : ℕ) (x : Cell) → AreInOrder cells → n < length cells → stands_before (get_or cells n x) c ≡ true → (k : ℕ) (d : Cell) → k ≤ n → stands_before (get_or cells k d) c ≡ true
@@ -85,46 +85,46 @@ front_before c (y ∷ cells) (suc n) x o u e zero d w = before_trans y (get_or c
 front_before c (y ∷ cells) (suc n) x o u e (suc k) d w = front_before c cells n x (in_order_tail y cells o) (omega arith) e k d (omega arith)
 
 -- behind them, where the last one stands before it
-pub place_in-behind : (c : Cell) (cells : List Cell) (n : ℕ) (x : Cell) → AreInOrder cells → suc n ≡ length cells → stands_before (get_or cells n x) c ≡ true → place_in c cells ≡ length cells
-place_in-behind c cells n x o last e = place_in-at c cells (length cells) (omega arith) (λ k d w. front_before c cells n x o (omega (arith, last)) e k d (omega (arith, last, w))) (λ d w. absurd (omega (arith, w)))
+pub index_in-behind : (c : Cell) (cells : List Cell) (n : ℕ) (x : Cell) → AreInOrder cells → suc n ≡ length cells → stands_before (get_or cells n x) c ≡ true → index_in c cells ≡ length cells
+index_in-behind c cells n x o last e = index_in-at c cells (length cells) (omega arith) (λ k d w. front_before c cells n x o (omega (arith, last)) e k d (omega (arith, last, w))) (λ d w. absurd (omega (arith, w)))
 
 -- all in front of its place stand before it
-pub place_in-front : (c : Cell) (cells : List Cell) (k : ℕ) (x : Cell) → k < place_in c cells → stands_before (get_or cells k x) c ≡ true
-place_in-front c [] k x u = absurd (omega arith)
-place_in-front c (d ∷ cells) k x u = which (stands_before d c) refl k u (λ n w. place_in-front c cells n x w)
+pub index_in-front : (c : Cell) (cells : List Cell) (k : ℕ) (x : Cell) → k < index_in c cells → stands_before (get_or cells k x) c ≡ true
+index_in-front c [] k x u = absurd (omega arith)
+index_in-front c (d ∷ cells) k x u = which (stands_before d c) refl k u (λ n w. index_in-front c cells n x w)
   where
-    which : (b : Bool) → stands_before d c ≡ b → (n : ℕ) → n < (if b then suc (place_in c cells) else 0) → ((m : ℕ) → m < place_in c cells → stands_before (get_or cells m x) c ≡ true) → stands_before (get_or (d ∷ cells) n x) c ≡ true
+    which : (b : Bool) → stands_before d c ≡ b → (n : ℕ) → n < (if b then suc (index_in c cells) else 0) → ((m : ℕ) → m < index_in c cells → stands_before (get_or cells m x) c ≡ true) → stands_before (get_or (d ∷ cells) n x) c ≡ true
     which true e zero w f = e
     which true e (suc n) w f = f n (omega arith)
     which false e n w f = absurd (omega arith)
 
 -- the place is among the cells or behind them
-pub place_in-within : (c : Cell) (cells : List Cell) → place_in c cells ≤ length cells
-place_in-within c [] = omega arith
-place_in-within c (d ∷ cells) = which (stands_before d c) (place_in-within c cells)
+pub index_in-within : (c : Cell) (cells : List Cell) → index_in c cells ≤ length cells
+index_in-within c [] = omega arith
+index_in-within c (d ∷ cells) = which (stands_before d c) (index_in-within c cells)
   where
-    which : (x : Bool) → place_in c cells ≤ length cells → (if x then suc (place_in c cells) else 0) ≤ suc (length cells)
+    which : (x : Bool) → index_in c cells ≤ length cells → (if x then suc (index_in c cells) else 0) ≤ suc (length cells)
     which true i = omega arith
     which false i = omega arith
 
 -- a cell that agrees with none is put at its place
-pub with_cell-insert : (c : Cell) (cells : List Cell) → ((d : Cell) → place_in c cells < length cells → stands_before c (get_or cells (place_in c cells) d) ≡ true) → with_cell c cells ≡ insert cells (place_in c cells) c
+pub with_cell-insert : (c : Cell) (cells : List Cell) → ((d : Cell) → index_in c cells < length cells → stands_before c (get_or cells (index_in c cells) d) ≡ true) → with_cell c cells ≡ insert cells (index_in c cells) c
 with_cell-insert c [] f = refl
 with_cell-insert c (d ∷ cells) f = which (stands_before d c) refl (with_cell-insert c cells)
   where
-    which : (x : Bool) → stands_before d c ≡ x → (((e : Cell) → place_in c cells < length cells → stands_before c (get_or cells (place_in c cells) e) ≡ true) → with_cell c cells ≡ insert cells (place_in c cells) c) →
-        (if x then d ∷ with_cell c cells else if stands_before c d then c ∷ d ∷ cells else d ∷ cells) ≡ insert (d ∷ cells) (if x then suc (place_in c cells) else 0) c
+    which : (x : Bool) → stands_before d c ≡ x → (((e : Cell) → index_in c cells < length cells → stands_before c (get_or cells (index_in c cells) e) ≡ true) → with_cell c cells ≡ insert cells (index_in c cells) c) →
+        (if x then d ∷ with_cell c cells else if stands_before c d then c ∷ d ∷ cells else d ∷ cells) ≡ insert (d ∷ cells) (if x then suc (index_in c cells) else 0) c
     which true e i = ap (λ xs. d ∷ xs) (i (λ x w. let g = f x in rw e at g (omega arith)))
     which false e i = let g = f d in let h : 0 < suc (length cells) → stands_before c d ≡ true = rw e at g in rw (h (omega arith)) refl
 
 -- one that agrees with the cell at its place is not
-pub with_cell-same : (c : Cell) (cells : List Cell) (x : Cell) → place_in c cells < length cells → stands_before c (get_or cells (place_in c cells) x) ≡ false → with_cell c cells ≡ cells
+pub with_cell-same : (c : Cell) (cells : List Cell) (x : Cell) → index_in c cells < length cells → stands_before c (get_or cells (index_in c cells) x) ≡ false → with_cell c cells ≡ cells
 with_cell-same c [] x u e = absurd (omega arith)
 with_cell-same c (d ∷ cells) x u e = which (stands_before d c) refl (with_cell-same c cells x)
   where
-    which : (b : Bool) → stands_before d c ≡ b → (place_in c cells < length cells → stands_before c (get_or cells (place_in c cells) x) ≡ false → with_cell c cells ≡ cells) →
+    which : (b : Bool) → stands_before d c ≡ b → (index_in c cells < length cells → stands_before c (get_or cells (index_in c cells) x) ≡ false → with_cell c cells ≡ cells) →
         (if b then d ∷ with_cell c cells else if stands_before c d then c ∷ d ∷ cells else d ∷ cells) ≡ d ∷ cells
-    which true f i = let v : suc (place_in c cells) < suc (length cells) = rw f at u in let g : stands_before c (get_or cells (place_in c cells) x) ≡ false = rw f at e in ap (λ xs. d ∷ xs) (i (omega arith) g)
+    which true f i = let v : suc (index_in c cells) < suc (length cells) = rw f at u in let g : stands_before c (get_or cells (index_in c cells) x) ≡ false = rw f at e in ap (λ xs. d ∷ xs) (i (omega arith) g)
     which false f i = let g : stands_before c d ≡ false = rw f at e in rw g refl
 
 -- The test at the place.
@@ -134,17 +134,17 @@ abbrev pub IsNewAt : Cell → List Cell → ℕ → Bool → Type 0
 IsNewAt c cells n b = (if nat_lt n (length cells) then stands_before c (get_or cells n c) else true) ≡ b
 
 -- a cell that does is put there
-pub with_cell-new : (c : Cell) (cells : List Cell) (n : ℕ) → n ≡ place_in c cells → IsNewAt c cells n true → with_cell c cells ≡ insert cells n c
+pub with_cell-new : (c : Cell) (cells : List Cell) (n : ℕ) → n ≡ index_in c cells → IsNewAt c cells n true → with_cell c cells ≡ insert cells n c
 with_cell-new c cells n e f = subst (λ x. with_cell c cells ≡ insert cells x c) (sym e) (with_cell-insert c cells at)
   where
-    at : (d : Cell) → place_in c cells < length cells → stands_before c (get_or cells (place_in c cells) d) ≡ true
+    at : (d : Cell) → index_in c cells < length cells → stands_before c (get_or cells (index_in c cells) d) ≡ true
     at d w =
         let t : nat_lt n (length cells) ≡ true = grind (arith, nat_tests) in
         let g : stands_before c (get_or cells n c) ≡ true = rw t at f in
         subst (λ x. stands_before c (get_or cells x d) ≡ true) e (subst (λ (y : Cell). stands_before c y ≡ true) (get_or_default cells n c d (omega arith)) g)
 
 -- one that does not is not
-pub with_cell-known : (c : Cell) (cells : List Cell) (n : ℕ) → n ≡ place_in c cells → IsNewAt c cells n false → with_cell c cells ≡ cells
+pub with_cell-known : (c : Cell) (cells : List Cell) (n : ℕ) → n ≡ index_in c cells → IsNewAt c cells n false → with_cell c cells ≡ cells
 with_cell-known c cells n e f = which (nat_lt n (length cells)) refl
   where
     which : (b : Bool) → nat_lt n (length cells) ≡ b → with_cell c cells ≡ cells

@@ -5,10 +5,10 @@ use Rattle.std.proofs.lemmas.List.{get_or_default}
 use Rattle.std.proofs.lemmas.Option.{slice_get-get_or, slice_get_past}
 use Rattle.std.proofs.lemmas.Bool.{cases_lt}
 use Rattle.kw_cells.specs.Kept.{AreRising, HasFew}
-use Rattle.kw_cells.specs.Cuts.{IsNextStart, AreStarts, place_of_key, key_at, starts_from, starts_at}
+use Rattle.kw_cells.specs.Cuts.{IsNextStart, AreStarts, index_of_key, key_at, starts_from, starts_at}
 use Rattle.kw_cells.specs.declared.cell.Cell.{Cell}
 use Rattle.kw_cells.proofs.Rising.{any_cell, keys_rise, few_apart}
-use Rattle.kw_cells.proofs.Places.{lesser, not_lesser, place_within, place_below}
+use Rattle.kw_cells.proofs.Places.{lesser, not_lesser, index_within, index_below}
 
 -- these are starts from one that starts here on
 record AreStartsFrom (limit : ℕ) (kept : List Cell) (start : ℕ) (starts : List ℕ) : Type 0 where
@@ -43,7 +43,7 @@ one_before limit kept start next starts n are = record { some = omega arith; fir
 module _ (limit : ℕ) (kept : List Cell) (rising : AreRising kept) where
   -- where the row starts that follows one from here on
   abbrev pub next_of : ℕ → ℕ
-  next_of start = place_of_key kept (key_at kept (start + limit))
+  next_of start = index_of_key kept (key_at kept (start + limit))
 
   -- the function by one row
   pub starts_step : (n start : ℕ) → start + limit < length kept → starts_from (suc n) limit kept start ≡ start ∷ starts_from n limit kept (next_of start)
@@ -58,7 +58,7 @@ module _ (limit : ℕ) (kept : List Cell) (rising : AreRising kept) where
   next_starts start within later = record { later = later; fits = fits; first = first; within = within; full = full }
     where
       fits : next_of start ≤ start + limit
-      fits = place_below kept rising (start + limit) within
+      fits = index_below kept rising (start + limit) within
 
       full : (d : Cell) → (get_or kept (start + limit) d).key ≡ (get_or kept (next_of start) d).key
       full d =
@@ -85,7 +85,7 @@ module _ (limit : ℕ) (kept : List Cell) (rising : AreRising kept) where
 
   -- a row that does not end is stuck where its last key begins
   gets_stuck : (start : ℕ) → start + limit < length kept → next_of start ≤ start → IsStuck (next_of start)
-  gets_stuck start w back = record { within = omega arith; back = ap (place_of_key kept) same }
+  gets_stuck start w back = record { within = omega arith; back = ap (index_of_key kept) same }
     where
       same : key_at kept (next_of start + limit) ≡ key_at kept (start + limit)
       same =
@@ -115,7 +115,7 @@ module _ (limit : ℕ) (kept : List Cell) (rising : AreRising kept) where
       go (inl h) rest = subst (Goes (suc n) start) (sym (starts_step n start h)) (at (cases_lt start (next_of start)))
         where
           at : ((start < next_of start) ⊎ (next_of start ≤ start)) → Goes (suc n) start (start ∷ starts_from n limit kept (next_of start))
-          at (inl g) = on (rest (next_of start) (place_within kept rising (key_at kept (start + limit))) (omega arith))
+          at (inl g) = on (rest (next_of start) (index_within kept rising (key_at kept (start + limit))) (omega arith))
             where
               on : Goes n (next_of start) (starts_from n limit kept (next_of start)) → Goes (suc n) start (start ∷ starts_from n limit kept (next_of start))
               on (inl r) = inl (one_before limit kept start (next_of start) (starts_from n limit kept (next_of start)) (next_starts start h g) r)

@@ -5,21 +5,21 @@ use Rattle.std.proofs.lemmas.Bool.Decides.{nat_tests}
 use Rattle.std.specs.BTreeMap.{insert_entry}
 use Rattle.std.specs.Ordering.{nat_cmp}
 use Rattle.kw_cells.specs.Pairs.{Pairs, RisesFrom, IsRising, value_of, ShowsRange, with_shown}
-use Rattle.kw_cells.specs.Plain.{Entries, flat, shown_last, place_of, IsIndex}
+use Rattle.kw_cells.specs.Plain.{Entries, flat, shown_last, index_of, IsIndex}
 use Rattle.kw_cells.proofs.Pairs.{lower, none_below, LieIn, all_lie}
 use Rattle.kw_cells.proofs.Tree.{within, value-insert_entry}
-use Rattle.kw_cells.proofs.Entries.{place_of-append, last_of-place, last_of-no_place}
+use Rattle.kw_cells.proofs.Entries.{index_of-append, last_of-place, last_of-no_place}
 
 -- the index after one more entry
 pub index_put : (index after : Pairs) (es new : Entries) (k n : ℕ) (w : Option ℕ) → IsIndex index es → IsRising after → after ≡ insert_entry nat_cmp index k n → n ≡ length es → new ≡ es ++ (k, w) ∷ [] → IsIndex after new
 index_put index after es new k n w i rising inserted long put = record { rising = rising; places = places }
   where
-    places : (q : ℕ) → value_of q after ≡ place_of new q
+    places : (q : ℕ) → value_of q after ≡ index_of new q
     places q =
         let a : value_of q after ≡ cond (eqb q k) (Some n) (value_of q index) = ap (value_of q) inserted ∙ value-insert_entry q k n index in
-        let b : place_of new q ≡ cond (eqb q k) (Some (length es)) (place_of es q) = ap (λ (l : Entries). place_of l q) put ∙ place_of-append es k w q in
-        let d : value_of q index ≡ place_of es q = i.places q in
-        let e : cond (eqb q k) (Some n) (value_of q index) ≡ cond (eqb q k) (Some (length es)) (place_of es q) = cc in
+        let b : index_of new q ≡ cond (eqb q k) (Some (length es)) (index_of es q) = ap (λ (l : Entries). index_of l q) put ∙ index_of-append es k w q in
+        let d : value_of q index ≡ index_of es q = i.places q in
+        let e : cond (eqb q k) (Some n) (value_of q index) ≡ cond (eqb q k) (Some (length es)) (index_of es q) = cc in
         a ∙ e ∙ sym b
 
 -- the value of the entry at a place that there may be
@@ -28,10 +28,10 @@ at_place es None = None
 at_place es (Some n) = (get_or es n (0, None)).1
 
 -- the entry at a key's place shows what the key shows
-pub at_place-last : (es : Entries) (k : ℕ) → at_place es (place_of es k) ≡ shown_last es k
-at_place-last es k = go (place_of es k) refl
+pub at_place-last : (es : Entries) (k : ℕ) → at_place es (index_of es k) ≡ shown_last es k
+at_place-last es k = go (index_of es k) refl
   where
-    go : (o : Option ℕ) → place_of es k ≡ o → at_place es o ≡ shown_last es k
+    go : (o : Option ℕ) → index_of es k ≡ o → at_place es o ≡ shown_last es k
     go None e = sym (ap flat (last_of-no_place es k e))
     go (Some n) e = let r = last_of-place es k n (0, None) e in sym (ap flat r.1)
 
@@ -133,7 +133,7 @@ range_shows index es a b i = record {
     each : (k : ℕ) → a ≤ k → k ≤ b → value_of k (shown_by es (within a b index)) ≡ shown_last es k
     each k l h =
         let within_it : (leb a k && leb k b) ≡ true = grind (arith, nat_tests) in
-        let found : value_of k (within a b index) ≡ place_of es k = value-within k a b index ∙ ap (λ t. cond t (value_of k index) None) within_it ∙ i.places k in
+        let found : value_of k (within a b index) ≡ index_of es k = value-within k a b index ∙ ap (λ t. cond t (value_of k index) None) within_it ∙ i.places k in
         value-shown_by es 0 (within a b index) k rises ∙ ap (at_place es) found ∙ at_place-last es k
 
 -- an empty range shows nothing

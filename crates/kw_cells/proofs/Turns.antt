@@ -6,7 +6,7 @@ use Rattle.kw_cells.specs.Kept.{AreRising}
 use Rattle.kw_cells.specs.Cuts.{key_at, starts_from, starts_at}
 use Rattle.kw_cells.specs.declared.cell.Cell.{Cell}
 use Rattle.kw_cells.proofs.Made.{next_of, starts_step, starts_stop}
-use Rattle.kw_cells.proofs.Places.{place_within}
+use Rattle.kw_cells.proofs.Places.{index_within}
 
 -- so many rows are counted, the last of which starts here
 pub record AreCounted (limit : ℕ) (kept : List Cell) (rows start : ℕ) : Type 0 where
@@ -49,7 +49,7 @@ module _ (limit : ℕ) (kept : List Cell) (rising : AreRising kept) where
   -- one row more is counted
   pub counted_more : (rows start next : ℕ) → AreCounted limit kept rows start → rows ≤ length kept → start + limit < length kept → next ≡ next_of limit kept rising start → AreCounted limit kept (rows + 1) next
   counted_more rows start next so few w e = record {
-    within = (let p = place_within kept rising (key_at kept (start + limit)) in omega (arith, p, e));
+    within = (let p = index_within kept rising (key_at kept (start + limit)) in omega (arith, p, e));
     some = omega arith;
     few = omega arith;
     counted = (
@@ -101,7 +101,7 @@ module _ (limit : ℕ) (kept : List Cell) (rising : AreRising kept) where
   -- one start more is listed
   pub listed_more : (starts : List ℕ) (start next : ℕ) → AreListed limit kept starts start → length starts ≤ length kept → start + limit < length kept → next ≡ next_of limit kept rising start → AreListed limit kept (starts ++ next ∷ []) next
   listed_more starts start next so few w e = record {
-    within = (let p = place_within kept rising (key_at kept (start + limit)) in omega (arith, p, e));
+    within = (let p = index_within kept rising (key_at kept (start + limit)) in omega (arith, p, e));
     some = omega (arith, length_push starts next);
     few = omega (arith, length_push starts next);
     listed = so.listed ∙ (ap (λ (x : List ℕ). starts ++ drop 1 x) (more_left (length starts) start few w) ∙ rest);

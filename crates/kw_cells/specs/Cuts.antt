@@ -59,8 +59,8 @@ pub record AreFilled (built : ℕ) (kept : List Cell) (starts : List ℕ) : Type
 
 -- how many of the cells have a lesser key: where this key's cells begin, since the cells are by
 -- rising key
-abbrev pub place_of_key : List Cell → ℕ → ℕ
-place_of_key kept key = count_by (λ c. nat_lt c.key key) kept
+abbrev pub index_of_key : List Cell → ℕ → ℕ
+index_of_key kept key = count_by (λ c. nat_lt c.key key) kept
 
 -- the key of the cell at this place, 0 where there is none
 abbrev pub key_at : List Cell → ℕ → ℕ
@@ -75,7 +75,7 @@ starts_from zero limit kept start = []
 starts_from (suc n) limit kept start = start ∷ behind (slice_get kept (start + limit)) (λ next. starts_from n limit kept next)
   where
     behind : Option Cell → (ℕ → List ℕ) → List ℕ
-    behind (Some c) rows = rows (place_of_key kept c.key)
+    behind (Some c) rows = rows (index_of_key kept c.key)
     behind None rows = []
 
 -- where the rows start where each is filled up to the limit before the next one starts

@@ -12,9 +12,9 @@ abbrev pub AreInOrder : List Cell → Type 0
 AreInOrder cells = AllPairs (λ c d. stands_before c d ≡ true) cells
 
 -- how many cells at the front stand before this one: the place at which it is put among them
-abbrev pub place_in : Cell → List Cell → ℕ
-place_in c [] = 0
-place_in c (d ∷ cells) = if stands_before d c then suc (place_in c cells) else 0
+abbrev pub index_in : Cell → List Cell → ℕ
+index_in c [] = 0
+index_in c (d ∷ cells) = if stands_before d c then suc (index_in c cells) else 0
 
 -- the cells with one more at its place; one that agrees with a cell in key, version and place is
 -- not put beside it

@@ -31,11 +31,11 @@ raised (Some n) = Some (suc n)
 raised None = None
 
 -- the place of the key's last entry, counted from 0
-abbrev pub place_of : Entries → ℕ → Option ℕ
-place_of [] k = None
-place_of (e ∷ es) k = or_else (raised (place_of es k)) (if k == e.0 then Some 0 else None)
+abbrev pub index_of : Entries → ℕ → Option ℕ
+index_of [] k = None
+index_of (e ∷ es) k = or_else (raised (index_of es k)) (if k == e.0 then Some 0 else None)
 
 -- the index has the place of each key's last entry, by rising key
 pub record IsIndex (index : Pairs) (es : Entries) : Type 0 where
   pub rising : IsRising index
-  pub places : (k : ℕ) → value_of k index ≡ place_of es k
+  pub places : (k : ℕ) → value_of k index ≡ index_of es k

@@ -5,7 +5,7 @@
 //! other. `cell` asks the same of cells in any order, and reads them again for each key.
 ghost use Rattle.std.specs.Prelude.{ℕ, ◌≡◌, ◌↔◌, ◌+◌, ◌≤◌, ◌<◌, [], ◌∷◌, IfSome, IfNone, IsTrue, length, None};
 ghost use Rattle.kw_cells.specs.Cells.{best_of, IsNextPair, shown_at, pairs_of};
-ghost use Rattle.kw_cells.specs.InOrder.{stands_before, AreInOrder, AreBelow, place_in};
+ghost use Rattle.kw_cells.specs.InOrder.{stands_before, AreInOrder, AreBelow, index_in};
 
 use crate::cell::Cell;
 
@@ -23,9 +23,9 @@ impl Cell {
 /// The place at which the cell is put among cells in order: how many of them stand before it.
 ///
 /// Looks from the end on, where the next cell of a walk along a row's list belongs.
-pub fn place_in(cell: &Cell, cells: &[Cell]) -> usize
+pub fn index_in(cell: &Cell, cells: &[Cell]) -> usize
     requires in_order { AreInOrder cells.now }
-    ensures place { result ≡ place_in cell.now cells.now }
+    ensures place { result ≡ index_in cell.now cells.now }
     ensures within { result ≤ length cells.now }
 {
     let mut at = cells.len();
@@ -43,7 +43,7 @@ pub fn place_in(cell: &Cell, cells: &[Cell]) -> usize
 #[inline(always)]
 pub fn is_behind(cell: &Cell, cells: &[Cell]) -> bool
     requires { AreInOrder cells.now }
-    ensures { IsTrue result ↔ (place_in cell.now cells.now ≡ length cells.now) }
+    ensures { IsTrue result ↔ (index_in cell.now cells.now ≡ length cells.now) }
 {
     let count = cells.len();
     if count == 0 {

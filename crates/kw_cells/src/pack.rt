@@ -10,7 +10,7 @@
 //! fewest rows. So the even cut is that of the least limit with which there are no more rows than
 //! with `BUILT`. Nothing here takes memory.
 ghost use Rattle.std.specs.Prelude.{◌≡◌, ◌+◌, ◌≤◌, ◌<◌, ◌↔◌, IsTrue, length};
-ghost use Rattle.kw_cells.specs.Cuts.{AreEven, AreFilled, key_at, limit_of, place_of_key, starts_at, starts_of};
+ghost use Rattle.kw_cells.specs.Cuts.{AreEven, AreFilled, key_at, limit_of, index_of_key, starts_at, starts_of};
 ghost use Rattle.kw_cells.specs.Kept.{AreRising, HasFew};
 ghost use Rattle.kw_cells.specs.declared.limits.TheConstants.{MOST_GATHERED, MOST_STARTS};
 ghost use Rattle.kw_words.specs.declared.sizes.TheConstants.{BUILT};
@@ -104,7 +104,7 @@ fn starts_at(cells: &[Cell], limit: usize) -> RowCuts
 fn first_of_key(cells: &[Cell], place: usize) -> usize
     requires place { place < length cells.now }
     requires rising { AreRising cells.now }
-    ensures is { result ≡ place_of_key cells.now (key_at cells.now place) }
+    ensures is { result ≡ index_of_key cells.now (key_at cells.now place) }
     ensures below { result ≤ place }
 {
     let mut first = place;

@@ -10,7 +10,7 @@ use Rattle.kw_command.specs.Reading.{once, with_workers, with_rows, with_second,
 use Rattle.kw_command.proofs.Meaning.{reads_none, then_flag}
 use Rattle.kw_command.proofs.Commands.{IsPlain, reads-number, reads-flag}
 use Rattle.kw_command.specs.Clap.{start, count, workers, rows}
-use Rattle.kw_command.proofs.Walk.{shape, rules, Use, Open, flag, row_for, flag_in, flag_word_met, flag_kinds, flag_kinds_first, repeat_kinds, stands, waits, open_kinds, workers_met, rows_met, workers_kinds, rows_kinds, workers_value, rows_value, workers_value_kinds, rows_value_kinds, workers_then_name, rows_then_name, first_number, second_number, first_kinds, second_kinds, third_kinds, kinds_from}
+use Rattle.kw_command.proofs.Walk.{shape, rules, Use, Open, flag, row_for, flag_in, flag_word_reached, flag_kinds, flag_kinds_first, repeat_kinds, stands, waits, open_kinds, workers_reached, rows_reached, workers_kinds, rows_kinds, workers_value, rows_value, workers_value_kinds, rows_value_kinds, workers_then_name, rows_then_name, first_number, second_number, first_kinds, second_kinds, third_kinds, kinds_from}
 use Rattle.kw_command.proofs.Parsed.{with_value, add, HasNumbers, Holds, holds_flag, flag_use, ended, ended_numbers, ended_flag, Agrees, OpenAgrees, IsFine, IsBad, settle, end-stands, finished-stands, end-waits}
 use Rattle.clap.specs.Kinds.{Kinds, or_else}
 use Rattle.clap.specs.Walk.{Text, Walk, finished, walked}
@@ -172,10 +172,10 @@ refused_at us o a n x ws e b = record {
 
 -- a name settles the open use and waits for its value
 workers_to : (us : List Use) (o : Option Open) (a : Arguments) (n : ℕ) (ws : List Text) (f : IsFine us o a) → kinds_from (stands us o n) (codes "--workers" ∷ ws) ≡ kinds_from (waits f.found workers n) ws
-workers_to us o a n ws f = goes_on (stands us o n) (waits f.found workers n) (codes "--workers") ws (workers_kinds us o n ∙ f.no_kinds) (workers_met us f.found o n f.rows_are)
+workers_to us o a n ws f = goes_on (stands us o n) (waits f.found workers n) (codes "--workers") ws (workers_kinds us o n ∙ f.no_kinds) (workers_reached us f.found o n f.rows_are)
 
 rows_to : (us : List Use) (o : Option Open) (a : Arguments) (n : ℕ) (ws : List Text) (f : IsFine us o a) → kinds_from (stands us o n) (codes "--rows" ∷ ws) ≡ kinds_from (waits f.found rows n) ws
-rows_to us o a n ws f = goes_on (stands us o n) (waits f.found rows n) (codes "--rows") ws (rows_kinds us o n ∙ f.no_kinds) (rows_met us f.found o n f.rows_are)
+rows_to us o a n ws f = goes_on (stands us o n) (waits f.found rows n) (codes "--rows") ws (rows_kinds us o n ∙ f.no_kinds) (rows_reached us f.found o n f.rows_are)
 
 workers_end : (us : List Use) (o : Option Open) (a : Arguments) (n : ℕ) → IsFine us o a → IsRefused us o a n (codes "--workers" ∷ [])
 workers_end us o a n f = record {
@@ -241,18 +241,18 @@ flag_added us o a n ws f e rest =
     let none : flag_in f.found ≡ None = f.holds.1 ∙ ap flag_use e in
     let fault : turn_fault shape [] (stands us o n) (codes "--record") ≡ [] =
     flag_kinds us f.found o n f.rows_are ∙ (ap (λ (k : Kinds). or_else k (repeat_kinds (is_some (flag_in f.found)))) f.no_kinds ∙ ap (λ (x : Option Bool). repeat_kinds (is_some x)) none) in
-    let met = flag_word_met us f.found o n f.rows_are none in
+    let met = flag_word_reached us f.found o n f.rows_are none in
     moved us (f.found ++ flag true ∷ []) o None a (record f.after { recorded = true }) n n (codes "--record" ∷ ws) ws
     (goes_on (stands us o n) (stands (f.found ++ flag true ∷ []) None n) (codes "--record") ws fault met)
     (walks_on (stands us o n) (stands (f.found ++ flag true ∷ []) None n) (codes "--record") ws met)
     (reads-flag (add a o) ws ∙ (ap (λ (s : Option Arguments). reads (then_flag s) ws) f.adds ∙ ap (λ (b : Bool). reads (cond b None (Some (record f.after { recorded = true }))) ws) e))
     rest
 
-flag_met : (us : List Use) (o : Option Open) (a : Arguments) (n : ℕ) (ws : List Text) (f : IsFine us o a) (b : Bool) → f.after.recorded ≡ b
+flag_reached : (us : List Use) (o : Option Open) (a : Arguments) (n : ℕ) (ws : List Text) (f : IsFine us o a) (b : Bool) → f.after.recorded ≡ b
     → (f.after.recorded ≡ false → IsRead (f.found ++ flag true ∷ []) None (record f.after { recorded = true }) n ws ⊎ IsRefused (f.found ++ flag true ∷ []) None (record f.after { recorded = true }) n ws)
     → IsRead us o a n (codes "--record" ∷ ws) ⊎ IsRefused us o a n (codes "--record" ∷ ws)
-flag_met us o a n ws f true e rest = inr (flag_again us o a n ws f e)
-flag_met us o a n ws f false e rest = flag_added us o a n ws f e (rest e)
+flag_reached us o a n ws f true e rest = inr (flag_again us o a n ws f e)
+flag_reached us o a n ws f false e rest = flag_added us o a n ws f e (rest e)
 
 placed_flag : (p : Place) (a : Arguments) → IsAt p a → Placed p (record a { recorded = true }) None
 placed_flag p a h b e = let is : record a { recorded = true } ≡ b = cc in still_at p a b (ap (λ (x : Arguments). x.start) (sym is)) (ap (λ (x : Arguments). x.count) (sym is)) h
@@ -282,20 +282,20 @@ read_all (rows_name ∷ flag_name ∷ ts) us o a p t h g l = ⊎_elim
     (λ f. inr (refused_value us o a (place_number p) (codes "--rows") (codes "--record") (words_of ts) (waits f.found rows (place_number p)) (rows_to us o a (place_number p) (codes "--record" ∷ words_of ts) f) (rows_then_name f.found (place_number p)).2 (rows_name_none o a f.after (codes "--record") (words_of ts) f.adds (no_rows f.after).2)))
     (λ b. inr (refused_at us o a (place_number p) (codes "--rows") (codes "--record" ∷ words_of ts) (rows_kinds us o (place_number p)) b)) (settle us o a h g)
 read_all (flag_name ∷ ts) us o a p t h g l = ⊎_elim
-    (λ f. flag_met us o a (place_number p) (words_of ts) f f.after.recorded refl
+    (λ f. flag_reached us o a (place_number p) (words_of ts) f f.after.recorded refl
     (λ e. read_all ts (f.found ++ flag true ∷ []) None (record f.after { recorded = true }) p t.1 (holds_flag f.found f.after f.holds e) tt (placed_flag p f.after (l f.after f.adds))))
     (λ b. inr (flag_refused us o a (place_number p) (words_of ts) b)) (settle us o a h g)
 read_all (workers_name ∷ plain x xs ∷ ts) us o a p t h g l = ⊎_elim
     (λ f. moved us f.found o (Some (workers, x ∷ xs)) a f.after (place_number p) (place_number p) (codes "--workers" ∷ (x ∷ xs) ∷ words_of ts) (words_of ts)
     (workers_to us o a (place_number p) ((x ∷ xs) ∷ words_of ts) f ∙ goes_on (waits f.found workers (place_number p)) (stands f.found (Some (workers, x ∷ xs)) (place_number p)) (x ∷ xs) (words_of ts) (workers_value_kinds f.found (place_number p) x xs t.1.0.0) (workers_value f.found (place_number p) x xs t.1.0.0))
-    (walks_on (stands us o (place_number p)) (waits f.found workers (place_number p)) (codes "--workers") ((x ∷ xs) ∷ words_of ts) (workers_met us f.found o (place_number p) f.rows_are) ∙ walks_on (waits f.found workers (place_number p)) (stands f.found (Some (workers, x ∷ xs)) (place_number p)) (x ∷ xs) (words_of ts) (workers_value f.found (place_number p) x xs t.1.0.0))
+    (walks_on (stands us o (place_number p)) (waits f.found workers (place_number p)) (codes "--workers") ((x ∷ xs) ∷ words_of ts) (workers_reached us f.found o (place_number p) f.rows_are) ∙ walks_on (waits f.found workers (place_number p)) (stands f.found (Some (workers, x ∷ xs)) (place_number p)) (x ∷ xs) (words_of ts) (workers_value f.found (place_number p) x xs t.1.0.0))
     (ap (λ (s : Option Arguments). reads (then_with with_workers s (x ∷ xs)) (words_of ts)) f.adds)
     (read_all ts f.found (Some (workers, x ∷ xs)) f.after p t.1.1 f.holds t.1.0.1 (after_workers p f.after (x ∷ xs) (l f.after f.adds))))
     (λ b. inr (refused_at us o a (place_number p) (codes "--workers") ((x ∷ xs) ∷ words_of ts) (workers_kinds us o (place_number p)) b)) (settle us o a h g)
 read_all (rows_name ∷ plain x xs ∷ ts) us o a p t h g l = ⊎_elim
     (λ f. moved us f.found o (Some (rows, x ∷ xs)) a f.after (place_number p) (place_number p) (codes "--rows" ∷ (x ∷ xs) ∷ words_of ts) (words_of ts)
     (rows_to us o a (place_number p) ((x ∷ xs) ∷ words_of ts) f ∙ goes_on (waits f.found rows (place_number p)) (stands f.found (Some (rows, x ∷ xs)) (place_number p)) (x ∷ xs) (words_of ts) (rows_value_kinds f.found (place_number p) x xs t.1.0.0) (rows_value f.found (place_number p) x xs t.1.0.0))
-    (walks_on (stands us o (place_number p)) (waits f.found rows (place_number p)) (codes "--rows") ((x ∷ xs) ∷ words_of ts) (rows_met us f.found o (place_number p) f.rows_are) ∙ walks_on (waits f.found rows (place_number p)) (stands f.found (Some (rows, x ∷ xs)) (place_number p)) (x ∷ xs) (words_of ts) (rows_value f.found (place_number p) x xs t.1.0.0))
+    (walks_on (stands us o (place_number p)) (waits f.found rows (place_number p)) (codes "--rows") ((x ∷ xs) ∷ words_of ts) (rows_reached us f.found o (place_number p) f.rows_are) ∙ walks_on (waits f.found rows (place_number p)) (stands f.found (Some (rows, x ∷ xs)) (place_number p)) (x ∷ xs) (words_of ts) (rows_value f.found (place_number p) x xs t.1.0.0))
     (ap (λ (s : Option Arguments). reads (then_with with_rows s (x ∷ xs)) (words_of ts)) f.adds)
     (read_all ts f.found (Some (rows, x ∷ xs)) f.after p t.1.1 f.holds t.1.0.1 (after_rows p f.after (x ∷ xs) (l f.after f.adds))))
     (λ b. inr (refused_at us o a (place_number p) (codes "--rows") ((x ∷ xs) ∷ words_of ts) (rows_kinds us o (place_number p)) b)) (settle us o a h g)

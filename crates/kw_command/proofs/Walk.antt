@@ -183,13 +183,13 @@ or_nothing [] = refl
 or_nothing (k ∷ ks) = refl
 
 -- the name of an option settles the open use
-pub workers_met : (us found : List Use) (o : Option Open) (p : ℕ) → settled_rows rules (open_use o) (map row_for us) ≡ map row_for found → walked rules [] (stands us o p) (codes "--workers") ≡ waits found workers p
+pub workers_reached : (us found : List Use) (o : Option Open) (p : ℕ) → settled_rows rules (open_use o) (map row_for us) ≡ map row_for found → walked rules [] (stands us o p) (codes "--workers") ≡ waits found workers p
 unfolding clap_on_literals
-workers_met us found o p e = ap (λ (r : List Row). record { held = record { rows = r; pending = Some (codes "workers", []); skip = 0 }; waiting = option (codes "workers"); position = p; is_trailing = false; stopped = None }) e
+workers_reached us found o p e = ap (λ (r : List Row). record { held = record { rows = r; pending = Some (codes "workers", []); skip = 0 }; waiting = option (codes "workers"); position = p; is_trailing = false; stopped = None }) e
 
-pub rows_met : (us found : List Use) (o : Option Open) (p : ℕ) → settled_rows rules (open_use o) (map row_for us) ≡ map row_for found → walked rules [] (stands us o p) (codes "--rows") ≡ waits found rows p
+pub rows_reached : (us found : List Use) (o : Option Open) (p : ℕ) → settled_rows rules (open_use o) (map row_for us) ≡ map row_for found → walked rules [] (stands us o p) (codes "--rows") ≡ waits found rows p
 unfolding clap_on_literals
-rows_met us found o p e = ap (λ (r : List Row). record { held = record { rows = r; pending = Some (codes "rows", []); skip = 0 }; waiting = option (codes "rows"); position = p; is_trailing = false; stopped = None }) e
+rows_reached us found o p e = ap (λ (r : List Row). record { held = record { rows = r; pending = Some (codes "rows", []); skip = 0 }; waiting = option (codes "rows"); position = p; is_trailing = false; stopped = None }) e
 
 pub workers_kinds : (us : List Use) (o : Option Open) (p : ℕ) → turn_fault shape [] (stands us o p) (codes "--workers") ≡ open_kinds us o
 unfolding clap_on_literals
@@ -209,7 +209,7 @@ flag_rows us none =
     ap (with_values flag_id reading.AsWritten CommandLine (codes "true" ∷ [])) (row_added flag_id (λ _. []) [] (map row_for us) no_row ∙ append-nil (map row_for us))
     ∙ (row_added flag_id (more_values CommandLine (codes "true" ∷ [])) (row_for (flag true) ∷ []) (map row_for us) no_row ∙ sym (map-append row_for us (flag true ∷ [])))
 
-flag_rows_met : (us : List Use) (o : Option Open) (p : ℕ) → walked rules [] (stands us o p) (codes "--record") ≡ record {
+flag_rows_reached : (us : List Use) (o : Option Open) (p : ℕ) → walked rules [] (stands us o p) (codes "--record") ≡ record {
   held = record { rows = flag_row_added (settled_rows rules (open_use o) (map row_for us)); pending = None; skip = 0 };
   waiting = idle;
   position = p;
@@ -217,12 +217,12 @@ flag_rows_met : (us : List Use) (o : Option Open) (p : ℕ) → walked rules [] 
   stopped = None;
 }
 unfolding clap_on_literals
-flag_rows_met us o p = refl
+flag_rows_reached us o p = refl
 
-pub flag_word_met : (us found : List Use) (o : Option Open) (p : ℕ) → settled_rows rules (open_use o) (map row_for us) ≡ map row_for found → flag_in found ≡ None
+pub flag_word_reached : (us found : List Use) (o : Option Open) (p : ℕ) → settled_rows rules (open_use o) (map row_for us) ≡ map row_for found → flag_in found ≡ None
     → walked rules [] (stands us o p) (codes "--record") ≡ stands (found ++ flag true ∷ []) None p
-flag_word_met us found o p e none =
-    flag_rows_met us o p
+flag_word_reached us found o p e none =
+    flag_rows_reached us o p
     ∙ ap (λ (r : List Row). record { held = record { rows = r; pending = None; skip = 0 }; waiting = idle; position = p; is_trailing = false; stopped = None }) (ap flag_row_added e ∙ flag_rows found none)
 
 -- a flag that was given is refused

@@ -5,8 +5,8 @@
 -- on the arrow splits no test of the table again; where a law does not matter for most arrows, one
 -- catch-all serves them. The words are a function of names. What follows where the end of the
 -- looks, or of a row's cells, has no event of its own is an arrow of its own type, `NextLook` and
--- `NextRest`. In a rebalance there are two arrows in its place, so that each says outright what the
--- seat knows next.
+-- `NextLeftOver`. In a rebalance there are two arrows in its place, so that each says outright what
+-- the seat knows next.
 use Rattle.std.proofs.Common.{ℕ, ◌≡◌, ◌≢◌, ◌⊎◌, inl, inr, ◌+◌, ◌<◌, ◌≤◌, ◌==◌, Option, Some, None, Bool, true, false, nat_lt, nat_le, [], arith, refl, sym, ◌∙◌, ap, subst, if◌then◌else◌, unwrap_or}
 use Rattle.std.proofs.lemmas.Bool.Decides.{nat_tests}
 use Rattle.kw_words.specs.declared.layout.Name.TheVariants as name
@@ -55,14 +55,14 @@ use Rattle.kw_core.proofs.NextBuilt.{begun_anew, over, refused}
 use Rattle.kw_world.specs.Calls.{first_key, last_key, is_in_range, is_scan, is_range_empty}
 use Rattle.kw_world.specs.Transition.{Outcome, to, leave, row_linked, row_or_first}
 use Rattle.kw_world.specs.ScanTransitions.{begun, entered, version_settled, answer_or_stopped}
-use Rattle.kw_world.specs.WalkTransitions.{start_transition, guess_met, arrive, link_met, walk_transition, is_stopped}
+use Rattle.kw_world.specs.WalkTransitions.{start_transition, guess_seen, arrive, link_reached, walk_transition, is_stopped}
 use Rattle.kw_world.specs.declared.marks.Mark.{Mark}
 use Rattle.kw_world.specs.Marks.{unmarked, least_mark}
-use Rattle.kw_world.specs.ReadTransitions.{to_look, look_met, help_met, remembering, reaching, rest_of, to_rest, list_met, list_past, row_read, get_answered, scan_ended, scan_on, with_pairs, row_scanned, gathering}
-use Rattle.kw_world.specs.PutTransitions.{has_room, given_of, stamp_met, tidies_row}
-use Rattle.kw_world.specs.EngageTransitions.{to_rebalance, again, refuse, state_met, engaged, followed_by, decided}
-use Rattle.kw_world.specs.FreezeTransitions.{count_frozen, to_scans, to_freeze_look, marking, freezing, freeze_met, entry_tried, to_scan_look, needing, scan_met, scan_helped}
-use Rattle.kw_world.specs.TakeTransitions.{to_take, planned, left_of, to_left, taking, take_met, take_version, keeping, take_past}
+use Rattle.kw_world.specs.ReadTransitions.{to_look, look_seen, help_seen, remembering, reaching, left_over_of, to_left_over, list_reached, list_past, row_read, get_answered, scan_ended, scan_on, with_pairs, row_scanned, gathering}
+use Rattle.kw_world.specs.PutTransitions.{has_room, given_of, stamp_seen, tidies_row}
+use Rattle.kw_world.specs.EngageTransitions.{to_rebalance, again, refuse, state_seen, engaged, followed_by, decided}
+use Rattle.kw_world.specs.FreezeTransitions.{count_frozen, to_scans, to_freeze_look, marking, freezing, freeze_seen, entry_tried, to_scan_look, needing, scan_seen, scan_helped}
+use Rattle.kw_world.specs.TakeTransitions.{to_take, planned, left_of, to_left, taking, take_reached, take_version, keeping, take_past}
 use Rattle.kw_world.specs.ListTransitions.{link_name, meeting, losing, to_insert, insert_from, insert_past, is_newer, insert_tried}
 use Rattle.kw_world.specs.Table.{transition}
 use Rattle.kw_world.specs.Step.{followed, is_skipped}
@@ -78,12 +78,12 @@ pub data NextLook (z : Sizes) (j : ℕ) : Activity → Type 0 where
 
 -- what a reader knows once its walk is over, or a remembered cell is read: it reads the next one
 -- that it remembers, or the row is read
-pub data NextRest (l : Local) : Local → Type 0 where
-  rests : (m : Mark) → least_mark l.remembered ≡ Some m → NextRest l (record l { place = m.cell; place_version = m.version; remembered = unmarked m.cell l.remembered; activity = Activity.Read Read.LeftOverKey })
-  answers : least_mark l.remembered ≡ None → is_scan l.call ≡ false → NextRest l (leave (answer_found (shown_at l.gathered NEWEST (first_key l.call))) l).local
-  ends_scan : least_mark l.remembered ≡ None → is_scan l.call ≡ true → (l.next ≡ None) ⊎ (last_key l.call < l.upper) → NextRest l (scan_ended (with_pairs (last_key l.call) l)).local
+pub data NextLeftOver (l : Local) : Local → Type 0 where
+  goes_to_left_over : (m : Mark) → least_mark l.remembered ≡ Some m → NextLeftOver l (record l { place = m.cell; place_version = m.version; remembered = unmarked m.cell l.remembered; activity = Activity.Read Read.LeftOverKey })
+  answers : least_mark l.remembered ≡ None → is_scan l.call ≡ false → NextLeftOver l (leave (answer_found (shown_at l.gathered NEWEST (first_key l.call))) l).local
+  ends_scan : least_mark l.remembered ≡ None → is_scan l.call ≡ true → (l.next ≡ None) ⊎ (last_key l.call < l.upper) → NextLeftOver l (scan_ended (with_pairs (last_key l.call) l)).local
   scans_on : (r : ℕ) → least_mark l.remembered ≡ None → is_scan l.call ≡ true → l.next ≡ Some r → l.upper ≤ last_key l.call →
-      NextRest l (record (with_pairs (last_key l.call) l) { row = r; lower = l.upper; want = l.upper; next = None; upper = 0; activity = Activity.Walk Walk.Next })
+      NextLeftOver l (record (with_pairs (last_key l.call) l) { row = r; lower = l.upper; want = l.upper; next = None; upper = 0; activity = Activity.Walk Walk.Next })
 
 -- the word is neither a pending nor a stamped entry
 pub record IsNeither (w : ℕ) : Type 0 where
@@ -128,31 +128,31 @@ pub data Arrow (z : Sizes) (v : Words) (s : ℕ) (choice : Choice) (l : Local) :
   stops : is_stopped choice l ≡ true → Arrow z v s choice l (Activity.Walk Walk.Next) (leave Stopped l).local
   puts_in_last : is_put l.call ≡ true → next_in v l.row ≡ None → Arrow z v s choice l (Activity.Walk Walk.Next) (record l { next = None; upper = 0; activity = Activity.Put Put.Count })
   reads_last : is_put l.call ≡ false → next_in v l.row ≡ None → Arrow z v s choice l (Activity.Walk Walk.Next) (record l { next = None; upper = 0; remembered = []; gathered = []; link = None; walked = 0; activity = Activity.Look (Look.Entry 0) })
-  meets_next : (q : ℕ) → next_in v l.row ≡ Some q → Arrow z v s choice l (Activity.Walk Walk.Next) (record l { candidate = q; activity = Activity.Walk Walk.NextLeast })
+  reaches_next : (q : ℕ) → next_in v l.row ≡ Some q → Arrow z v s choice l (Activity.Walk Walk.Next) (record l { candidate = q; activity = Activity.Walk Walk.NextLeast })
   walks_on : least_in v l.candidate ≤ l.want → Arrow z v s choice l (Activity.Walk Walk.NextLeast) (record l { row = l.candidate; lower = least_in v l.candidate; activity = Activity.Walk Walk.Next })
   puts_before : is_put l.call ≡ true → l.want < least_in v l.candidate → Arrow z v s choice l (Activity.Walk Walk.NextLeast) (record l { next = Some l.candidate; upper = least_in v l.candidate; activity = Activity.Put Put.Count })
   reads_before : is_put l.call ≡ false → l.want < least_in v l.candidate → Arrow z v s choice l (Activity.Walk Walk.NextLeast) (record l { next = Some l.candidate; upper = least_in v l.candidate; remembered = []; gathered = []; link = None; walked = 0; activity = Activity.Look (Look.Entry 0) })
   -- a reader looks at the entries
-  meets_pending : (i c : ℕ) → pend_of (v (name.Pend l.row i)) ≡ Some (pend.Pending c) → Arrow z v s choice l (Activity.Look (Look.Entry i)) (record l { looked = i; met = c; activity = Activity.Look Look.Key })
-  meets_stamped : (i c version : ℕ) (next : Activity) → pend_of (v (name.Pend l.row i)) ≡ Some (pend.Stamped c version) → NextLook z (i + 1) next → Arrow z v s choice l (Activity.Look (Look.Entry i)) (record (remembering c version l) { activity = next })
-  meets_neither : (i : ℕ) (next : Activity) → IsNeither (v (name.Pend l.row i)) → NextLook z (i + 1) next → Arrow z v s choice l (Activity.Look (Look.Entry i)) (record l { activity = next })
-  is_wanted : is_in_range l.call (key_of_word (v (name.Key l.row l.met))) ≡ true → Arrow z v s choice l (Activity.Look Look.Key) (record l { activity = Activity.Look Look.Clock })
-  is_passed : (next : Activity) → is_in_range l.call (key_of_word (v (name.Key l.row l.met))) ≡ false → NextLook z (l.looked + 1) next → Arrow z v s choice l (Activity.Look Look.Key) (record l { activity = next })
+  sees_pending : (i c : ℕ) → pend_of (v (name.Pend l.row i)) ≡ Some (pend.Pending c) → Arrow z v s choice l (Activity.Look (Look.Entry i)) (record l { looked = i; saw = c; activity = Activity.Look Look.Key })
+  sees_stamped : (i c version : ℕ) (next : Activity) → pend_of (v (name.Pend l.row i)) ≡ Some (pend.Stamped c version) → NextLook z (i + 1) next → Arrow z v s choice l (Activity.Look (Look.Entry i)) (record (remembering c version l) { activity = next })
+  sees_neither : (i : ℕ) (next : Activity) → IsNeither (v (name.Pend l.row i)) → NextLook z (i + 1) next → Arrow z v s choice l (Activity.Look (Look.Entry i)) (record l { activity = next })
+  is_wanted : is_in_range l.call (key_of_word (v (name.Key l.row l.saw))) ≡ true → Arrow z v s choice l (Activity.Look Look.Key) (record l { activity = Activity.Look Look.Clock })
+  is_gone_by : (next : Activity) → is_in_range l.call (key_of_word (v (name.Key l.row l.saw))) ≡ false → NextLook z (l.looked + 1) next → Arrow z v s choice l (Activity.Look Look.Key) (record l { activity = next })
   loads_to_help : Arrow z v s choice l (Activity.Look Look.Clock) (record l { helping = v name.Clock; activity = Activity.Look Look.Help })
-  helps : (next : Activity) → pend_of (v (name.Pend l.row l.looked)) ≡ Some (pend.Pending l.met) → NextLook z (l.looked + 1) next → Arrow z v s choice l (Activity.Look Look.Help) (record (remembering l.met l.helping l) { activity = next })
+  helps : (next : Activity) → pend_of (v (name.Pend l.row l.looked)) ≡ Some (pend.Pending l.saw) → NextLook z (l.looked + 1) next → Arrow z v s choice l (Activity.Look Look.Help) (record (remembering l.saw l.helping l) { activity = next })
   finds_stamped : (c version : ℕ) (next : Activity) → pend_of (v (name.Pend l.row l.looked)) ≡ Some (pend.Stamped c version) → NextLook z (l.looked + 1) next → Arrow z v s choice l (Activity.Look Look.Help) (record (remembering c version l) { activity = next })
-  finds_other : (next : Activity) → IsNot l.met (v (name.Pend l.row l.looked)) → NextLook z (l.looked + 1) next → Arrow z v s choice l (Activity.Look Look.Help) (record l { activity = next })
-  -- a reader walks along the row's list, and reads what it remembers and did not meet
+  finds_other : (next : Activity) → IsNot l.saw (v (name.Pend l.row l.looked)) → NextLook z (l.looked + 1) next → Arrow z v s choice l (Activity.Look Look.Help) (record l { activity = next })
+  -- a reader walks along the row's list, and reads what it remembers and did not reach
   list_leads : (c : ℕ) → cell_of_link_word (v (link_name l.row l.link)) ≡ Some c → Arrow z v s choice l (Activity.Read Read.Link) (record (reaching z c l) { activity = Activity.Read Read.Key })
-  list_ends : (next : Local) → cell_of_link_word (v (link_name l.row l.link)) ≡ None → NextRest l next → Arrow z v s choice l (Activity.Read Read.Link) next
+  list_ends : (next : Local) → cell_of_link_word (v (link_name l.row l.link)) ≡ None → NextLeftOver l next → Arrow z v s choice l (Activity.Read Read.Link) next
   key_below : key_of_word (v (name.Key l.row l.place)) < first_key l.call → Arrow z v s choice l (Activity.Read Read.Key) (list_past l).local
   key_within : first_key l.call ≤ key_of_word (v (name.Key l.row l.place)) → key_of_word (v (name.Key l.row l.place)) ≤ last_key l.call → Arrow z v s choice l (Activity.Read Read.Key) (record l { place_key = key_of_word (v (name.Key l.row l.place)); activity = Activity.Read Read.Version })
-  key_above : (next : Local) → last_key l.call < key_of_word (v (name.Key l.row l.place)) → NextRest l next → Arrow z v s choice l (Activity.Read Read.Key) next
+  key_above : (next : Local) → last_key l.call < key_of_word (v (name.Key l.row l.place)) → NextLeftOver l next → Arrow z v s choice l (Activity.Read Read.Key) next
   loads_version : Arrow z v s choice l (Activity.Read Read.Version) (record l { place_version = unwrap_or (version_of_word (v (name.Version l.row l.place))) 1; activity = Activity.Read Read.Value })
   gathers_listed : Arrow z v s choice l (Activity.Read Read.Value) (list_past (gathering z (value_of_word (v (name.Value l.row l.place))) l)).local
-  rest_wanted : is_in_range l.call (key_of_word (v (name.Key l.row l.place))) ≡ true → Arrow z v s choice l (Activity.Read Read.LeftOverKey) (record l { place_key = key_of_word (v (name.Key l.row l.place)); activity = Activity.Read Read.LeftOverValue })
-  rest_passed : (next : Local) → is_in_range l.call (key_of_word (v (name.Key l.row l.place))) ≡ false → NextRest l next → Arrow z v s choice l (Activity.Read Read.LeftOverKey) next
-  gathers_rest : (next : Local) → NextRest (gathering z (value_of_word (v (name.Value l.row l.place))) l) next → Arrow z v s choice l (Activity.Read Read.LeftOverValue) next
+  left_over_wanted : is_in_range l.call (key_of_word (v (name.Key l.row l.place))) ≡ true → Arrow z v s choice l (Activity.Read Read.LeftOverKey) (record l { place_key = key_of_word (v (name.Key l.row l.place)); activity = Activity.Read Read.LeftOverValue })
+  left_over_gone_by : (next : Local) → is_in_range l.call (key_of_word (v (name.Key l.row l.place))) ≡ false → NextLeftOver l next → Arrow z v s choice l (Activity.Read Read.LeftOverKey) next
+  gathers_left_over : (next : Local) → NextLeftOver (gathering z (value_of_word (v (name.Value l.row l.place))) l) next → Arrow z v s choice l (Activity.Read Read.LeftOverValue) next
   -- a scan is over
   clears_scan : (answer : Answer) → Arrow z v s choice l (Activity.EndScan answer) (leave (answer_or_stopped answer choice) l).local
   -- a put or a delete
@@ -170,8 +170,8 @@ pub data Arrow (z : Sizes) (v : Words) (s : ℕ) (choice : Choice) (l : Local) :
   stamps_full : IsNotOwn l.cell (v (name.Pend l.row s)) → Arrow z v s choice l (Activity.Put Put.Stamp) (to_rebalance l).local
   stores_version : Arrow z v s choice l (Activity.Put Put.Version) (to_insert l).local
   -- its cell is inserted
-  meets_cell : (c : ℕ) → cell_of_link_word (v (link_name l.row l.link)) ≡ Some c → Arrow z v s choice l (Activity.Insert Insert.Link) (record (meeting z c l) { activity = Activity.Insert Insert.Key })
-  meets_none : cell_of_link_word (v (link_name l.row l.link)) ≡ None → Arrow z v s choice l (Activity.Insert Insert.Link) (record l { held = None; activity = Activity.Insert Insert.Set })
+  reaches_cell : (c : ℕ) → cell_of_link_word (v (link_name l.row l.link)) ≡ Some c → Arrow z v s choice l (Activity.Insert Insert.Link) (record (meeting z c l) { activity = Activity.Insert Insert.Key })
+  sees_none : cell_of_link_word (v (link_name l.row l.link)) ≡ None → Arrow z v s choice l (Activity.Insert Insert.Link) (record l { held = None; activity = Activity.Insert Insert.Set })
   key_before : key_of_word (v (name.Key l.row l.place)) < first_key l.call → Arrow z v s choice l (Activity.Insert Insert.Key) (insert_past l).local
   key_same : key_of_word (v (name.Key l.row l.place)) ≡ first_key l.call → Arrow z v s choice l (Activity.Insert Insert.Key) (record l { activity = Activity.Insert Insert.Version })
   key_after : first_key l.call < key_of_word (v (name.Key l.row l.place)) → Arrow z v s choice l (Activity.Insert Insert.Key) (record l { activity = Activity.Insert Insert.Set })
@@ -209,21 +209,21 @@ pub data Arrow (z : Sizes) (v : Words) (s : ℕ) (choice : Choice) (l : Local) :
   ends_undecided : (count : ℕ) → l.tidies ≡ true → Arrow z v s choice l (Activity.Rebalance (Rebalance.Engage (Engage.Decide count))) (over l).local
   -- the full row is frozen
   freezes_count : Arrow z v s choice l (Activity.Rebalance (Rebalance.Freeze Freeze.Count)) (count_frozen l).local
-  meets_idle : (i : ℕ) → pend_of (v (name.Pend l.row i)) ≡ Some pend.Idle → Arrow z v s choice l (Activity.Rebalance (Rebalance.Freeze (Freeze.Look i))) (freezing i pend.Idle l).local
-  meets_unstamped : (i c : ℕ) → pend_of (v (name.Pend l.row i)) ≡ Some (pend.Pending c) → Arrow z v s choice l (Activity.Rebalance (Rebalance.Freeze (Freeze.Look i))) (freezing i (pend.Pending c) l).local
+  sees_idle : (i : ℕ) → pend_of (v (name.Pend l.row i)) ≡ Some pend.Idle → Arrow z v s choice l (Activity.Rebalance (Rebalance.Freeze (Freeze.Look i))) (freezing i pend.Idle l).local
+  sees_unstamped : (i c : ℕ) → pend_of (v (name.Pend l.row i)) ≡ Some (pend.Pending c) → Arrow z v s choice l (Activity.Rebalance (Rebalance.Freeze (Freeze.Look i))) (freezing i (pend.Pending c) l).local
   remembers : (i c version : ℕ) → pend_of (v (name.Pend l.row i)) ≡ Some (pend.Stamped c version) → i + 1 < z.seats → Arrow z v s choice l (Activity.Rebalance (Rebalance.Freeze (Freeze.Look i))) (record (marking c version l) { activity = Activity.Rebalance (Rebalance.Freeze (Freeze.Look (i + 1))) })
   remembers_last : (i c version : ℕ) → pend_of (v (name.Pend l.row i)) ≡ Some (pend.Stamped c version) → z.seats ≤ i + 1 → Arrow z v s choice l (Activity.Rebalance (Rebalance.Freeze (Freeze.Look i))) (to_scans (marking c version l)).local
-  meets_frozen : (i : ℕ) → (pend_of (v (name.Pend l.row i)) ≡ Some pend.Frozen) ⊎ (pend_of (v (name.Pend l.row i)) ≡ None) → i + 1 < z.seats → Arrow z v s choice l (Activity.Rebalance (Rebalance.Freeze (Freeze.Look i))) (record l { activity = Activity.Rebalance (Rebalance.Freeze (Freeze.Look (i + 1))) })
-  meets_frozen_last : (i : ℕ) → (pend_of (v (name.Pend l.row i)) ≡ Some pend.Frozen) ⊎ (pend_of (v (name.Pend l.row i)) ≡ None) → z.seats ≤ i + 1 → Arrow z v s choice l (Activity.Rebalance (Rebalance.Freeze (Freeze.Look i))) (to_scans l).local
+  sees_frozen : (i : ℕ) → (pend_of (v (name.Pend l.row i)) ≡ Some pend.Frozen) ⊎ (pend_of (v (name.Pend l.row i)) ≡ None) → i + 1 < z.seats → Arrow z v s choice l (Activity.Rebalance (Rebalance.Freeze (Freeze.Look i))) (record l { activity = Activity.Rebalance (Rebalance.Freeze (Freeze.Look (i + 1))) })
+  sees_frozen_last : (i : ℕ) → (pend_of (v (name.Pend l.row i)) ≡ Some pend.Frozen) ⊎ (pend_of (v (name.Pend l.row i)) ≡ None) → z.seats ≤ i + 1 → Arrow z v s choice l (Activity.Rebalance (Rebalance.Freeze (Freeze.Look i))) (to_scans l).local
   freezes_entry : (i : ℕ) → v (name.Pend l.row i) ≡ pend_word l.rebalance.entry → i + 1 < z.seats → Arrow z v s choice l (Activity.Rebalance (Rebalance.Freeze (Freeze.Entry i))) (record l { activity = Activity.Rebalance (Rebalance.Freeze (Freeze.Look (i + 1))) })
   freezes_last : (i : ℕ) → v (name.Pend l.row i) ≡ pend_word l.rebalance.entry → z.seats ≤ i + 1 → Arrow z v s choice l (Activity.Rebalance (Rebalance.Freeze (Freeze.Entry i))) (to_scans l).local
   looks_again : (i : ℕ) → v (name.Pend l.row i) ≢ pend_word l.rebalance.entry → Arrow z v s choice l (Activity.Rebalance (Rebalance.Freeze (Freeze.Entry i))) (record l { activity = Activity.Rebalance (Rebalance.Freeze (Freeze.Look i)) })
   -- the scans are looked at
-  meets_quiet : (i : ℕ) → (scan_of (v (name.Scan i)) ≡ Some scan.Quiet) ⊎ (scan_of (v (name.Scan i)) ≡ None) → i + 1 < z.seats → Arrow z v s choice l (Activity.Rebalance (Rebalance.Freeze (Freeze.Scan i))) (record l { activity = Activity.Rebalance (Rebalance.Freeze (Freeze.Scan (i + 1))) })
-  meets_quiet_last : (i : ℕ) → (scan_of (v (name.Scan i)) ≡ Some scan.Quiet) ⊎ (scan_of (v (name.Scan i)) ≡ None) → z.seats ≤ i + 1 → Arrow z v s choice l (Activity.Rebalance (Rebalance.Freeze (Freeze.Scan i))) (to_take l).local
+  sees_quiet : (i : ℕ) → (scan_of (v (name.Scan i)) ≡ Some scan.Quiet) ⊎ (scan_of (v (name.Scan i)) ≡ None) → i + 1 < z.seats → Arrow z v s choice l (Activity.Rebalance (Rebalance.Freeze (Freeze.Scan i))) (record l { activity = Activity.Rebalance (Rebalance.Freeze (Freeze.Scan (i + 1))) })
+  sees_quiet_last : (i : ℕ) → (scan_of (v (name.Scan i)) ≡ Some scan.Quiet) ⊎ (scan_of (v (name.Scan i)) ≡ None) → z.seats ≤ i + 1 → Arrow z v s choice l (Activity.Rebalance (Rebalance.Freeze (Freeze.Scan i))) (to_take l).local
   helps_scan : (i clock : ℕ) → scan_of (v (name.Scan i)) ≡ Some (scan.Waiting clock) → Arrow z v s choice l (Activity.Rebalance (Rebalance.Freeze (Freeze.Scan i))) (record l { rebalance = record l.rebalance { waiting = clock }; activity = Activity.Rebalance (Rebalance.Freeze (Freeze.Draw i)) })
-  meets_drawn : (i version : ℕ) → scan_of (v (name.Scan i)) ≡ Some (scan.Drawn version) → i + 1 < z.seats → Arrow z v s choice l (Activity.Rebalance (Rebalance.Freeze (Freeze.Scan i))) (record (needing version l) { activity = Activity.Rebalance (Rebalance.Freeze (Freeze.Scan (i + 1))) })
-  meets_drawn_last : (i version : ℕ) → scan_of (v (name.Scan i)) ≡ Some (scan.Drawn version) → z.seats ≤ i + 1 → Arrow z v s choice l (Activity.Rebalance (Rebalance.Freeze (Freeze.Scan i))) (to_take (needing version l)).local
+  sees_drawn : (i version : ℕ) → scan_of (v (name.Scan i)) ≡ Some (scan.Drawn version) → i + 1 < z.seats → Arrow z v s choice l (Activity.Rebalance (Rebalance.Freeze (Freeze.Scan i))) (record (needing version l) { activity = Activity.Rebalance (Rebalance.Freeze (Freeze.Scan (i + 1))) })
+  sees_drawn_last : (i version : ℕ) → scan_of (v (name.Scan i)) ≡ Some (scan.Drawn version) → z.seats ≤ i + 1 → Arrow z v s choice l (Activity.Rebalance (Rebalance.Freeze (Freeze.Scan i))) (to_take (needing version l)).local
   draws_for : (i : ℕ) → Arrow z v s choice l (Activity.Rebalance (Rebalance.Freeze (Freeze.Draw i))) (record l { rebalance = record l.rebalance { drawn = v name.Clock }; activity = Activity.Rebalance (Rebalance.Freeze (Freeze.Settle i)) })
   settles_scan : (i : ℕ) → scan_of (v (name.Scan i)) ≡ Some (scan.Waiting l.rebalance.waiting) → i + 1 < z.seats → Arrow z v s choice l (Activity.Rebalance (Rebalance.Freeze (Freeze.Settle i))) (record (needing l.rebalance.drawn l) { activity = Activity.Rebalance (Rebalance.Freeze (Freeze.Scan (i + 1))) })
   settles_last : (i : ℕ) → scan_of (v (name.Scan i)) ≡ Some (scan.Waiting l.rebalance.waiting) → z.seats ≤ i + 1 → Arrow z v s choice l (Activity.Rebalance (Rebalance.Freeze (Freeze.Settle i))) (to_take (needing l.rebalance.drawn l)).local
@@ -265,11 +265,11 @@ apart_above x y e f = grind (arith, nat_tests)
 
 -- a version's word is its number, and 0 for none
 unwrap_or-version_of_word : (w : ℕ) → unwrap_or (version_of_word w) 0 ≡ w
-unwrap_or-version_of_word w = met (version_of_word w) refl
+unwrap_or-version_of_word w = saw (version_of_word w) refl
   where
-    met : (x : Option ℕ) → version_of_word w ≡ x → unwrap_or x 0 ≡ w
-    met (Some n) e = rw e at (number_word-number_of_word w)
-    met None e = rw e at (number_word-number_of_word w)
+    saw : (x : Option ℕ) → version_of_word w ≡ x → unwrap_or x 0 ≡ w
+    saw (Some n) e = rw e at (number_word-number_of_word w)
+    saw None e = rw e at (number_word-number_of_word w)
 
 pub at_most : (x y : ℕ) → nat_le x y ≡ true → x ≤ y
 at_most x y e = grind (arith, nat_tests)
@@ -281,60 +281,60 @@ above x y e = grind (arith, nat_tests)
 
 -- the next look, over the test
 next_look : (z : Sizes) (j : ℕ) (l : Local) (P : Local → Type 0) → ((next : Activity) → NextLook z j next → P (record l { activity = next })) → P (to_look z j l).local
-next_look z j l P f = met (nat_lt j z.seats) refl
+next_look z j l P f = saw (nat_lt j z.seats) refl
   where
-    met : (b : Bool) → nat_lt j z.seats ≡ b → P (let x : Outcome = if b then to (Activity.Look (Look.Entry j)) l else to (Activity.Read Read.Link) l in x).local
-    met true e = f (Activity.Look (Look.Entry j)) (looks (below j z.seats e))
-    met false e = f (Activity.Read Read.Link) (lists (not_below j z.seats e))
+    saw : (b : Bool) → nat_lt j z.seats ≡ b → P (let x : Outcome = if b then to (Activity.Look (Look.Entry j)) l else to (Activity.Read Read.Link) l in x).local
+    saw true e = f (Activity.Look (Look.Entry j)) (looks (below j z.seats e))
+    saw false e = f (Activity.Read Read.Link) (lists (not_below j z.seats e))
 
 -- what follows the end of a row's cells, for a scan
-scan_goes_on : (l : Local) (n : Option ℕ) → least_mark l.remembered ≡ None → is_scan l.call ≡ true → l.next ≡ n → NextRest l (scan_on n (last_key l.call) (with_pairs (last_key l.call) l)).local
+scan_goes_on : (l : Local) (n : Option ℕ) → least_mark l.remembered ≡ None → is_scan l.call ≡ true → l.next ≡ n → NextLeftOver l (scan_on n (last_key l.call) (with_pairs (last_key l.call) l)).local
 scan_goes_on l None c s e = ends_scan c s (inl e)
-scan_goes_on l (Some r) c s e = met (nat_lt (last_key l.call) l.upper) refl
+scan_goes_on l (Some r) c s e = saw (nat_lt (last_key l.call) l.upper) refl
   where
-    met : (b : Bool) → nat_lt (last_key l.call) l.upper ≡ b → NextRest l (let x : Outcome = if b then scan_ended (with_pairs (last_key l.call) l) else to (Activity.Walk Walk.Next) (record (with_pairs (last_key l.call) l) { row = r; lower = l.upper; want = l.upper; next = None; upper = 0 }) in x).local
-    met true h = ends_scan c s (inr (below _ _ h))
-    met false h = scans_on r c s e (not_below _ _ h)
+    saw : (b : Bool) → nat_lt (last_key l.call) l.upper ≡ b → NextLeftOver l (let x : Outcome = if b then scan_ended (with_pairs (last_key l.call) l) else to (Activity.Walk Walk.Next) (record (with_pairs (last_key l.call) l) { row = r; lower = l.upper; want = l.upper; next = None; upper = 0 }) in x).local
+    saw true h = ends_scan c s (inr (below _ _ h))
+    saw false h = scans_on r c s e (not_below _ _ h)
 
 -- what follows the end of a row's cells
-read_arrow : (l : Local) (call : Option Call) → least_mark l.remembered ≡ None → l.call ≡ call → NextRest l (row_read call l).local
-read_arrow l (Some (Put key value)) c e = subst (λ x. NextRest l (get_answered (first_key x) l).local) e (answers c (ap is_scan e))
-read_arrow l (Some (Del key)) c e = subst (λ x. NextRest l (get_answered (first_key x) l).local) e (answers c (ap is_scan e))
-read_arrow l (Some (Get key)) c e = subst (λ x. NextRest l (get_answered (first_key x) l).local) e (answers c (ap is_scan e))
-read_arrow l (Some (Scan from upto)) c e = subst (λ x. NextRest l (row_scanned (last_key x) l).local) e (scan_goes_on l l.next c (ap is_scan e) refl)
-read_arrow l None c e = subst (λ x. NextRest l (get_answered (first_key x) l).local) e (answers c (ap is_scan e))
+read_arrow : (l : Local) (call : Option Call) → least_mark l.remembered ≡ None → l.call ≡ call → NextLeftOver l (row_read call l).local
+read_arrow l (Some (Put key value)) c e = subst (λ x. NextLeftOver l (get_answered (first_key x) l).local) e (answers c (ap is_scan e))
+read_arrow l (Some (Del key)) c e = subst (λ x. NextLeftOver l (get_answered (first_key x) l).local) e (answers c (ap is_scan e))
+read_arrow l (Some (Get key)) c e = subst (λ x. NextLeftOver l (get_answered (first_key x) l).local) e (answers c (ap is_scan e))
+read_arrow l (Some (Scan from upto)) c e = subst (λ x. NextLeftOver l (row_scanned (last_key x) l).local) e (scan_goes_on l l.next c (ap is_scan e) refl)
+read_arrow l None c e = subst (λ x. NextLeftOver l (get_answered (first_key x) l).local) e (answers c (ap is_scan e))
 
 -- the next remembered cell, or the end
-pub next_rest : (l : Local) → NextRest l (to_rest l).local
-next_rest l = met (least_mark l.remembered) refl
+pub next_left_over : (l : Local) → NextLeftOver l (to_left_over l).local
+next_left_over l = saw (least_mark l.remembered) refl
   where
-    met : (o : Option Mark) → least_mark l.remembered ≡ o → NextRest l (rest_of o l).local
-    met (Some m) e = rests m e
-    met None e = read_arrow l l.call e refl
+    saw : (o : Option Mark) → least_mark l.remembered ≡ o → NextLeftOver l (left_over_of o l).local
+    saw (Some m) e = goes_to_left_over m e
+    saw None e = read_arrow l l.call e refl
 
 -- the next entry, or the scans
 next_entry : (z : Sizes) (j : ℕ) (l : Local) (P : Local → Type 0) → (j < z.seats → P (record l { activity = Activity.Rebalance (Rebalance.Freeze (Freeze.Look j)) })) → (z.seats ≤ j → P (to_scans l).local) → P (to_freeze_look z j l).local
-next_entry z j l P on last = met (nat_lt j z.seats) refl
+next_entry z j l P on last = saw (nat_lt j z.seats) refl
   where
-    met : (b : Bool) → nat_lt j z.seats ≡ b → P (let x : Outcome = if b then to (Activity.Rebalance (Rebalance.Freeze (Freeze.Look j))) l else to_scans l in x).local
-    met true e = on (below j z.seats e)
-    met false e = last (not_below j z.seats e)
+    saw : (b : Bool) → nat_lt j z.seats ≡ b → P (let x : Outcome = if b then to (Activity.Rebalance (Rebalance.Freeze (Freeze.Look j))) l else to_scans l in x).local
+    saw true e = on (below j z.seats e)
+    saw false e = last (not_below j z.seats e)
 
 -- the next scan, or the row's cells
 next_scan : (z : Sizes) (j : ℕ) (l : Local) (P : Local → Type 0) → (j < z.seats → P (record l { activity = Activity.Rebalance (Rebalance.Freeze (Freeze.Scan j)) })) → (z.seats ≤ j → P (to_take l).local) → P (to_scan_look z j l).local
-next_scan z j l P on last = met (nat_lt j z.seats) refl
+next_scan z j l P on last = saw (nat_lt j z.seats) refl
   where
-    met : (b : Bool) → nat_lt j z.seats ≡ b → P (let x : Outcome = if b then to (Activity.Rebalance (Rebalance.Freeze (Freeze.Scan j))) l else to_take l in x).local
-    met true e = on (below j z.seats e)
-    met false e = last (not_below j z.seats e)
+    saw : (b : Bool) → nat_lt j z.seats ≡ b → P (let x : Outcome = if b then to (Activity.Rebalance (Rebalance.Freeze (Freeze.Scan j))) l else to_take l in x).local
+    saw true e = on (below j z.seats e)
+    saw false e = last (not_below j z.seats e)
 
 -- the next remembered cell, or the plan
 next_left : (z : Sizes) (l : Local) (P : Local → Type 0) → ((m : Mark) → least_mark l.rebalance.marks ≡ Some m → P (left_of z (Some m) l).local) → (least_mark l.rebalance.marks ≡ None → P (left_of z None l).local) → P (to_left z l).local
-next_left z l P on last = met (least_mark l.rebalance.marks) refl
+next_left z l P on last = saw (least_mark l.rebalance.marks) refl
   where
-    met : (o : Option Mark) → least_mark l.rebalance.marks ≡ o → P (left_of z o l).local
-    met (Some m) e = on m e
-    met None e = last e
+    saw : (o : Option Mark) → least_mark l.rebalance.marks ≡ o → P (left_of z o l).local
+    saw (Some m) e = on m e
+    saw None e = last e
 
 module _ (z : Sizes) (rows : ℕ) (v : Words) (s : ℕ) (choice : Choice) (l : Local) where
   enter_arrow : (c : Option Call) → l.call ≡ c → Arrow z v s choice l (Activity.Enter Enter.Announce) (entered c l).local
@@ -350,7 +350,7 @@ module _ (z : Sizes) (rows : ℕ) (v : Words) (s : ℕ) (choice : Choice) (l : L
   begin_arrow (Guess r) e b m = let x : true ≡ false = m in absurd (cc)
   begin_arrow Stop e b m = let x : true ≡ false = m in absurd (cc)
 
-  guess_arrow : (r : ℕ) (x : Option State) → choice ≡ Guess r → state_of (v (name.State r)) ≡ x → Arrow z v s choice l (Activity.Walk Walk.Start) (guess_met r x l).local
+  guess_arrow : (r : ℕ) (x : Option State) → choice ≡ Guess r → state_of (v (name.State r)) ≡ x → Arrow z v s choice l (Activity.Walk Walk.Start) (guess_seen r x l).local
   guess_arrow r (Some Free) c e = guess_fails
   guess_arrow r (Some (Infant seat)) c e = guess_fails
   guess_arrow r (Some Normal) c e = guesses r c e
@@ -380,53 +380,53 @@ module _ (z : Sizes) (rows : ℕ) (v : Words) (s : ℕ) (choice : Choice) (l : L
   arrive_before (Some (Scan from upto)) e n = reads_before (ap is_put e) n
   arrive_before None e n = reads_before (ap is_put e) n
 
-  link_arrow : (n : Option ℕ) → next_in v l.row ≡ n → Arrow z v s choice l (Activity.Walk Walk.Next) (link_met n l).local
+  link_arrow : (n : Option ℕ) → next_in v l.row ≡ n → Arrow z v s choice l (Activity.Walk Walk.Next) (link_reached n l).local
   link_arrow None e = arrive_last l.call refl e
-  link_arrow (Some q) e = meets_next q e
+  link_arrow (Some q) e = reaches_next q e
 
   walk_arrow : (b : Bool) → is_stopped choice l ≡ b → Arrow z v s choice l (Activity.Walk Walk.Next) (followed rows (walk_transition b s l) (v (walk_transition b s l).operation.name)).local
   walk_arrow true e = stops e
   walk_arrow false e = link_arrow (next_in v l.row) refl
 
-  min_arrow : (b : Bool) → nat_le (least_in v l.candidate) l.want ≡ b → Arrow z v s choice l (Activity.Walk Walk.NextLeast) (let x : Outcome = if b then to (Activity.Walk Walk.Next) (record l { row = l.candidate; lower = least_in v l.candidate }) else arrive l.call (record l { next = Some l.candidate; upper = least_in v l.candidate }) in x).local
-  min_arrow true e = walks_on (at_most _ _ e)
-  min_arrow false e = arrive_before l.call refl (above _ _ e)
+  least_arrow : (b : Bool) → nat_le (least_in v l.candidate) l.want ≡ b → Arrow z v s choice l (Activity.Walk Walk.NextLeast) (let x : Outcome = if b then to (Activity.Walk Walk.Next) (record l { row = l.candidate; lower = least_in v l.candidate }) else arrive l.call (record l { next = Some l.candidate; upper = least_in v l.candidate }) in x).local
+  least_arrow true e = walks_on (at_most _ _ e)
+  least_arrow false e = arrive_before l.call refl (above _ _ e)
 
-  look_arrow : (i : ℕ) (x : Option Pend) → pend_of (v (name.Pend l.row i)) ≡ x → Arrow z v s choice l (Activity.Look (Look.Entry i)) (look_met z i x l).local
-  look_arrow i (Some pend.Idle) e = next_look z (i + 1) l (Arrow z v s choice l (Activity.Look (Look.Entry i))) (λ a n. meets_neither i a (record { pending = λ c q. let y : Some pend.Idle ≡ Some (pend.Pending c) = sym e ∙ q in cc; stamped = λ c u q. let y : Some pend.Idle ≡ Some (pend.Stamped c u) = sym e ∙ q in cc }) n)
-  look_arrow i (Some (pend.Pending cell)) e = meets_pending i cell e
-  look_arrow i (Some (pend.Stamped cell version)) e = next_look z (i + 1) (remembering cell version l) (Arrow z v s choice l (Activity.Look (Look.Entry i))) (λ a n. meets_stamped i cell version a e n)
-  look_arrow i (Some pend.Frozen) e = next_look z (i + 1) l (Arrow z v s choice l (Activity.Look (Look.Entry i))) (λ a n. meets_neither i a (record { pending = λ c q. let y : Some pend.Frozen ≡ Some (pend.Pending c) = sym e ∙ q in cc; stamped = λ c u q. let y : Some pend.Frozen ≡ Some (pend.Stamped c u) = sym e ∙ q in cc }) n)
-  look_arrow i None e = next_look z (i + 1) l (Arrow z v s choice l (Activity.Look (Look.Entry i))) (λ a n. meets_neither i a (record { pending = λ c q. let y : None ≡ Some (pend.Pending c) = sym e ∙ q in cc; stamped = λ c u q. let y : None ≡ Some (pend.Stamped c u) = sym e ∙ q in cc }) n)
+  look_arrow : (i : ℕ) (x : Option Pend) → pend_of (v (name.Pend l.row i)) ≡ x → Arrow z v s choice l (Activity.Look (Look.Entry i)) (look_seen z i x l).local
+  look_arrow i (Some pend.Idle) e = next_look z (i + 1) l (Arrow z v s choice l (Activity.Look (Look.Entry i))) (λ a n. sees_neither i a (record { pending = λ c q. let y : Some pend.Idle ≡ Some (pend.Pending c) = sym e ∙ q in cc; stamped = λ c u q. let y : Some pend.Idle ≡ Some (pend.Stamped c u) = sym e ∙ q in cc }) n)
+  look_arrow i (Some (pend.Pending cell)) e = sees_pending i cell e
+  look_arrow i (Some (pend.Stamped cell version)) e = next_look z (i + 1) (remembering cell version l) (Arrow z v s choice l (Activity.Look (Look.Entry i))) (λ a n. sees_stamped i cell version a e n)
+  look_arrow i (Some pend.Frozen) e = next_look z (i + 1) l (Arrow z v s choice l (Activity.Look (Look.Entry i))) (λ a n. sees_neither i a (record { pending = λ c q. let y : Some pend.Frozen ≡ Some (pend.Pending c) = sym e ∙ q in cc; stamped = λ c u q. let y : Some pend.Frozen ≡ Some (pend.Stamped c u) = sym e ∙ q in cc }) n)
+  look_arrow i None e = next_look z (i + 1) l (Arrow z v s choice l (Activity.Look (Look.Entry i))) (λ a n. sees_neither i a (record { pending = λ c q. let y : None ≡ Some (pend.Pending c) = sym e ∙ q in cc; stamped = λ c u q. let y : None ≡ Some (pend.Stamped c u) = sym e ∙ q in cc }) n)
 
-  help_arrow : (x : Option Pend) → pend_of (v (name.Pend l.row l.looked)) ≡ x → Arrow z v s choice l (Activity.Look Look.Help) (help_met z x l).local
-  help_arrow (Some pend.Idle) e = next_look z (l.looked + 1) l (Arrow z v s choice l (Activity.Look Look.Help)) (λ a n. finds_other a (record { pending = λ q. let y : Some pend.Idle ≡ Some (pend.Pending l.met) = sym e ∙ q in cc; stamped = λ c u q. let y : Some pend.Idle ≡ Some (pend.Stamped c u) = sym e ∙ q in cc }) n)
-  help_arrow (Some (pend.Pending cell)) e = met (cell == l.met) refl
+  help_arrow : (x : Option Pend) → pend_of (v (name.Pend l.row l.looked)) ≡ x → Arrow z v s choice l (Activity.Look Look.Help) (help_seen z x l).local
+  help_arrow (Some pend.Idle) e = next_look z (l.looked + 1) l (Arrow z v s choice l (Activity.Look Look.Help)) (λ a n. finds_other a (record { pending = λ q. let y : Some pend.Idle ≡ Some (pend.Pending l.saw) = sym e ∙ q in cc; stamped = λ c u q. let y : Some pend.Idle ≡ Some (pend.Stamped c u) = sym e ∙ q in cc }) n)
+  help_arrow (Some (pend.Pending cell)) e = saw (cell == l.saw) refl
     where
-      met : (b : Bool) → (cell == l.met) ≡ b → Arrow z v s choice l (Activity.Look Look.Help) (to_look z (l.looked + 1) (let x : Local = if b then remembering cell l.helping l else l in x)).local
-      met true h = next_look z (l.looked + 1) (remembering cell l.helping l) (Arrow z v s choice l (Activity.Look Look.Help))
-          (λ a n. subst (λ c. Arrow z v s choice l (Activity.Look Look.Help) (record (remembering c l.helping l) { activity = a })) (sym (eq_from cell l.met h)) (helps a (e ∙ ap (λ c. Some (pend.Pending c)) (eq_from cell l.met h)) n))
-      met false h = next_look z (l.looked + 1) l (Arrow z v s choice l (Activity.Look Look.Help)) (λ a n. finds_other a (record { pending = λ q. let y : Some (pend.Pending cell) ≡ Some (pend.Pending l.met) = sym e ∙ q in eq_not cell l.met h (cc); stamped = λ c u q. let y : Some (pend.Pending cell) ≡ Some (pend.Stamped c u) = sym e ∙ q in cc }) n)
+      saw : (b : Bool) → (cell == l.saw) ≡ b → Arrow z v s choice l (Activity.Look Look.Help) (to_look z (l.looked + 1) (let x : Local = if b then remembering cell l.helping l else l in x)).local
+      saw true h = next_look z (l.looked + 1) (remembering cell l.helping l) (Arrow z v s choice l (Activity.Look Look.Help))
+          (λ a n. subst (λ c. Arrow z v s choice l (Activity.Look Look.Help) (record (remembering c l.helping l) { activity = a })) (sym (eq_from cell l.saw h)) (helps a (e ∙ ap (λ c. Some (pend.Pending c)) (eq_from cell l.saw h)) n))
+      saw false h = next_look z (l.looked + 1) l (Arrow z v s choice l (Activity.Look Look.Help)) (λ a n. finds_other a (record { pending = λ q. let y : Some (pend.Pending cell) ≡ Some (pend.Pending l.saw) = sym e ∙ q in eq_not cell l.saw h (cc); stamped = λ c u q. let y : Some (pend.Pending cell) ≡ Some (pend.Stamped c u) = sym e ∙ q in cc }) n)
   help_arrow (Some (pend.Stamped cell version)) e = next_look z (l.looked + 1) (remembering cell version l) (Arrow z v s choice l (Activity.Look Look.Help)) (λ a n. finds_stamped cell version a e n)
-  help_arrow (Some pend.Frozen) e = next_look z (l.looked + 1) l (Arrow z v s choice l (Activity.Look Look.Help)) (λ a n. finds_other a (record { pending = λ q. let y : Some pend.Frozen ≡ Some (pend.Pending l.met) = sym e ∙ q in cc; stamped = λ c u q. let y : Some pend.Frozen ≡ Some (pend.Stamped c u) = sym e ∙ q in cc }) n)
-  help_arrow None e = next_look z (l.looked + 1) l (Arrow z v s choice l (Activity.Look Look.Help)) (λ a n. finds_other a (record { pending = λ q. let y : None ≡ Some (pend.Pending l.met) = sym e ∙ q in cc; stamped = λ c u q. let y : None ≡ Some (pend.Stamped c u) = sym e ∙ q in cc }) n)
+  help_arrow (Some pend.Frozen) e = next_look z (l.looked + 1) l (Arrow z v s choice l (Activity.Look Look.Help)) (λ a n. finds_other a (record { pending = λ q. let y : Some pend.Frozen ≡ Some (pend.Pending l.saw) = sym e ∙ q in cc; stamped = λ c u q. let y : Some pend.Frozen ≡ Some (pend.Stamped c u) = sym e ∙ q in cc }) n)
+  help_arrow None e = next_look z (l.looked + 1) l (Arrow z v s choice l (Activity.Look Look.Help)) (λ a n. finds_other a (record { pending = λ q. let y : None ≡ Some (pend.Pending l.saw) = sym e ∙ q in cc; stamped = λ c u q. let y : None ≡ Some (pend.Stamped c u) = sym e ∙ q in cc }) n)
 
-  list_arrow : (x : Option ℕ) → cell_of_link_word (v (link_name l.row l.link)) ≡ x → Arrow z v s choice l (Activity.Read Read.Link) (list_met z x l).local
+  list_arrow : (x : Option ℕ) → cell_of_link_word (v (link_name l.row l.link)) ≡ x → Arrow z v s choice l (Activity.Read Read.Link) (list_reached z x l).local
   list_arrow (Some c) e = list_leads c e
-  list_arrow None e = list_ends _ e (next_rest l)
+  list_arrow None e = list_ends _ e (next_left_over l)
 
-  stamp_arrow : (x : Option Pend) → pend_of (v (name.Pend l.row s)) ≡ x → Arrow z v s choice l (Activity.Put Put.Stamp) (stamp_met x l).local
+  stamp_arrow : (x : Option Pend) → pend_of (v (name.Pend l.row s)) ≡ x → Arrow z v s choice l (Activity.Put Put.Stamp) (stamp_seen x l).local
   stamp_arrow (Some pend.Idle) e = stamps_full (record { pending = λ q. let y : Some pend.Idle ≡ Some (pend.Pending l.cell) = sym e ∙ q in cc; stamped = λ u q. let y : Some pend.Idle ≡ Some (pend.Stamped l.cell u) = sym e ∙ q in cc })
-  stamp_arrow (Some (pend.Pending cell)) e = met (cell == l.cell) refl
+  stamp_arrow (Some (pend.Pending cell)) e = saw (cell == l.cell) refl
     where
-      met : (b : Bool) → (cell == l.cell) ≡ b → Arrow z v s choice l (Activity.Put Put.Stamp) (let x : Outcome = if b then to (Activity.Put Put.Version) l else to_rebalance l in x).local
-      met true h = stamps (e ∙ ap (λ c. Some (pend.Pending c)) (eq_from cell l.cell h))
-      met false h = stamps_full (record { pending = λ q. let y : Some (pend.Pending cell) ≡ Some (pend.Pending l.cell) = sym e ∙ q in eq_not cell l.cell h (cc); stamped = λ u q. let y : Some (pend.Pending cell) ≡ Some (pend.Stamped l.cell u) = sym e ∙ q in cc })
-  stamp_arrow (Some (pend.Stamped cell version)) e = met (cell == l.cell) refl
+      saw : (b : Bool) → (cell == l.cell) ≡ b → Arrow z v s choice l (Activity.Put Put.Stamp) (let x : Outcome = if b then to (Activity.Put Put.Version) l else to_rebalance l in x).local
+      saw true h = stamps (e ∙ ap (λ c. Some (pend.Pending c)) (eq_from cell l.cell h))
+      saw false h = stamps_full (record { pending = λ q. let y : Some (pend.Pending cell) ≡ Some (pend.Pending l.cell) = sym e ∙ q in eq_not cell l.cell h (cc); stamped = λ u q. let y : Some (pend.Pending cell) ≡ Some (pend.Stamped l.cell u) = sym e ∙ q in cc })
+  stamp_arrow (Some (pend.Stamped cell version)) e = saw (cell == l.cell) refl
     where
-      met : (b : Bool) → (cell == l.cell) ≡ b → Arrow z v s choice l (Activity.Put Put.Stamp) (let x : Outcome = if b then to (Activity.Put Put.Version) (record l { version = version }) else to_rebalance l in x).local
-      met true h = is_stamped version (e ∙ ap (λ c. Some (pend.Stamped c version)) (eq_from cell l.cell h))
-      met false h = stamps_full (record { pending = λ q. let y : Some (pend.Stamped cell version) ≡ Some (pend.Pending l.cell) = sym e ∙ q in cc; stamped = λ u q. let y : Some (pend.Stamped cell version) ≡ Some (pend.Stamped l.cell u) = sym e ∙ q in eq_not cell l.cell h (cc) })
+      saw : (b : Bool) → (cell == l.cell) ≡ b → Arrow z v s choice l (Activity.Put Put.Stamp) (let x : Outcome = if b then to (Activity.Put Put.Version) (record l { version = version }) else to_rebalance l in x).local
+      saw true h = is_stamped version (e ∙ ap (λ c. Some (pend.Stamped c version)) (eq_from cell l.cell h))
+      saw false h = stamps_full (record { pending = λ q. let y : Some (pend.Stamped cell version) ≡ Some (pend.Pending l.cell) = sym e ∙ q in cc; stamped = λ u q. let y : Some (pend.Stamped cell version) ≡ Some (pend.Stamped l.cell u) = sym e ∙ q in eq_not cell l.cell h (cc) })
   stamp_arrow (Some pend.Frozen) e = stamps_full (record { pending = λ q. let y : Some pend.Frozen ≡ Some (pend.Pending l.cell) = sym e ∙ q in cc; stamped = λ u q. let y : Some pend.Frozen ≡ Some (pend.Stamped l.cell u) = sym e ∙ q in cc })
   stamp_arrow None e = stamps_full (record { pending = λ q. let y : None ≡ Some (pend.Pending l.cell) = sym e ∙ q in cc; stamped = λ u q. let y : None ≡ Some (pend.Stamped l.cell u) = sym e ∙ q in cc })
 
@@ -450,15 +450,15 @@ module _ (z : Sizes) (rows : ℕ) (v : Words) (s : ℕ) (choice : Choice) (l : L
   not_decided count true e = ends_undecided count e
   not_decided count false e = decides_not count e
 
-  balance_arrow : (x : Option State) → state_of (v (name.State l.row)) ≡ x → Arrow z v s choice l (Activity.Rebalance (Rebalance.Engage Engage.State)) (state_met x l).local
+  balance_arrow : (x : Option State) → state_of (v (name.State l.row)) ≡ x → Arrow z v s choice l (Activity.Rebalance (Rebalance.Engage Engage.State)) (state_seen x l).local
   balance_arrow (Some Free) e = other_state l.tidies refl
   balance_arrow (Some (Infant seat)) e = finds_infant seat e
   balance_arrow (Some Normal) e = finds_normal e
-  balance_arrow (Some (Leader count)) e = met (nat_le count 1) refl
+  balance_arrow (Some (Leader count)) e = saw (nat_le count 1) refl
     where
-      met : (b : Bool) → nat_le count 1 ≡ b → Arrow z v s choice l (Activity.Rebalance (Rebalance.Engage Engage.State)) (let x : Outcome = if b then to (Activity.Rebalance (Rebalance.Engage (Engage.MarkLink count))) l else again l in x).local
-      met true h = finds_leader count e (at_most _ _ h)
-      met false h = other_state l.tidies refl
+      saw : (b : Bool) → nat_le count 1 ≡ b → Arrow z v s choice l (Activity.Rebalance (Rebalance.Engage Engage.State)) (let x : Outcome = if b then to (Activity.Rebalance (Rebalance.Engage (Engage.MarkLink count))) l else again l in x).local
+      saw true h = finds_leader count e (at_most _ _ h)
+      saw false h = other_state l.tidies refl
   balance_arrow (Some (Follower leader)) e = other_state l.tidies refl
   balance_arrow (Some (Retired number)) e = other_state l.tidies refl
   balance_arrow None e = other_state l.tidies refl
@@ -467,176 +467,176 @@ module _ (z : Sizes) (rows : ℕ) (v : Words) (s : ℕ) (choice : Choice) (l : L
   decide_arrow count (Some Free) e = not_decided count l.tidies refl
   decide_arrow count (Some (Infant seat)) e = not_decided count l.tidies refl
   decide_arrow count (Some Normal) e = not_decided count l.tidies refl
-  decide_arrow count (Some (Leader n)) e = met (nat_le n 1) refl
+  decide_arrow count (Some (Leader n)) e = saw (nat_le n 1) refl
     where
-      met : (b : Bool) → nat_le n 1 ≡ b → Arrow z v s choice l (Activity.Rebalance (Rebalance.Engage (Engage.Decide count))) (let x : Outcome = if b then to (Activity.Rebalance (Rebalance.Freeze Freeze.Count)) l else again l in x).local
-      met true h = decides count n e (at_most _ _ h)
-      met false h = not_decided count l.tidies refl
+      saw : (b : Bool) → nat_le n 1 ≡ b → Arrow z v s choice l (Activity.Rebalance (Rebalance.Engage (Engage.Decide count))) (let x : Outcome = if b then to (Activity.Rebalance (Rebalance.Freeze Freeze.Count)) l else again l in x).local
+      saw true h = decides count n e (at_most _ _ h)
+      saw false h = not_decided count l.tidies refl
   decide_arrow count (Some (Follower leader)) e = not_decided count l.tidies refl
   decide_arrow count (Some (Retired number)) e = not_decided count l.tidies refl
   decide_arrow count None e = not_decided count l.tidies refl
 
-  freeze_arrow : (i : ℕ) (x : Option Pend) → pend_of (v (name.Pend l.row i)) ≡ x → Arrow z v s choice l (Activity.Rebalance (Rebalance.Freeze (Freeze.Look i))) (freeze_met z i x l).local
-  freeze_arrow i (Some pend.Idle) e = meets_idle i e
-  freeze_arrow i (Some (pend.Pending cell)) e = meets_unstamped i cell e
+  freeze_arrow : (i : ℕ) (x : Option Pend) → pend_of (v (name.Pend l.row i)) ≡ x → Arrow z v s choice l (Activity.Rebalance (Rebalance.Freeze (Freeze.Look i))) (freeze_seen z i x l).local
+  freeze_arrow i (Some pend.Idle) e = sees_idle i e
+  freeze_arrow i (Some (pend.Pending cell)) e = sees_unstamped i cell e
   freeze_arrow i (Some (pend.Stamped cell version)) e = next_entry z (i + 1) (marking cell version l) (Arrow z v s choice l (Activity.Rebalance (Rebalance.Freeze (Freeze.Look i)))) (remembers i cell version e) (remembers_last i cell version e)
-  freeze_arrow i (Some pend.Frozen) e = next_entry z (i + 1) l (Arrow z v s choice l (Activity.Rebalance (Rebalance.Freeze (Freeze.Look i)))) (meets_frozen i (inl e)) (meets_frozen_last i (inl e))
-  freeze_arrow i None e = next_entry z (i + 1) l (Arrow z v s choice l (Activity.Rebalance (Rebalance.Freeze (Freeze.Look i)))) (meets_frozen i (inr e)) (meets_frozen_last i (inr e))
+  freeze_arrow i (Some pend.Frozen) e = next_entry z (i + 1) l (Arrow z v s choice l (Activity.Rebalance (Rebalance.Freeze (Freeze.Look i)))) (sees_frozen i (inl e)) (sees_frozen_last i (inl e))
+  freeze_arrow i None e = next_entry z (i + 1) l (Arrow z v s choice l (Activity.Rebalance (Rebalance.Freeze (Freeze.Look i)))) (sees_frozen i (inr e)) (sees_frozen_last i (inr e))
 
-  scan_arrow : (i : ℕ) (x : Option ScanWord) → scan_of (v (name.Scan i)) ≡ x → Arrow z v s choice l (Activity.Rebalance (Rebalance.Freeze (Freeze.Scan i))) (scan_met z i x l).local
-  scan_arrow i (Some scan.Quiet) e = next_scan z (i + 1) l (Arrow z v s choice l (Activity.Rebalance (Rebalance.Freeze (Freeze.Scan i)))) (meets_quiet i (inl e)) (meets_quiet_last i (inl e))
+  scan_arrow : (i : ℕ) (x : Option ScanWord) → scan_of (v (name.Scan i)) ≡ x → Arrow z v s choice l (Activity.Rebalance (Rebalance.Freeze (Freeze.Scan i))) (scan_seen z i x l).local
+  scan_arrow i (Some scan.Quiet) e = next_scan z (i + 1) l (Arrow z v s choice l (Activity.Rebalance (Rebalance.Freeze (Freeze.Scan i)))) (sees_quiet i (inl e)) (sees_quiet_last i (inl e))
   scan_arrow i (Some (scan.Waiting clock)) e = helps_scan i clock e
-  scan_arrow i (Some (scan.Drawn version)) e = next_scan z (i + 1) (needing version l) (Arrow z v s choice l (Activity.Rebalance (Rebalance.Freeze (Freeze.Scan i)))) (meets_drawn i version e) (meets_drawn_last i version e)
-  scan_arrow i None e = next_scan z (i + 1) l (Arrow z v s choice l (Activity.Rebalance (Rebalance.Freeze (Freeze.Scan i)))) (meets_quiet i (inr e)) (meets_quiet_last i (inr e))
+  scan_arrow i (Some (scan.Drawn version)) e = next_scan z (i + 1) (needing version l) (Arrow z v s choice l (Activity.Rebalance (Rebalance.Freeze (Freeze.Scan i)))) (sees_drawn i version e) (sees_drawn_last i version e)
+  scan_arrow i None e = next_scan z (i + 1) l (Arrow z v s choice l (Activity.Rebalance (Rebalance.Freeze (Freeze.Scan i)))) (sees_quiet i (inr e)) (sees_quiet_last i (inr e))
 
   no_scan_arrow : (i : ℕ) → IsNoScan l.rebalance.waiting (v (name.Scan i)) → Arrow z v s choice l (Activity.Rebalance (Rebalance.Freeze (Freeze.Settle i))) (to_scan_look z (i + 1) l).local
   no_scan_arrow i n = next_scan z (i + 1) l (Arrow z v s choice l (Activity.Rebalance (Rebalance.Freeze (Freeze.Settle i)))) (finds_no_scan i n) (finds_no_scan_last i n)
 
   settle_arrow : (i : ℕ) (x : Option ScanWord) → scan_of (v (name.Scan i)) ≡ x → Arrow z v s choice l (Activity.Rebalance (Rebalance.Freeze (Freeze.Settle i))) (scan_helped z i x l).local
   settle_arrow i (Some scan.Quiet) e = no_scan_arrow i (record { waiting = λ q. let y : Some scan.Quiet ≡ Some (scan.Waiting l.rebalance.waiting) = sym e ∙ q in cc; drawn = λ u q. let y : Some scan.Quiet ≡ Some (scan.Drawn u) = sym e ∙ q in cc })
-  settle_arrow i (Some (scan.Waiting clock)) e = met (clock == l.rebalance.waiting) refl
+  settle_arrow i (Some (scan.Waiting clock)) e = saw (clock == l.rebalance.waiting) refl
     where
-      met : (b : Bool) → (clock == l.rebalance.waiting) ≡ b → Arrow z v s choice l (Activity.Rebalance (Rebalance.Freeze (Freeze.Settle i))) (to_scan_look z (i + 1) (let x : Local = if b then needing l.rebalance.drawn l else l in x)).local
-      met true h = let w = e ∙ ap (λ c. Some (scan.Waiting c)) (eq_from clock l.rebalance.waiting h) in next_scan z (i + 1) (needing l.rebalance.drawn l) (Arrow z v s choice l (Activity.Rebalance (Rebalance.Freeze (Freeze.Settle i)))) (settles_scan i w) (settles_last i w)
-      met false h = no_scan_arrow i (record { waiting = λ q. let y : Some (scan.Waiting clock) ≡ Some (scan.Waiting l.rebalance.waiting) = sym e ∙ q in eq_not clock l.rebalance.waiting h (cc); drawn = λ u q. let y : Some (scan.Waiting clock) ≡ Some (scan.Drawn u) = sym e ∙ q in cc })
+      saw : (b : Bool) → (clock == l.rebalance.waiting) ≡ b → Arrow z v s choice l (Activity.Rebalance (Rebalance.Freeze (Freeze.Settle i))) (to_scan_look z (i + 1) (let x : Local = if b then needing l.rebalance.drawn l else l in x)).local
+      saw true h = let w = e ∙ ap (λ c. Some (scan.Waiting c)) (eq_from clock l.rebalance.waiting h) in next_scan z (i + 1) (needing l.rebalance.drawn l) (Arrow z v s choice l (Activity.Rebalance (Rebalance.Freeze (Freeze.Settle i)))) (settles_scan i w) (settles_last i w)
+      saw false h = no_scan_arrow i (record { waiting = λ q. let y : Some (scan.Waiting clock) ≡ Some (scan.Waiting l.rebalance.waiting) = sym e ∙ q in eq_not clock l.rebalance.waiting h (cc); drawn = λ u q. let y : Some (scan.Waiting clock) ≡ Some (scan.Drawn u) = sym e ∙ q in cc })
   settle_arrow i (Some (scan.Drawn version)) e = next_scan z (i + 1) (needing version l) (Arrow z v s choice l (Activity.Rebalance (Rebalance.Freeze (Freeze.Settle i)))) (finds_drawn i version e) (finds_drawn_last i version e)
   settle_arrow i None e = no_scan_arrow i (record { waiting = λ q. let y : None ≡ Some (scan.Waiting l.rebalance.waiting) = sym e ∙ q in cc; drawn = λ u q. let y : None ≡ Some (scan.Drawn u) = sym e ∙ q in cc })
 
-  take_arrow : (x : Option ℕ) → cell_of_link_word (v (link_name l.row l.link)) ≡ x → Arrow z v s choice l (Activity.Rebalance (Rebalance.Gather Gather.Link)) (take_met z x l).local
+  take_arrow : (x : Option ℕ) → cell_of_link_word (v (link_name l.row l.link)) ≡ x → Arrow z v s choice l (Activity.Rebalance (Rebalance.Gather Gather.Link)) (take_reached z x l).local
   take_arrow (Some c) e = take_leads c e
   take_arrow None e = next_left z l (Arrow z v s choice l (Activity.Rebalance (Rebalance.Gather Gather.Link))) (λ m n. takes_left m e n) (takes_no_more e)
 
   insert_arrow : (x : Option ℕ) → cell_of_link_word (v (link_name l.row l.link)) ≡ x → Arrow z v s choice l (Activity.Insert Insert.Link) (insert_from z x l).local
-  insert_arrow (Some c) e = meets_cell c e
-  insert_arrow None e = meets_none e
+  insert_arrow (Some c) e = reaches_cell c e
+  insert_arrow None e = sees_none e
 
   -- every event that is not skipped takes an arrow
   pub arrow : (a : Activity) → IsBegun a choice → is_skipped a choice ≡ false → Arrow z v s choice l a (followed rows (transition z a s choice l) (v (transition z a s choice l).operation.name)).local
   arrow Activity.Idle b m = begin_arrow choice refl b m
   arrow (Activity.Enter Enter.Announce) b m = enter_arrow l.call refl
-  arrow (Activity.Draw Draw.Clock) b m = met (nat_le SPENT (v name.Clock)) refl
+  arrow (Activity.Draw Draw.Clock) b m = saw (nat_le SPENT (v name.Clock)) refl
     where
-      met : (b : Bool) → nat_le SPENT (v name.Clock) ≡ b → Arrow z v s choice l (Activity.Draw Draw.Clock) (let x : Outcome = if b then leave Spent l else to (Activity.Draw Draw.Wait) (record l { waiting = v name.Clock }) in x).local
-      met true e = is_spent (at_most _ _ e)
-      met false e = waits (above _ _ e)
+      saw : (b : Bool) → nat_le SPENT (v name.Clock) ≡ b → Arrow z v s choice l (Activity.Draw Draw.Clock) (let x : Outcome = if b then leave Spent l else to (Activity.Draw Draw.Wait) (record l { waiting = v name.Clock }) in x).local
+      saw true e = is_spent (at_most _ _ e)
+      saw false e = waits (above _ _ e)
   arrow (Activity.Draw Draw.Wait) b m = stores_waiting
   arrow (Activity.Draw Draw.Version) b m = draws
-  arrow (Activity.Draw Draw.Settle) b m = met (is_range_empty l.call) refl
+  arrow (Activity.Draw Draw.Settle) b m = saw (is_range_empty l.call) refl
     where
-      met : (b : Bool) → is_range_empty l.call ≡ b → Arrow z v s choice l (Activity.Draw Draw.Settle) (let x : Outcome = if b then to (Activity.EndScan Pairs) (record l { version = version_settled (scan_of (v (name.Scan s))) l.drawn }) else to (Activity.Walk Walk.Start) (record l { version = version_settled (scan_of (v (name.Scan s))) l.drawn; want = first_key l.call }) in x).local
-      met true e = settles_empty e
-      met false e = settles e
+      saw : (b : Bool) → is_range_empty l.call ≡ b → Arrow z v s choice l (Activity.Draw Draw.Settle) (let x : Outcome = if b then to (Activity.EndScan Pairs) (record l { version = version_settled (scan_of (v (name.Scan s))) l.drawn }) else to (Activity.Walk Walk.Start) (record l { version = version_settled (scan_of (v (name.Scan s))) l.drawn; want = first_key l.call }) in x).local
+      saw true e = settles_empty e
+      saw false e = settles e
   arrow (Activity.Walk Walk.Start) b m = start_arrow choice refl
   arrow (Activity.Walk Walk.First) b m = takes_head
-  arrow (Activity.Walk Walk.GuessedLeast) b m = met (nat_le (least_in v l.row) l.want) refl
+  arrow (Activity.Walk Walk.GuessedLeast) b m = saw (nat_le (least_in v l.row) l.want) refl
     where
-      met : (b : Bool) → nat_le (least_in v l.row) l.want ≡ b → Arrow z v s choice l (Activity.Walk Walk.GuessedLeast) (let x : Outcome = if b then to (Activity.Walk Walk.Next) (record l { lower = least_in v l.row }) else to (Activity.Walk Walk.First) l in x).local
-      met true e = guess_serves (at_most _ _ e)
-      met false e = guess_is_above (above _ _ e)
+      saw : (b : Bool) → nat_le (least_in v l.row) l.want ≡ b → Arrow z v s choice l (Activity.Walk Walk.GuessedLeast) (let x : Outcome = if b then to (Activity.Walk Walk.Next) (record l { lower = least_in v l.row }) else to (Activity.Walk Walk.First) l in x).local
+      saw true e = guess_serves (at_most _ _ e)
+      saw false e = guess_is_above (above _ _ e)
   arrow (Activity.Walk Walk.Next) b m = walk_arrow (is_stopped choice l) refl
-  arrow (Activity.Walk Walk.NextLeast) b m = min_arrow (nat_le (least_in v l.candidate) l.want) refl
+  arrow (Activity.Walk Walk.NextLeast) b m = least_arrow (nat_le (least_in v l.candidate) l.want) refl
   arrow (Activity.Look (Look.Entry i)) b m = look_arrow i (pend_of (v (name.Pend l.row i))) refl
-  arrow (Activity.Look Look.Key) b m = met (is_in_range l.call (key_of_word (v (name.Key l.row l.met)))) refl
+  arrow (Activity.Look Look.Key) b m = saw (is_in_range l.call (key_of_word (v (name.Key l.row l.saw)))) refl
     where
-      met : (b : Bool) → is_in_range l.call (key_of_word (v (name.Key l.row l.met))) ≡ b → Arrow z v s choice l (Activity.Look Look.Key) (let x : Outcome = if b then to (Activity.Look Look.Clock) l else to_look z (l.looked + 1) l in x).local
-      met true e = is_wanted e
-      met false e = next_look z (l.looked + 1) l (Arrow z v s choice l (Activity.Look Look.Key)) (λ a n. is_passed a e n)
+      saw : (b : Bool) → is_in_range l.call (key_of_word (v (name.Key l.row l.saw))) ≡ b → Arrow z v s choice l (Activity.Look Look.Key) (let x : Outcome = if b then to (Activity.Look Look.Clock) l else to_look z (l.looked + 1) l in x).local
+      saw true e = is_wanted e
+      saw false e = next_look z (l.looked + 1) l (Arrow z v s choice l (Activity.Look Look.Key)) (λ a n. is_gone_by a e n)
   arrow (Activity.Look Look.Clock) b m = loads_to_help
   arrow (Activity.Look Look.Help) b m = help_arrow (pend_of (v (name.Pend l.row l.looked))) refl
   arrow (Activity.Read Read.Link) b m = list_arrow (cell_of_link_word (v (link_name l.row l.link))) refl
-  arrow (Activity.Read Read.Key) b m = met (nat_lt (key_of_word (v (name.Key l.row l.place))) (first_key l.call)) (nat_le (key_of_word (v (name.Key l.row l.place))) (last_key l.call)) refl refl
+  arrow (Activity.Read Read.Key) b m = saw (nat_lt (key_of_word (v (name.Key l.row l.place))) (first_key l.call)) (nat_le (key_of_word (v (name.Key l.row l.place))) (last_key l.call)) refl refl
     where
-      met : (b c : Bool) → nat_lt (key_of_word (v (name.Key l.row l.place))) (first_key l.call) ≡ b → nat_le (key_of_word (v (name.Key l.row l.place))) (last_key l.call) ≡ c →
-          Arrow z v s choice l (Activity.Read Read.Key) (let x : Outcome = if b then list_past l else if c then to (Activity.Read Read.Version) (record l { place_key = key_of_word (v (name.Key l.row l.place)) }) else to_rest l in x).local
-      met true c e f = key_below (below _ _ e)
-      met false true e f = key_within (not_below _ _ e) (at_most _ _ f)
-      met false false e f = key_above _ (above _ _ f) (next_rest l)
+      saw : (b c : Bool) → nat_lt (key_of_word (v (name.Key l.row l.place))) (first_key l.call) ≡ b → nat_le (key_of_word (v (name.Key l.row l.place))) (last_key l.call) ≡ c →
+          Arrow z v s choice l (Activity.Read Read.Key) (let x : Outcome = if b then list_past l else if c then to (Activity.Read Read.Version) (record l { place_key = key_of_word (v (name.Key l.row l.place)) }) else to_left_over l in x).local
+      saw true c e f = key_below (below _ _ e)
+      saw false true e f = key_within (not_below _ _ e) (at_most _ _ f)
+      saw false false e f = key_above _ (above _ _ f) (next_left_over l)
   arrow (Activity.Read Read.Version) b m = loads_version
   arrow (Activity.Read Read.Value) b m = gathers_listed
-  arrow (Activity.Read Read.LeftOverKey) b m = met (is_in_range l.call (key_of_word (v (name.Key l.row l.place)))) refl
+  arrow (Activity.Read Read.LeftOverKey) b m = saw (is_in_range l.call (key_of_word (v (name.Key l.row l.place)))) refl
     where
-      met : (b : Bool) → is_in_range l.call (key_of_word (v (name.Key l.row l.place))) ≡ b → Arrow z v s choice l (Activity.Read Read.LeftOverKey) (let x : Outcome = if b then to (Activity.Read Read.LeftOverValue) (record l { place_key = key_of_word (v (name.Key l.row l.place)) }) else to_rest l in x).local
-      met true e = rest_wanted e
-      met false e = rest_passed _ e (next_rest l)
-  arrow (Activity.Read Read.LeftOverValue) b m = gathers_rest _ (next_rest (gathering z (value_of_word (v (name.Value l.row l.place))) l))
+      saw : (b : Bool) → is_in_range l.call (key_of_word (v (name.Key l.row l.place))) ≡ b → Arrow z v s choice l (Activity.Read Read.LeftOverKey) (let x : Outcome = if b then to (Activity.Read Read.LeftOverValue) (record l { place_key = key_of_word (v (name.Key l.row l.place)) }) else to_left_over l in x).local
+      saw true e = left_over_wanted e
+      saw false e = left_over_gone_by _ e (next_left_over l)
+  arrow (Activity.Read Read.LeftOverValue) b m = gathers_left_over _ (next_left_over (gathering z (value_of_word (v (name.Value l.row l.place))) l))
   arrow (Activity.EndScan answer) b m = clears_scan answer
-  arrow (Activity.Put Put.Count) b m = met (has_room z (count_of (v (name.Count l.row)))) refl
+  arrow (Activity.Put Put.Count) b m = saw (has_room z (count_of (v (name.Count l.row)))) refl
     where
-      met : (b : Bool) → has_room z (count_of (v (name.Count l.row))) ≡ b → Arrow z v s choice l (Activity.Put Put.Count) (let x : Outcome = if b then to (Activity.Put Put.Add) l else to_rebalance l in x).local
-      met true e = finds_room e
-      met false e = finds_full e
-  arrow (Activity.Put Put.Add) b m = met (has_room z (count_of (v (name.Count l.row)))) refl
+      saw : (b : Bool) → has_room z (count_of (v (name.Count l.row))) ≡ b → Arrow z v s choice l (Activity.Put Put.Count) (let x : Outcome = if b then to (Activity.Put Put.Add) l else to_rebalance l in x).local
+      saw true e = finds_room e
+      saw false e = finds_full e
+  arrow (Activity.Put Put.Add) b m = saw (has_room z (count_of (v (name.Count l.row)))) refl
     where
-      met : (b : Bool) → has_room z (count_of (v (name.Count l.row))) ≡ b → Arrow z v s choice l (Activity.Put Put.Add) (let x : Outcome = if b then to (Activity.Put Put.Key) (record l { cell = given_of (count_of (v (name.Count l.row))) }) else to_rebalance l in x).local
-      met true e = takes_cell e
-      met false e = takes_full e
+      saw : (b : Bool) → has_room z (count_of (v (name.Count l.row))) ≡ b → Arrow z v s choice l (Activity.Put Put.Add) (let x : Outcome = if b then to (Activity.Put Put.Key) (record l { cell = given_of (count_of (v (name.Count l.row))) }) else to_rebalance l in x).local
+      saw true e = takes_cell e
+      saw false e = takes_full e
   arrow (Activity.Put Put.Key) b m = stores_key
   arrow (Activity.Put Put.Value) b m = stores_value
-  arrow (Activity.Put Put.Announce) b m = met (v (name.Pend l.row s) == pend_word pend.Idle) refl
+  arrow (Activity.Put Put.Announce) b m = saw (v (name.Pend l.row s) == pend_word pend.Idle) refl
     where
-      met : (b : Bool) → (v (name.Pend l.row s) == pend_word pend.Idle) ≡ b → Arrow z v s choice l (Activity.Put Put.Announce) (let x : Outcome = if b then to (Activity.Put Put.Clock) l else to_rebalance l in x).local
-      met true e = announces (eq_from _ _ e)
-      met false e = announces_full (eq_not _ _ e)
+      saw : (b : Bool) → (v (name.Pend l.row s) == pend_word pend.Idle) ≡ b → Arrow z v s choice l (Activity.Put Put.Announce) (let x : Outcome = if b then to (Activity.Put Put.Clock) l else to_rebalance l in x).local
+      saw true e = announces (eq_from _ _ e)
+      saw false e = announces_full (eq_not _ _ e)
   arrow (Activity.Put Put.Clock) b m = loads_clock
   arrow (Activity.Put Put.Stamp) b m = stamp_arrow (pend_of (v (name.Pend l.row s))) refl
   arrow (Activity.Put Put.Version) b m = stores_version
   arrow (Activity.Insert Insert.Link) b m = insert_arrow (cell_of_link_word (v (link_name l.row l.link))) refl
-  arrow (Activity.Insert Insert.Key) b m = met (nat_lt (key_of_word (v (name.Key l.row l.place))) (first_key l.call)) (key_of_word (v (name.Key l.row l.place)) == first_key l.call) refl refl
+  arrow (Activity.Insert Insert.Key) b m = saw (nat_lt (key_of_word (v (name.Key l.row l.place))) (first_key l.call)) (key_of_word (v (name.Key l.row l.place)) == first_key l.call) refl refl
     where
-      met : (b c : Bool) → nat_lt (key_of_word (v (name.Key l.row l.place))) (first_key l.call) ≡ b → (key_of_word (v (name.Key l.row l.place)) == first_key l.call) ≡ c →
+      saw : (b c : Bool) → nat_lt (key_of_word (v (name.Key l.row l.place))) (first_key l.call) ≡ b → (key_of_word (v (name.Key l.row l.place)) == first_key l.call) ≡ c →
           Arrow z v s choice l (Activity.Insert Insert.Key) (let x : Outcome = if b then insert_past l else if c then to (Activity.Insert Insert.Version) l else to (Activity.Insert Insert.Set) l in x).local
-      met true c e f = key_before (below _ _ e)
-      met false true e f = key_same (eq_from _ _ f)
-      met false false e f = key_after (apart_above _ _ e f)
-  arrow (Activity.Insert Insert.Version) b m = rw (unwrap_or-version_of_word (v (name.Version l.row l.place))) (met (is_newer (v (name.Version l.row l.place)) l.place l) refl)
+      saw true c e f = key_before (below _ _ e)
+      saw false true e f = key_same (eq_from _ _ f)
+      saw false false e f = key_after (apart_above _ _ e f)
+  arrow (Activity.Insert Insert.Version) b m = rw (unwrap_or-version_of_word (v (name.Version l.row l.place))) (saw (is_newer (v (name.Version l.row l.place)) l.place l) refl)
     where
-      met : (b : Bool) → is_newer (v (name.Version l.row l.place)) l.place l ≡ b → Arrow z v s choice l (Activity.Insert Insert.Version) (let x : Outcome = if b then insert_past l else to (Activity.Insert Insert.Set) l in x).local
-      met true e = version_before e
-      met false e = version_after e
+      saw : (b : Bool) → is_newer (v (name.Version l.row l.place)) l.place l ≡ b → Arrow z v s choice l (Activity.Insert Insert.Version) (let x : Outcome = if b then insert_past l else to (Activity.Insert Insert.Set) l in x).local
+      saw true e = version_before e
+      saw false e = version_after e
   arrow (Activity.Insert Insert.Set) b m = stores_after
-  arrow (Activity.Insert Insert.Exchange) b m = met (v (link_name l.row l.link) == cell_link_word l.held) refl
+  arrow (Activity.Insert Insert.Exchange) b m = saw (v (link_name l.row l.link) == cell_link_word l.held) refl
     where
-      met : (b : Bool) → (v (link_name l.row l.link) == cell_link_word l.held) ≡ b → Arrow z v s choice l (Activity.Insert Insert.Exchange) (insert_tried z b l).local
-      met true e = inserts (eq_from _ _ e)
-      met false e = loses (eq_not _ _ e)
-  arrow (Activity.Put Put.Clear) b m = met (tidies_row rows choice l) refl
+      saw : (b : Bool) → (v (link_name l.row l.link) == cell_link_word l.held) ≡ b → Arrow z v s choice l (Activity.Insert Insert.Exchange) (insert_tried z b l).local
+      saw true e = inserts (eq_from _ _ e)
+      saw false e = loses (eq_not _ _ e)
+  arrow (Activity.Put Put.Clear) b m = saw (tidies_row rows choice l) refl
     where
-      met : (b : Bool) → tidies_row rows choice l ≡ b → Arrow z v s choice l (Activity.Put Put.Clear) (let x : Outcome = if b then to_rebalance (record l { tidies = true }) else leave Done l in x).local
-      met true e = tidies rows e
-      met false e = clears
+      saw : (b : Bool) → tidies_row rows choice l ≡ b → Arrow z v s choice l (Activity.Put Put.Clear) (let x : Outcome = if b then to_rebalance (record l { tidies = true }) else leave Done l in x).local
+      saw true e = tidies rows e
+      saw false e = clears
   arrow (Activity.Leave answer) b m = leaves answer
   arrow Activity.Retry b m = retries
   arrow (Activity.Enter Enter.LoadEpoch) b m = enters_again
-  arrow (Activity.Rebalance (Rebalance.Engage Engage.Clock)) b m = met (nat_le SPENT (v name.Clock)) refl
+  arrow (Activity.Rebalance (Rebalance.Engage Engage.Clock)) b m = saw (nat_le SPENT (v name.Clock)) refl
     where
-      met : (b : Bool) → nat_le SPENT (v name.Clock) ≡ b → Arrow z v s choice l (Activity.Rebalance (Rebalance.Engage Engage.Clock)) (let x : Outcome = if b then refuse Spent l else to (Activity.Rebalance (Rebalance.Engage Engage.Epoch)) l in x).local
-      met true e = refused_clock l.tidies refl (at_most _ _ e)
-      met false e = clock_serves (above _ _ e)
-  arrow (Activity.Rebalance (Rebalance.Engage Engage.Epoch)) b m = met (nat_le SPENT (v name.Epoch)) refl
+      saw : (b : Bool) → nat_le SPENT (v name.Clock) ≡ b → Arrow z v s choice l (Activity.Rebalance (Rebalance.Engage Engage.Clock)) (let x : Outcome = if b then refuse Spent l else to (Activity.Rebalance (Rebalance.Engage Engage.Epoch)) l in x).local
+      saw true e = refused_clock l.tidies refl (at_most _ _ e)
+      saw false e = clock_serves (above _ _ e)
+  arrow (Activity.Rebalance (Rebalance.Engage Engage.Epoch)) b m = saw (nat_le SPENT (v name.Epoch)) refl
     where
-      met : (b : Bool) → nat_le SPENT (v name.Epoch) ≡ b → Arrow z v s choice l (Activity.Rebalance (Rebalance.Engage Engage.Epoch)) (let x : Outcome = if b then refuse Spent l else to (Activity.Rebalance (Rebalance.Engage Engage.State)) l in x).local
-      met true e = refused_epoch l.tidies refl (at_most _ _ e)
-      met false e = epoch_serves (above _ _ e)
+      saw : (b : Bool) → nat_le SPENT (v name.Epoch) ≡ b → Arrow z v s choice l (Activity.Rebalance (Rebalance.Engage Engage.Epoch)) (let x : Outcome = if b then refuse Spent l else to (Activity.Rebalance (Rebalance.Engage Engage.State)) l in x).local
+      saw true e = refused_epoch l.tidies refl (at_most _ _ e)
+      saw false e = epoch_serves (above _ _ e)
   arrow (Activity.Rebalance (Rebalance.Engage Engage.State)) b m = balance_arrow (state_of (v (name.State l.row))) refl
   arrow (Activity.Rebalance (Rebalance.Engage (Engage.Normal seat))) b m = normalises seat
-  arrow (Activity.Rebalance (Rebalance.Engage Engage.Lead)) b m = met (v (name.State l.row) == state_word Normal) refl
+  arrow (Activity.Rebalance (Rebalance.Engage Engage.Lead)) b m = saw (v (name.State l.row) == state_word Normal) refl
     where
-      met : (b : Bool) → (v (name.State l.row) == state_word Normal) ≡ b → Arrow z v s choice l (Activity.Rebalance (Rebalance.Engage Engage.Lead)) (engaged b l).local
-      met true e = engages (eq_from _ _ e)
-      met false e = is_engaged (eq_not _ _ e)
-  arrow (Activity.Rebalance (Rebalance.Engage (Engage.MarkLink count))) b m = met (count == 0) refl
+      saw : (b : Bool) → (v (name.State l.row) == state_word Normal) ≡ b → Arrow z v s choice l (Activity.Rebalance (Rebalance.Engage Engage.Lead)) (engaged b l).local
+      saw true e = engages (eq_from _ _ e)
+      saw false e = is_engaged (eq_not _ _ e)
+  arrow (Activity.Rebalance (Rebalance.Engage (Engage.MarkLink count))) b m = saw (count == 0) refl
     where
-      met : (b : Bool) → (count == 0) ≡ b → Arrow z v s choice l (Activity.Rebalance (Rebalance.Engage (Engage.MarkLink count))) (let x : Outcome = if b then to (Activity.Rebalance (Rebalance.Engage (Engage.Decide 1))) (followed_by (next_in v l.row) l) else to (Activity.Rebalance (Rebalance.Freeze Freeze.Count)) (followed_by (next_in v l.row) l) in x).local
-      met true e = marks_link count (eq_from _ _ e)
-      met false e = marks_led count (eq_not _ _ e)
+      saw : (b : Bool) → (count == 0) ≡ b → Arrow z v s choice l (Activity.Rebalance (Rebalance.Engage (Engage.MarkLink count))) (let x : Outcome = if b then to (Activity.Rebalance (Rebalance.Engage (Engage.Decide 1))) (followed_by (next_in v l.row) l) else to (Activity.Rebalance (Rebalance.Freeze Freeze.Count)) (followed_by (next_in v l.row) l) in x).local
+      saw true e = marks_link count (eq_from _ _ e)
+      saw false e = marks_led count (eq_not _ _ e)
   arrow (Activity.Rebalance (Rebalance.Engage (Engage.Decide count))) b m = decide_arrow count (state_of (v (name.State l.row))) refl
   arrow (Activity.Rebalance (Rebalance.Freeze Freeze.Count)) b m = freezes_count
   arrow (Activity.Rebalance (Rebalance.Freeze (Freeze.Look i))) b m = freeze_arrow i (pend_of (v (name.Pend l.row i))) refl
-  arrow (Activity.Rebalance (Rebalance.Freeze (Freeze.Entry i))) b m = met (v (name.Pend l.row i) == pend_word l.rebalance.entry) refl
+  arrow (Activity.Rebalance (Rebalance.Freeze (Freeze.Entry i))) b m = saw (v (name.Pend l.row i) == pend_word l.rebalance.entry) refl
     where
-      met : (b : Bool) → (v (name.Pend l.row i) == pend_word l.rebalance.entry) ≡ b → Arrow z v s choice l (Activity.Rebalance (Rebalance.Freeze (Freeze.Entry i))) (entry_tried z i b l).local
-      met true e = next_entry z (i + 1) l (Arrow z v s choice l (Activity.Rebalance (Rebalance.Freeze (Freeze.Entry i)))) (freezes_entry i (eq_from _ _ e)) (freezes_last i (eq_from _ _ e))
-      met false e = looks_again i (eq_not _ _ e)
+      saw : (b : Bool) → (v (name.Pend l.row i) == pend_word l.rebalance.entry) ≡ b → Arrow z v s choice l (Activity.Rebalance (Rebalance.Freeze (Freeze.Entry i))) (entry_tried z i b l).local
+      saw true e = next_entry z (i + 1) l (Arrow z v s choice l (Activity.Rebalance (Rebalance.Freeze (Freeze.Entry i)))) (freezes_entry i (eq_from _ _ e)) (freezes_last i (eq_from _ _ e))
+      saw false e = looks_again i (eq_not _ _ e)
   arrow (Activity.Rebalance (Rebalance.Freeze (Freeze.Scan i))) b m = scan_arrow i (scan_of (v (name.Scan i))) refl
   arrow (Activity.Rebalance (Rebalance.Freeze (Freeze.Draw i))) b m = draws_for i
   arrow (Activity.Rebalance (Rebalance.Freeze (Freeze.Settle i))) b m = settle_arrow i (scan_of (v (name.Scan i))) refl

@@ -26,7 +26,7 @@ use Rattle.kw_world.specs.declared.rebalance.Afterwards.TheVariants.{TryAgain, M
 use Rattle.kw_world.specs.Local.{without_rows, without_rebalance}
 use Rattle.kw_world.specs.declared.answer.Answer.TheVariants.{Done}
 use Rattle.kw_world.specs.ReplaceTransitions.{at_before, before_transition, guess_before, link_before, replaced, replaced_link, row_before, row_replaced}
-use Rattle.kw_world.specs.SeekTransitions.{at_infant, give_back, given_back, has_more, numbered, pass_met, seek_first_transition, seek_met, seeking, take_row, to_pass, to_seek, with_row}
+use Rattle.kw_world.specs.SeekTransitions.{at_infant, give_back, given_back, has_more, numbered, pass_seen, seek_first_transition, seek_seen, seeking, take_row, to_pass, to_seek, with_row}
 use Rattle.kw_world.specs.Sizes.{Sizes}
 use Rattle.kw_world.specs.Step.{followed}
 use Rattle.kw_world.specs.Table.{transition}
@@ -59,7 +59,7 @@ pub data Building (z : Sizes) (v : Words) (choice : Choice) (l : Local) : Activi
   first_is_taken : (q rows : ℕ) (next : Local) → (choice ≡ Guess q) ⊎ (q ≡ l.rebalance.sought) → state_of (v (name.State q)) ≢ Some Free → NextSeek rows (seeking q l) next → Building z v choice l (Activity.Rebalance (Rebalance.Seek Seek.First)) next
   sought_is_free : state_of (v (name.State l.rebalance.sought)) ≡ Some Free → Building z v choice l (Activity.Rebalance (Rebalance.Seek Seek.Next)) (record l { activity = Activity.Rebalance (Rebalance.Seek Seek.Take) })
   sought_is_taken : (rows : ℕ) (next : Local) → state_of (v (name.State l.rebalance.sought)) ≢ Some Free → NextSeek rows l next → Building z v choice l (Activity.Rebalance (Rebalance.Seek Seek.Next)) next
-  -- at a retired one the passes of all seats are looked at, and then it is freed, or was not as it
+  -- at a retired one the visits of all seats are looked at, and then it is freed, or was not as it
   -- was found. It is tried then
   first_is_retired : (q m : ℕ) → (choice ≡ Guess q) ⊎ (q ≡ l.rebalance.sought) → state_of (v (name.State q)) ≡ Some (Retired m) → Building z v choice l (Activity.Rebalance (Rebalance.Seek Seek.First)) (record (numbered m (seeking q l)) { activity = Activity.Rebalance (Rebalance.Seek (Seek.Pass 0)) })
   sought_is_retired : (m : ℕ) → state_of (v (name.State l.rebalance.sought)) ≡ Some (Retired m) → Building z v choice l (Activity.Rebalance (Rebalance.Seek Seek.Next)) (record (numbered m l) { activity = Activity.Rebalance (Rebalance.Seek (Seek.Pass 0)) })
@@ -121,10 +121,10 @@ not_below x y e = grind (arith, nat_tests)
 -- The table goes one of these ways.
 
 module _ (z : Sizes) (rows : ℕ) (v : Words) (s : ℕ) (choice : Choice) (l : Local) where
-  -- a search at the row q, whose state is met
+  -- a search at the row q, whose state is seen
   seek_arrow : (q : ℕ) (a : Activity) (x : Option State) (k : Local) → state_of (v (name.State q)) ≡ x → (state_of (v (name.State q)) ≡ Some Free → Building z v choice l a (record k { activity = Activity.Rebalance (Rebalance.Seek Seek.Take) })) →
       ((m : ℕ) → state_of (v (name.State q)) ≡ Some (Retired m) → Building z v choice l a (record (numbered m k) { activity = Activity.Rebalance (Rebalance.Seek (Seek.Pass 0)) })) →
-      ((next : Local) → state_of (v (name.State q)) ≢ Some Free → NextSeek rows k next → Building z v choice l a next) → Building z v choice l a (seek_met rows x k).local
+      ((next : Local) → state_of (v (name.State q)) ≢ Some Free → NextSeek rows k next → Building z v choice l a next) → Building z v choice l a (seek_seen rows x k).local
   seek_arrow q a (Some Free) k e free retired taken = free e
   seek_arrow q a (Some (Infant seat)) k e free retired taken = taken _ (λ c. let y : Some (Infant seat) ≡ Some Free = sym e ∙ c in cc) (next_seek rows k)
   seek_arrow q a (Some Normal) k e free retired taken = taken _ (λ c. let y : Some Normal ≡ Some Free = sym e ∙ c in cc) (next_seek rows k)
@@ -133,7 +133,7 @@ module _ (z : Sizes) (rows : ℕ) (v : Words) (s : ℕ) (choice : Choice) (l : L
   seek_arrow q a (Some (Retired number)) k e free retired taken = retired number e
   seek_arrow q a None k e free retired taken = taken _ (λ c. let y : None ≡ Some Free = sym e ∙ c in cc) (next_seek rows k)
 
-  first_arrow : (q : ℕ) → (choice ≡ Guess q) ⊎ (q ≡ l.rebalance.sought) → Building z v choice l (Activity.Rebalance (Rebalance.Seek Seek.First)) (seek_met rows (state_of (v (name.State q))) (seeking q l)).local
+  first_arrow : (q : ℕ) → (choice ≡ Guess q) ⊎ (q ≡ l.rebalance.sought) → Building z v choice l (Activity.Rebalance (Rebalance.Seek Seek.First)) (seek_seen rows (state_of (v (name.State q))) (seeking q l)).local
   first_arrow q c = seek_arrow q (Activity.Rebalance (Rebalance.Seek Seek.First)) (state_of (v (name.State q))) (seeking q l) refl (first_is_free q c) (λ m e. first_is_retired q m c e) (λ next n k. first_is_taken q rows next c n k)
 
   seek_first_arrow : (c : Choice) → choice ≡ c → Building z v choice l (Activity.Rebalance (Rebalance.Seek Seek.First)) (followed rows (seek_first_transition c l) (v (seek_first_transition c l).operation.name)).local
@@ -142,13 +142,13 @@ module _ (z : Sizes) (rows : ℕ) (v : Words) (s : ℕ) (choice : Choice) (l : L
   seek_first_arrow (Guess r) e = first_arrow r (inl e)
   seek_first_arrow Stop e = first_arrow l.rebalance.sought (inr refl)
 
-  -- what a pass is found to be
-  pass_arrow : (i : ℕ) (x : Option ℕ) → pass_of_word (v (name.Pass i)) ≡ x → Building z v choice l (Activity.Rebalance (Rebalance.Seek (Seek.Pass i))) (pass_met z i rows x l).local
-  pass_arrow i (Some epoch) e = met (nat_le epoch l.rebalance.number) refl
+  -- what a visit is found to be
+  pass_arrow : (i : ℕ) (x : Option ℕ) → pass_of_word (v (name.Pass i)) ≡ x → Building z v choice l (Activity.Rebalance (Rebalance.Seek (Seek.Pass i))) (pass_seen z i rows x l).local
+  pass_arrow i (Some epoch) e = saw (nat_le epoch l.rebalance.number) refl
     where
-      met : (b : Bool) → nat_le epoch l.rebalance.number ≡ b → Building z v choice l (Activity.Rebalance (Rebalance.Seek (Seek.Pass i))) (let x : Outcome = if b then to_seek rows l else to_pass z (i + 1) l in x).local
-      met true f = pass_is_old i epoch rows _ e (grind (arith, nat_tests)) (next_seek rows l)
-      met false f =
+      saw : (b : Bool) → nat_le epoch l.rebalance.number ≡ b → Building z v choice l (Activity.Rebalance (Rebalance.Seek (Seek.Pass i))) (let x : Outcome = if b then to_seek rows l else to_pass z (i + 1) l in x).local
+      saw true f = pass_is_old i epoch rows _ e (grind (arith, nat_tests)) (next_seek rows l)
+      saw false f =
           let o : l.rebalance.number < epoch = grind (arith, nat_tests) in
           pass_is_young i _ (subst (IsYoung l.rebalance.number) (sym e) o) (next_pass z (i + 1) l)
   pass_arrow i None e = pass_is_young i _ (subst (IsYoung l.rebalance.number) (sym e) tt) (next_pass z (i + 1) l)
@@ -170,32 +170,32 @@ module _ (z : Sizes) (rows : ℕ) (v : Words) (s : ℕ) (choice : Choice) (l : L
 
   -- what the link of the row before is found to lead to
   before_link_arrow : (x : Option Link) → link_of (v (name.Next (row_or_first l.rebalance.before))) ≡ x → Building z v choice l (Activity.Rebalance (Rebalance.Replace Replace.Next)) (link_before x l).local
-  before_link_arrow (Some link) e = met link.row link.marked e
+  before_link_arrow (Some link) e = saw link.row link.marked e
     where
-      met : (y : Option ℕ) (marked : Bool) → link_of (v (name.Next (row_or_first l.rebalance.before))) ≡ Some (record { row = y; marked = marked }) → Building z v choice l (Activity.Rebalance (Rebalance.Replace Replace.Next)) (row_before y marked l).local
-      met (Some r) marked h = here (r == l.row) marked refl h
+      saw : (y : Option ℕ) (marked : Bool) → link_of (v (name.Next (row_or_first l.rebalance.before))) ≡ Some (record { row = y; marked = marked }) → Building z v choice l (Activity.Rebalance (Rebalance.Replace Replace.Next)) (row_before y marked l).local
+      saw (Some r) marked h = here (r == l.row) marked refl h
         where
           here : (b c : Bool) → (r == l.row) ≡ b → link_of (v (name.Next (row_or_first l.rebalance.before))) ≡ Some (record { row = Some r; marked = c }) →
               Building z v choice l (Activity.Rebalance (Rebalance.Replace Replace.Next)) (let x : Outcome = if b then (if c then give_back MoveLeft l else to (Activity.Rebalance (Rebalance.Replace Replace.Exchange)) l) else to (Activity.Rebalance (Rebalance.Replace Replace.NextLeast)) (record l { candidate = r }) in x).local
           here true true i k = leads_on_marked _ (k ∙ ap (λ (x : ℕ). Some (marked_link (Some x))) (eq_from r l.row i)) (next_back MoveLeft l)
           here true false i k = leads_to_full (k ∙ ap (λ (x : ℕ). Some (unmarked_link (Some x))) (eq_from r l.row i))
           here false c i k = leads_to_other r (ap row_linked k) (eq_not r l.row i)
-      met None marked h = leads_nowhere _ (ap row_linked h) (next_back TryAgain l)
+      saw None marked h = leads_nowhere _ (ap row_linked h) (next_back TryAgain l)
   before_link_arrow None e = leads_nowhere _ (ap row_linked e) (next_back TryAgain l)
 
   -- what the link that is exchanged is found to lead to
   replace_arrow : (x : Option Link) → link_of (v (replaced_link l.rebalance.before)) ≡ x → Building z v choice l (Activity.Rebalance (Rebalance.Replace Replace.Exchange)) (replaced x l).local
-  replace_arrow (Some link) e = met link.row link.marked e
+  replace_arrow (Some link) e = saw link.row link.marked e
     where
-      met : (y : Option ℕ) (marked : Bool) → link_of (v (replaced_link l.rebalance.before)) ≡ Some (record { row = y; marked = marked }) → Building z v choice l (Activity.Rebalance (Rebalance.Replace Replace.Exchange)) (row_replaced y marked l).local
-      met (Some r) marked h = here (r == l.row) marked refl h
+      saw : (y : Option ℕ) (marked : Bool) → link_of (v (replaced_link l.rebalance.before)) ≡ Some (record { row = y; marked = marked }) → Building z v choice l (Activity.Rebalance (Rebalance.Replace Replace.Exchange)) (row_replaced y marked l).local
+      saw (Some r) marked h = here (r == l.row) marked refl h
         where
           here : (b c : Bool) → (r == l.row) ≡ b → link_of (v (replaced_link l.rebalance.before)) ≡ Some (record { row = Some r; marked = c }) →
               Building z v choice l (Activity.Rebalance (Rebalance.Replace Replace.Exchange)) (let x : Outcome = if b then (if c then give_back MoveLeft l else to (Activity.Rebalance (Rebalance.Replace Replace.Normalise)) (at_infant 0 l)) else give_back TryAgain l in x).local
           here true true i k = is_marked_before _ (k ∙ ap (λ (x : ℕ). Some (marked_link (Some x))) (eq_from r l.row i)) (next_back MoveLeft l)
           here true false i k = replaces_row (k ∙ ap (λ (x : ℕ). Some (unmarked_link (Some x))) (eq_from r l.row i))
           here false c i k = is_replaced _ (λ q. let y : Some r ≡ Some l.row = sym (ap row_linked k) ∙ q in eq_not r l.row i (cc)) (next_back TryAgain l)
-      met None marked h = is_replaced _ (λ q. let y : None ≡ Some l.row = sym (ap row_linked h) ∙ q in cc) (next_back TryAgain l)
+      saw None marked h = is_replaced _ (λ q. let y : None ≡ Some l.row = sym (ap row_linked h) ∙ q in cc) (next_back TryAgain l)
   replace_arrow None e = is_replaced _ (λ q. let y : None ≡ Some l.row = sym (ap row_linked e) ∙ q in cc) (next_back TryAgain l)
 
   -- so each event of these does
@@ -204,16 +204,16 @@ module _ (z : Sizes) (rows : ℕ) (v : Words) (s : ℕ) (choice : Choice) (l : L
   building (Activity.Rebalance (Rebalance.Seek Seek.Next)) o = seek_arrow l.rebalance.sought (Activity.Rebalance (Rebalance.Seek Seek.Next)) (state_of (v (name.State l.rebalance.sought))) l refl sought_is_free sought_is_retired (λ next n k. sought_is_taken rows next n k)
   building (Activity.Rebalance (Rebalance.Seek (Seek.Pass i))) o = pass_arrow i (pass_of_word (v (name.Pass i))) refl
   building (Activity.Rebalance (Rebalance.Seek Seek.Reclaim)) o = frees_row
-  building (Activity.Rebalance (Rebalance.Seek Seek.Take)) o = met (v (name.State l.rebalance.sought) == state_word Free) refl
+  building (Activity.Rebalance (Rebalance.Seek Seek.Take)) o = saw (v (name.State l.rebalance.sought) == state_word Free) refl
     where
-      met : (b : Bool) → (v (name.State l.rebalance.sought) == state_word Free) ≡ b → Building z v choice l (Activity.Rebalance (Rebalance.Seek Seek.Take)) (take_row rows b l).local
-      met true e = takes_row rows _ (eq_from _ _ e) (next_taken rows (with_row l))
-      met false e = loses_row rows _ (eq_not _ _ e) (next_seek rows l)
-  building (Activity.Rebalance (Rebalance.Seek Seek.GiveBack)) o = met (has_more l) refl
+      saw : (b : Bool) → (v (name.State l.rebalance.sought) == state_word Free) ≡ b → Building z v choice l (Activity.Rebalance (Rebalance.Seek Seek.Take)) (take_row rows b l).local
+      saw true e = takes_row rows _ (eq_from _ _ e) (next_taken rows (with_row l))
+      saw false e = loses_row rows _ (eq_not _ _ e) (next_seek rows l)
+  building (Activity.Rebalance (Rebalance.Seek Seek.GiveBack)) o = saw (has_more l) refl
     where
-      met : (b : Bool) → has_more l ≡ b → Building z v choice l (Activity.Rebalance (Rebalance.Seek Seek.GiveBack)) (let x : Outcome = if b then to (Activity.Rebalance (Rebalance.Seek Seek.GiveBack)) (at_infant (l.rebalance.at + 1) l) else given_back l.rebalance.afterwards l in x).local
-      met true e = gives_one_back (below _ _ e)
-      met false e = gives_last_back _ (not_below _ _ e) (next_given l)
+      saw : (b : Bool) → has_more l ≡ b → Building z v choice l (Activity.Rebalance (Rebalance.Seek Seek.GiveBack)) (let x : Outcome = if b then to (Activity.Rebalance (Rebalance.Seek Seek.GiveBack)) (at_infant (l.rebalance.at + 1) l) else given_back l.rebalance.afterwards l in x).local
+      saw true e = gives_one_back (below _ _ e)
+      saw false e = gives_last_back _ (not_below _ _ e) (next_given l)
   building (Activity.Rebalance (Rebalance.Write Write.Count)) o = writes_count
   building (Activity.Rebalance (Rebalance.Write Write.Least)) o = writes_least
   building (Activity.Rebalance (Rebalance.Write Write.Next)) o = writes_link
@@ -224,29 +224,29 @@ module _ (z : Sizes) (rows : ℕ) (v : Words) (s : ℕ) (choice : Choice) (l : L
   building (Activity.Rebalance (Rebalance.Write (Write.Version j))) o = writes_version j
   building (Activity.Rebalance (Rebalance.Write (Write.After j))) o = writes_after j _ (next_new_cell z (j + 1) l)
   building (Activity.Rebalance (Rebalance.Replace Replace.Start)) o = before_arrow choice refl
-  building (Activity.Rebalance (Rebalance.Replace Replace.GuessedLeast)) o = met (nat_lt (least_in v (row_or_first l.rebalance.before)) l.lower) refl
+  building (Activity.Rebalance (Rebalance.Replace Replace.GuessedLeast)) o = saw (nat_lt (least_in v (row_or_first l.rebalance.before)) l.lower) refl
     where
-      met : (b : Bool) → nat_lt (least_in v (row_or_first l.rebalance.before)) l.lower ≡ b →
+      saw : (b : Bool) → nat_lt (least_in v (row_or_first l.rebalance.before)) l.lower ≡ b →
           Building z v choice l (Activity.Rebalance (Rebalance.Replace Replace.GuessedLeast)) (let x : Outcome = if b then to (Activity.Rebalance (Rebalance.Replace Replace.Next)) (record l { rebalance = record l.rebalance { least = least_in v (row_or_first l.rebalance.before) } }) else to (Activity.Rebalance (Rebalance.Replace Replace.First)) (record l { rebalance = record l.rebalance { before = None } }) in x).local
-      met true e = before_serves (below _ _ e)
-      met false e = before_is_above (not_below _ _ e)
+      saw true e = before_serves (below _ _ e)
+      saw false e = before_is_above (not_below _ _ e)
   building (Activity.Rebalance (Rebalance.Replace Replace.First)) o = takes_head_before _ (next_before _ l)
   building (Activity.Rebalance (Rebalance.Replace Replace.Next)) o = before_link_arrow (link_of (v (name.Next (row_or_first l.rebalance.before)))) refl
-  building (Activity.Rebalance (Rebalance.Replace Replace.NextLeast)) o = met (nat_lt (least_in v l.candidate) l.lower) refl
+  building (Activity.Rebalance (Rebalance.Replace Replace.NextLeast)) o = saw (nat_lt (least_in v l.candidate) l.lower) refl
     where
-      met : (b : Bool) → nat_lt (least_in v l.candidate) l.lower ≡ b → Building z v choice l (Activity.Rebalance (Rebalance.Replace Replace.NextLeast)) (let x : Outcome = if b then to (Activity.Rebalance (Rebalance.Replace Replace.Next)) (at_before (Some l.candidate) (least_in v l.candidate) l) else give_back TryAgain l in x).local
-      met true e = walks_before (below _ _ e)
-      met false e = walks_past _ (not_below _ _ e) (next_back TryAgain l)
+      saw : (b : Bool) → nat_lt (least_in v l.candidate) l.lower ≡ b → Building z v choice l (Activity.Rebalance (Rebalance.Replace Replace.NextLeast)) (let x : Outcome = if b then to (Activity.Rebalance (Rebalance.Replace Replace.Next)) (at_before (Some l.candidate) (least_in v l.candidate) l) else give_back TryAgain l in x).local
+      saw true e = walks_before (below _ _ e)
+      saw false e = walks_past _ (not_below _ _ e) (next_back TryAgain l)
   building (Activity.Rebalance (Rebalance.Replace Replace.Exchange)) o = replace_arrow (link_of (v (replaced_link l.rebalance.before))) refl
-  building (Activity.Rebalance (Rebalance.Replace Replace.Normalise)) o = met (has_more l) refl
+  building (Activity.Rebalance (Rebalance.Replace Replace.Normalise)) o = saw (has_more l) refl
     where
-      met : (b : Bool) → has_more l ≡ b → Building z v choice l (Activity.Rebalance (Rebalance.Replace Replace.Normalise)) (let x : Outcome = if b then to (Activity.Rebalance (Rebalance.Replace Replace.Normalise)) (at_infant (l.rebalance.at + 1) l) else to (Activity.Rebalance (Rebalance.Replace Replace.Number)) l in x).local
-      met true e = makes_normal (below _ _ e)
-      met false e = makes_last_normal (not_below _ _ e)
+      saw : (b : Bool) → has_more l ≡ b → Building z v choice l (Activity.Rebalance (Rebalance.Replace Replace.Normalise)) (let x : Outcome = if b then to (Activity.Rebalance (Rebalance.Replace Replace.Normalise)) (at_infant (l.rebalance.at + 1) l) else to (Activity.Rebalance (Rebalance.Replace Replace.Number)) l in x).local
+      saw true e = makes_normal (below _ _ e)
+      saw false e = makes_last_normal (not_below _ _ e)
   building (Activity.Rebalance (Rebalance.Replace Replace.Number)) o = draws_number
-  building (Activity.Rebalance (Rebalance.Replace Replace.Retire)) o = met l.tidies refl
+  building (Activity.Rebalance (Rebalance.Replace Replace.Retire)) o = saw l.tidies refl
     where
-      met : (b : Bool) → l.tidies ≡ b → Building z v choice l (Activity.Rebalance (Rebalance.Replace Replace.Retire)) (to (if b then (Activity.Leave Done) else Activity.Retry) (without_rows (without_rebalance l))).local
-      met true e = retires_and_leaves e
-      met false e = retires_row e
+      saw : (b : Bool) → l.tidies ≡ b → Building z v choice l (Activity.Rebalance (Rebalance.Replace Replace.Retire)) (to (if b then (Activity.Leave Done) else Activity.Retry) (without_rows (without_rebalance l))).local
+      saw true e = retires_and_leaves e
+      saw false e = retires_row e
   building _ o = absurd o

@@ -32,7 +32,7 @@ pub data Makes (z : Sizes) (v : Words) (s : ℕ) (choice : Choice) (l : Local) (
   makes_add : has_room z (count_of (v (name.Count l.row))) ≡ true → Makes z v s choice l g o (Activity.Put Put.Add) (Adds g.call s (first_key l.call) (put_value l.call) l.row (given_of (count_of (v (name.Count l.row)))))
   makes_announce : v (name.Pend l.row s) ≡ pend_word pend.Idle → Makes z v s choice l g o (Activity.Put Put.Announce) (Announces g.own)
   makes_stamp : v (name.Pend l.row s) ≡ pend_word (pend.Pending l.cell) → Makes z v s choice l g o (Activity.Put Put.Stamp) (Stamps g.own l.version g.loaded)
-  makes_help : (p : ℕ) → v (name.Pend l.row l.looked) ≡ pend_word (pend.Pending l.met) → o l.row l.met ≡ Some p → Makes z v s choice l g o (Activity.Look Look.Help) (Stamps p l.helping g.loaded)
+  makes_help : (p : ℕ) → v (name.Pend l.row l.looked) ≡ pend_word (pend.Pending l.saw) → o l.row l.saw ≡ Some p → Makes z v s choice l g o (Activity.Look Look.Help) (Stamps p l.helping g.loaded)
   makes_lose : (i c p : ℕ) → l.rebalance.entry ≡ pend.Pending c → v (name.Pend l.row i) ≡ pend_word (pend.Pending c) → o l.row c ≡ Some p → Makes z v s choice l g o (Activity.Rebalance (Rebalance.Freeze (Freeze.Entry i))) (Loses p)
   makes_end : (answer : Answer) → Makes z v s choice l g o (Activity.Leave answer) (Ends g.call (reply_of answer l.pairs) (answering l.call l g) (drawing answer l g))
 
@@ -45,31 +45,31 @@ made z v s choice l g o Activity.Idle = begins choice refl
     begins Go e = makes_nothing Activity.Idle
     begins (Guess q) e = makes_nothing Activity.Idle
     begins Stop e = makes_nothing Activity.Idle
-made z v s choice l g o (Activity.Put Put.Add) = met (has_room z (count_of (v (name.Count l.row)))) refl
+made z v s choice l g o (Activity.Put Put.Add) = saw (has_room z (count_of (v (name.Count l.row)))) refl
   where
-    met : (b : Bool) → has_room z (count_of (v (name.Count l.row))) ≡ b → Makes z v s choice l g o (Activity.Put Put.Add) (if b then Adds g.call s (first_key l.call) (put_value l.call) l.row (given_of (count_of (v (name.Count l.row)))) else Nothing)
-    met true e = makes_add e
-    met false e = makes_nothing (Activity.Put Put.Add)
-made z v s choice l g o (Activity.Put Put.Announce) = met (v (name.Pend l.row s) == pend_word pend.Idle) refl
+    saw : (b : Bool) → has_room z (count_of (v (name.Count l.row))) ≡ b → Makes z v s choice l g o (Activity.Put Put.Add) (if b then Adds g.call s (first_key l.call) (put_value l.call) l.row (given_of (count_of (v (name.Count l.row)))) else Nothing)
+    saw true e = makes_add e
+    saw false e = makes_nothing (Activity.Put Put.Add)
+made z v s choice l g o (Activity.Put Put.Announce) = saw (v (name.Pend l.row s) == pend_word pend.Idle) refl
   where
-    met : (b : Bool) → (v (name.Pend l.row s) == pend_word pend.Idle) ≡ b → Makes z v s choice l g o (Activity.Put Put.Announce) (if b then Announces g.own else Nothing)
-    met true e = makes_announce (eq_from _ _ e)
-    met false e = makes_nothing (Activity.Put Put.Announce)
-made z v s choice l g o (Activity.Put Put.Stamp) = met (v (name.Pend l.row s) == pend_word (pend.Pending l.cell)) refl
+    saw : (b : Bool) → (v (name.Pend l.row s) == pend_word pend.Idle) ≡ b → Makes z v s choice l g o (Activity.Put Put.Announce) (if b then Announces g.own else Nothing)
+    saw true e = makes_announce (eq_from _ _ e)
+    saw false e = makes_nothing (Activity.Put Put.Announce)
+made z v s choice l g o (Activity.Put Put.Stamp) = saw (v (name.Pend l.row s) == pend_word (pend.Pending l.cell)) refl
   where
-    met : (b : Bool) → (v (name.Pend l.row s) == pend_word (pend.Pending l.cell)) ≡ b → Makes z v s choice l g o (Activity.Put Put.Stamp) (if b then Stamps g.own l.version g.loaded else Nothing)
-    met true e = makes_stamp (eq_from _ _ e)
-    met false e = makes_nothing (Activity.Put Put.Stamp)
-made z v s choice l g o (Activity.Look Look.Help) = met (v (name.Pend l.row l.looked) == pend_word (pend.Pending l.met)) refl
+    saw : (b : Bool) → (v (name.Pend l.row s) == pend_word (pend.Pending l.cell)) ≡ b → Makes z v s choice l g o (Activity.Put Put.Stamp) (if b then Stamps g.own l.version g.loaded else Nothing)
+    saw true e = makes_stamp (eq_from _ _ e)
+    saw false e = makes_nothing (Activity.Put Put.Stamp)
+made z v s choice l g o (Activity.Look Look.Help) = saw (v (name.Pend l.row l.looked) == pend_word (pend.Pending l.saw)) refl
   where
-    helps : (x : Option ℕ) → o l.row l.met ≡ x → v (name.Pend l.row l.looked) ≡ pend_word (pend.Pending l.met) → Makes z v s choice l g o (Activity.Look Look.Help) (helping x l.helping g.loaded)
+    helps : (x : Option ℕ) → o l.row l.saw ≡ x → v (name.Pend l.row l.looked) ≡ pend_word (pend.Pending l.saw) → Makes z v s choice l g o (Activity.Look Look.Help) (helping x l.helping g.loaded)
     helps (Some p) e w = makes_help p w e
     helps None e w = makes_nothing (Activity.Look Look.Help)
 
-    met : (b : Bool) → (v (name.Pend l.row l.looked) == pend_word (pend.Pending l.met)) ≡ b → Makes z v s choice l g o (Activity.Look Look.Help) (if b then helping (o l.row l.met) l.helping g.loaded else Nothing)
-    met true e = helps (o l.row l.met) refl (eq_from _ _ e)
-    met false e = makes_nothing (Activity.Look Look.Help)
-made z v s choice l g o (Activity.Rebalance (Rebalance.Freeze (Freeze.Entry i))) = met (v (name.Pend l.row i) == pend_word l.rebalance.entry) refl
+    saw : (b : Bool) → (v (name.Pend l.row l.looked) == pend_word (pend.Pending l.saw)) ≡ b → Makes z v s choice l g o (Activity.Look Look.Help) (if b then helping (o l.row l.saw) l.helping g.loaded else Nothing)
+    saw true e = helps (o l.row l.saw) refl (eq_from _ _ e)
+    saw false e = makes_nothing (Activity.Look Look.Help)
+made z v s choice l g o (Activity.Rebalance (Rebalance.Freeze (Freeze.Entry i))) = saw (v (name.Pend l.row i) == pend_word l.rebalance.entry) refl
   where
     loses : (c : ℕ) (x : Option ℕ) → l.rebalance.entry ≡ pend.Pending c → v (name.Pend l.row i) ≡ pend_word (pend.Pending c) → o l.row c ≡ x → Makes z v s choice l g o (Activity.Rebalance (Rebalance.Freeze (Freeze.Entry i))) (losing x)
     loses c (Some p) y w e = makes_lose i c p y w e
@@ -81,8 +81,8 @@ made z v s choice l g o (Activity.Rebalance (Rebalance.Freeze (Freeze.Entry i)))
     freezes (pend.Stamped c version) y w = makes_nothing (Activity.Rebalance (Rebalance.Freeze (Freeze.Entry i)))
     freezes pend.Frozen y w = makes_nothing (Activity.Rebalance (Rebalance.Freeze (Freeze.Entry i)))
 
-    met : (b : Bool) → (v (name.Pend l.row i) == pend_word l.rebalance.entry) ≡ b → Makes z v s choice l g o (Activity.Rebalance (Rebalance.Freeze (Freeze.Entry i))) (if b then freezing l.rebalance.entry l.row o else Nothing)
-    met true e = freezes l.rebalance.entry refl (eq_from _ _ e)
-    met false e = makes_nothing (Activity.Rebalance (Rebalance.Freeze (Freeze.Entry i)))
+    saw : (b : Bool) → (v (name.Pend l.row i) == pend_word l.rebalance.entry) ≡ b → Makes z v s choice l g o (Activity.Rebalance (Rebalance.Freeze (Freeze.Entry i))) (if b then freezing l.rebalance.entry l.row o else Nothing)
+    saw true e = freezes l.rebalance.entry refl (eq_from _ _ e)
+    saw false e = makes_nothing (Activity.Rebalance (Rebalance.Freeze (Freeze.Entry i)))
 made z v s choice l g o (Activity.Leave answer) = makes_end answer
 made z v s choice l g o a = makes_nothing a

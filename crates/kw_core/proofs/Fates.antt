@@ -5,7 +5,7 @@ use Rattle.kw_words.specs.declared.layout.Name.TheVariants as name
 use Rattle.kw_words.specs.declared.state.State.TheVariants as state
 use Rattle.kw_words.specs.Link.{link_word}
 use Rattle.kw_words.specs.State.{state_word}
-use Rattle.kw_rows.specs.Events.{IsIn, SamePasses}
+use Rattle.kw_rows.specs.Events.{IsIn, SameVisits}
 use Rattle.kw_rows.specs.Ledger as kw_rows
 use Rattle.kw_world.specs.declared.activity.Activity.{Activity}
 use Rattle.kw_world.specs.declared.activity.draw.Draw.TheVariants as Draw
@@ -100,24 +100,24 @@ module _ {z : Sizes} {r r' : Run} {s : ℕ} {choice : Choice} {l l' : Local} whe
       same (Activity.Rebalance (Rebalance.Replace Replace.Number)) f = absurd (f tt)
       same c f = refl
 
-  -- the pass of another seat stays, and each one unless the seat enters, leaves or tries again
-  pub others_stay : (a : Activity) → Happens z r r' s choice l l' a → (t : ℕ) → (WritesPass a → t ≡ s → ⊥) → r'.ledger.rows.passes t ≡ r.ledger.rows.passes t
-  others_stay a h t n = ap (λ (g : Ledger). g.rows.passes t) h.ledger ∙ same a n
+  -- the visit of another seat stays, and each one unless the seat enters, leaves or tries again
+  pub others_stay : (a : Activity) → Happens z r r' s choice l l' a → (t : ℕ) → (WritesPass a → t ≡ s → ⊥) → r'.ledger.rows.visits t ≡ r.ledger.rows.visits t
+  others_stay a h t n = ap (λ (g : Ledger). g.rows.visits t) h.ledger ∙ same a n
     where
-      same : (c : Activity) → (WritesPass c → t ≡ s → ⊥) → (ledger_after z c s l (found_at z (word z r.world) c s choice l) (word z r.world) (length r.history.log) r.ledger).rows.passes t ≡ r.ledger.rows.passes t
-      same (Activity.Enter Enter.Announce) f = not_chosen t s (Some (length r.history.log)) (r.ledger.rows.passes t) (f tt)
+      same : (c : Activity) → (WritesPass c → t ≡ s → ⊥) → (ledger_after z c s l (found_at z (word z r.world) c s choice l) (word z r.world) (length r.history.log) r.ledger).rows.visits t ≡ r.ledger.rows.visits t
+      same (Activity.Enter Enter.Announce) f = not_chosen t s (Some (length r.history.log)) (r.ledger.rows.visits t) (f tt)
       same (Activity.Draw Draw.Wait) f = refl
-      same (Activity.Leave answer) f = not_chosen t s None (r.ledger.rows.passes t) (f tt)
-      same Activity.Retry f = not_chosen t s None (r.ledger.rows.passes t) (f tt)
-      same (Activity.Rebalance (Rebalance.Seek Seek.Reclaim)) f = either (word z r.world (name.State l.rebalance.sought)) (state_word (state.Retired l.rebalance.number)) (λ (g : Ledger). g.rows.passes t) (record r.ledger { rows = with_fate r.ledger.rows l.rebalance.sought (fate_free (r.ledger.rows.fates l.rebalance.sought)) }) r.ledger (r.ledger.rows.passes t) refl refl
-      same (Activity.Rebalance (Rebalance.Seek Seek.Take)) f = either (word z r.world (name.State l.rebalance.sought)) (state_word state.Free) (λ (g : Ledger). g.rows.passes t) (record r.ledger { rows = with_fate r.ledger.rows l.rebalance.sought (fate_taken s (length r.history.log) (r.ledger.rows.fates l.rebalance.sought)) }) r.ledger (r.ledger.rows.passes t) refl refl
+      same (Activity.Leave answer) f = not_chosen t s None (r.ledger.rows.visits t) (f tt)
+      same Activity.Retry f = not_chosen t s None (r.ledger.rows.visits t) (f tt)
+      same (Activity.Rebalance (Rebalance.Seek Seek.Reclaim)) f = either (word z r.world (name.State l.rebalance.sought)) (state_word (state.Retired l.rebalance.number)) (λ (g : Ledger). g.rows.visits t) (record r.ledger { rows = with_fate r.ledger.rows l.rebalance.sought (fate_free (r.ledger.rows.fates l.rebalance.sought)) }) r.ledger (r.ledger.rows.visits t) refl refl
+      same (Activity.Rebalance (Rebalance.Seek Seek.Take)) f = either (word z r.world (name.State l.rebalance.sought)) (state_word state.Free) (λ (g : Ledger). g.rows.visits t) (record r.ledger { rows = with_fate r.ledger.rows l.rebalance.sought (fate_taken s (length r.history.log) (r.ledger.rows.fates l.rebalance.sought)) }) r.ledger (r.ledger.rows.visits t) refl refl
       same (Activity.Rebalance (Rebalance.Seek Seek.GiveBack)) f = refl
-      same (Activity.Rebalance (Rebalance.Replace Replace.Exchange)) f = either (word z r.world (replaced_link l.rebalance.before)) (link_word (unmarked_link (Some l.row))) (λ (g : Ledger). g.rows.passes t) (record r.ledger { rows = with_replaced (word z r.world) s (length r.history.log) l r.ledger.rows }) r.ledger (r.ledger.rows.passes t) refl refl
+      same (Activity.Rebalance (Rebalance.Replace Replace.Exchange)) f = either (word z r.world (replaced_link l.rebalance.before)) (link_word (unmarked_link (Some l.row))) (λ (g : Ledger). g.rows.visits t) (record r.ledger { rows = with_replaced (word z r.world) s (length r.history.log) l r.ledger.rows }) r.ledger (r.ledger.rows.visits t) refl refl
       same (Activity.Rebalance (Rebalance.Replace Replace.Number)) f = refl
       same c f = refl
 
-  pub passes_stay : (a : Activity) → Happens z r r' s choice l l' a → (WritesPass a → ⊥) → (DrawsNumber a → ⊥) → SamePasses r.ledger.rows r'.ledger.rows
-  passes_stay a h p n = record { passes = λ t. others_stay a h t (λ x e. p x); numbered = numbers_stay a h n }
+  pub visits_stay : (a : Activity) → Happens z r r' s choice l l' a → (WritesPass a → ⊥) → (DrawsNumber a → ⊥) → SameVisits r.ledger.rows r'.ledger.rows
+  visits_stay a h p n = record { visits = λ t. others_stay a h t (λ x e. p x); numbered = numbers_stay a h n }
 
   -- What changes.
 

@@ -84,7 +84,7 @@ writes (Activity.Rebalance (Rebalance.Seek Seek.Reclaim)) s b l = Some (name.Sta
 writes (Activity.Rebalance (Rebalance.Seek Seek.Take)) s b l = Some (name.State l.rebalance.sought)
 writes (Activity.Rebalance (Rebalance.Seek Seek.GiveBack)) s b l = Some (name.State (infant l))
 writes (Activity.Rebalance (Rebalance.Write Write.Count)) s b l = Some (name.Count (infant l))
-writes (Activity.Rebalance (Rebalance.Write Write.Least)) s b l = Some (name.Min (infant l))
+writes (Activity.Rebalance (Rebalance.Write Write.Least)) s b l = Some (name.Least (infant l))
 writes (Activity.Rebalance (Rebalance.Write Write.Next)) s b l = Some (name.Next (infant l))
 writes (Activity.Rebalance (Rebalance.Write Write.First)) s b l = Some (name.First (infant l))
 writes (Activity.Rebalance (Rebalance.Write (Write.Entry i))) s b l = Some (name.Pend (infant l) i)
@@ -157,7 +157,8 @@ module _ {z : Sizes} {r r' : Run} {s : ℕ} {choice : Choice} {l l' : Local} whe
 
 -- The families of words that events write.
 
--- which activities write an entry of their seat, a pass, a key, a value, and the link of their row
+-- which activities write an entry of their seat, a pass word, a key, a value, and the link of their
+-- row
 abbrev pub WritesOwnEntry : Activity → Type 0
 WritesOwnEntry (Activity.Put Put.Announce) = Unit {0}
 WritesOwnEntry (Activity.Put Put.Stamp) = Unit {0}
@@ -240,6 +241,6 @@ given-next w (Some c) e g = rw (count_of_next w c e (omega (arith, g)), e) refl
 given-next w None e g = absurd g
 
 module _ {z : Sizes} {r r' : Run} {s : ℕ} {choice : Choice} {l l' : Local} where
-  -- a pass is kept, unless its seat enters or leaves
+  -- a visit is kept, unless its seat enters or leaves
   pub pass_kept : (a : Activity) → Happens z r r' s choice l l' a → (t : ℕ) → t < z.seats → (WritesPass a → t ≡ s → ⊥) → word z r'.world (name.Pass t) ≡ word z r.world (name.Pass t)
   pass_kept a h t o f = unwritten a h (name.Pass t) o (not_pass a s (is_stopped choice l) l t f)

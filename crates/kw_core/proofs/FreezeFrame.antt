@@ -239,7 +239,7 @@ module _ {z : Sizes} {r r' : Run} {s : ℕ} {choice : Choice} {l l' : Local} whe
   frozen_entry_lasts (Activity.Put Put.Stamp) x h q t i o e =
       frozen_at (word z r.world) (word z r'.world) l.row s q t (λ y. not_exchanged _ _ _ _ h.changed.same (λ u. not_pending l.cell (sym y ∙ u)) ∙ y) (λ d. entry_stays (Activity.Put Put.Stamp) h q t i o (λ c. d c.0 c.1)) e
   frozen_entry_lasts (Activity.Look Look.Help) x h q t i o e =
-      frozen_at (word z r.world) (word z r'.world) l.row l.looked q t (λ y. not_exchanged _ _ _ _ h.changed.same (λ u. not_pending l.met (sym y ∙ u)) ∙ y) (λ d. entry_stays (Activity.Look Look.Help) h q t i o (λ c. d c.0 c.1)) e
+      frozen_at (word z r.world) (word z r'.world) l.row l.looked q t (λ y. not_exchanged _ _ _ _ h.changed.same (λ u. not_pending l.saw (sym y ∙ u)) ∙ y) (λ d. entry_stays (Activity.Look Look.Help) h q t i o (λ c. d c.0 c.1)) e
   frozen_entry_lasts (Activity.Rebalance (Rebalance.Freeze (Freeze.Entry j))) x h q t i o e = frozen_at (word z r.world) (word z r'.world) l.row j q t (here (cases_eq _ _)) (λ d. entry_stays (Activity.Rebalance (Rebalance.Freeze (Freeze.Entry j))) h q t i o (λ c. d c.0 c.1)) e
     where
       here : (word z r.world (name.Pend l.row j) ≡ pend_word l.rebalance.entry) ⊎ (word z r.world (name.Pend l.row j) ≡ pend_word l.rebalance.entry → ⊥) → word z r.world (name.Pend l.row j) ≡ pend_word pend.Frozen → word z r'.world (name.Pend l.row j) ≡ pend_word pend.Frozen

@@ -87,11 +87,11 @@ pub record Happens (z : Sizes) (r r' : Run) (s : ℕ) (choice : Choice) (l l' : 
 begun_offered : (a : Activity) (rows : ℕ) (choice : Choice) → IsBegun a choice → IsBegun a (offered rows choice)
 begun_offered Activity.Idle rows (Begin call) h = h
 begun_offered Activity.Idle rows Go h = tt
-begun_offered Activity.Idle rows (Guess q) h = met (nat_lt q rows)
+begun_offered Activity.Idle rows (Guess q) h = saw (nat_lt q rows)
   where
-    met : (b : Bool) → IsBegun Activity.Idle (if b then Guess q else Go)
-    met true = tt
-    met false = tt
+    saw : (b : Bool) → IsBegun Activity.Idle (if b then Guess q else Go)
+    saw true = tt
+    saw false = tt
 begun_offered Activity.Idle rows Stop h = tt
 begun_offered _ rows choice h = tt
 
@@ -153,11 +153,11 @@ module _ {z : Sizes} {r r' : Run} {s : ℕ} {choice : Choice} {l l' : Local} {a 
 
 -- Exchanges, and what is tested by a word.
 
--- a test that is met
+-- a test that is true
 pub chosen : {A : Type 0} (x y : ℕ) (p q : A) → x ≡ y → (if x == y then p else q) ≡ p
 chosen x y p q e = rw (eq-eqb x y e) refl
 
--- a test that is not met
+-- a test that is not true
 pub not_chosen : {A : Type 0} (x y : ℕ) (p q : A) → x ≢ y → (if x == y then p else q) ≡ q
 not_chosen x y p q d = rw (ne_eqb x y d) refl
 

@@ -52,11 +52,11 @@ unmarked_few c marks = omega (arith, length-filter (is_other c) marks, count_by-
 -- the mark of the least cell is one of them
 pub least_holds : (P : Mark → Type 0) (marks : List Mark) (m : Mark) → least_mark marks ≡ Some m → All P marks → P m
 least_holds P [] m e h = let x : None ≡ Some m = e in absurd (cc)
-least_holds P (n ∷ marks) m e h = met (least_mark marks) refl e (λ k f. least_holds P marks k f (All-tail P n marks h))
+least_holds P (n ∷ marks) m e h = saw (least_mark marks) refl e (λ k f. least_holds P marks k f (All-tail P n marks h))
   where
-    met : (o : Option Mark) → least_mark marks ≡ o → Some (lesser_of n o) ≡ Some m → ((k : Mark) → least_mark marks ≡ Some k → P k) → P m
-    met None f g rest = subst P (same_Some n m g) (All-head P n marks h)
-    met (Some k) f g rest = which (nat_lt k.cell n.cell) g
+    saw : (o : Option Mark) → least_mark marks ≡ o → Some (lesser_of n o) ≡ Some m → ((k : Mark) → least_mark marks ≡ Some k → P k) → P m
+    saw None f g rest = subst P (same_Some n m g) (All-head P n marks h)
+    saw (Some k) f g rest = which (nat_lt k.cell n.cell) g
       where
         which : (b : Bool) → Some (if b then k else n) ≡ Some m → P m
         which true x = subst P (same_Some k m x) (rest k f)
@@ -64,24 +64,24 @@ least_holds P (n ∷ marks) m e h = met (least_mark marks) refl e (λ k f. least
 
 -- the version of a cell's word
 pub version_in_hand : (w : ℕ) → w < VERSION_END → IsVersion (unwrap_or (version_of_word w) 1)
-version_in_hand w o = met (version_of_word w) refl
+version_in_hand w o = saw (version_of_word w) refl
   where
-    met : (x : Option ℕ) → version_of_word w ≡ x → IsVersion (unwrap_or x 1)
-    met (Some n) y =
+    saw : (x : Option ℕ) → version_of_word w ≡ x → IsVersion (unwrap_or x 1)
+    saw (Some n) y =
         let same : n ≡ w = rw y at (number_word-number_of_word w) in
         let counted : 1 ≤ n = rw y at (IsCounted-number_of_word w) in
         (counted, omega (arith, same, o))
-    met None y = (omega arith, omega arith)
+    saw None y = (omega arith, omega arith)
 
 -- the version that a scan is settled at
 pub version_of_scan : (w drawn : ℕ) → IsVersion drawn → IsVersion (version_settled (scan_of w) drawn)
-version_of_scan w drawn h = met (scan_of w) refl
+version_of_scan w drawn h = saw (scan_of w) refl
   where
-    met : (x : Option ScanWord) → scan_of w ≡ x → IsVersion (version_settled x drawn)
-    met (Some Quiet) e = h
-    met (Some (Waiting clock)) e = h
-    met (Some (Drawn version)) e = IsScan-scan_of w (Drawn version) e
-    met None e = h
+    saw : (x : Option ScanWord) → scan_of w ≡ x → IsVersion (version_settled x drawn)
+    saw (Some Quiet) e = h
+    saw (Some (Waiting clock)) e = h
+    saw (Some (Drawn version)) e = IsScan-scan_of w (Drawn version) e
+    saw None e = h
 
 -- Cells and pairs.
 
@@ -107,29 +107,29 @@ gathered_few z value l u = which (nat_lt (length l.gathered) z.cells) refl
 
 -- what a version shows is a value in range
 pub shown_in_range : (cells : List kw_cell.Cell) (version key value : ℕ) → All IsCopy cells → shown_at cells version key ≡ Some value → value < VALUE_END
-shown_in_range cells version key value h e = met (best_of cells key version) refl e
+shown_in_range cells version key value h e = saw (best_of cells key version) refl e
   where
-    met : (o : Option kw_cell.Cell) → best_of cells key version ≡ o → value_in o ≡ Some value → value < VALUE_END
-    met (Some c) y x = subst IsValue x (All-contains IsCopy cells c h (best_is cells key version c y).among).2
-    met None y x = let f : None ≡ Some value = x in absurd (cc)
+    saw : (o : Option kw_cell.Cell) → best_of cells key version ≡ o → value_in o ≡ Some value → value < VALUE_END
+    saw (Some c) y x = subst IsValue x (All-contains IsCopy cells c h (best_is cells key version c y).among).2
+    saw None y x = let f : None ≡ Some value = x in absurd (cc)
 
 -- what a get answers is in range
 pub answer_in_range : (cells : List kw_cell.Cell) (version key : ℕ) → All IsCopy cells → IsAnswer (answer_found (shown_at cells version key))
-answer_in_range cells version key h = met (shown_at cells version key) refl
+answer_in_range cells version key h = saw (shown_at cells version key) refl
   where
-    met : (o : Option ℕ) → shown_at cells version key ≡ o → IsAnswer (answer_found o)
-    met (Some value) e = shown_in_range cells version key value h e
-    met None e = tt
+    saw : (o : Option ℕ) → shown_at cells version key ≡ o → IsAnswer (answer_found o)
+    saw (Some value) e = shown_in_range cells version key value h e
+    saw None e = tt
 
 -- the pairs of some keys
 pairs_range : (shown : ℕ → Option ℕ) (low n : ℕ) → ((k v : ℕ) → shown k ≡ Some v → v < VALUE_END) → low + n ≤ KEY_END → All IsPair (pairs_along shown low n)
 unfolding pairs_along
 pairs_range shown low zero h o = All-nil IsPair
-pairs_range shown low (suc n) h o = met (shown low) refl (pairs_range shown (suc low) n h (omega (arith, o)))
+pairs_range shown low (suc n) h o = saw (shown low) refl (pairs_range shown (suc low) n h (omega (arith, o)))
   where
-    met : (x : Option ℕ) → shown low ≡ x → All IsPair (pairs_along shown (suc low) n) → All IsPair (with_shown low x (pairs_along shown (suc low) n))
-    met (Some v) e rest = All-cons IsPair (low, v) (pairs_along shown (suc low) n) (omega (arith, o), h low v e) rest
-    met None e rest = rest
+    saw : (x : Option ℕ) → shown low ≡ x → All IsPair (pairs_along shown (suc low) n) → All IsPair (with_shown low x (pairs_along shown (suc low) n))
+    saw (Some v) e rest = All-cons IsPair (low, v) (pairs_along shown (suc low) n) (omega (arith, o), h low v e) rest
+    saw None e rest = rest
 
 -- the pairs of a row's cells are in range
 pub pairs_in_range : (cells : List kw_cell.Cell) (a b version : ℕ) → All IsCopy cells → a < KEY_END → b < KEY_END → All IsPair (pairs_of cells a b version)
@@ -143,11 +143,11 @@ no_value = refl
 
 pub value_in_range : (w : ℕ) → IsValueWord w → IsValue (value_of_word w)
 value_in_range w (inl e) = subst (λ x. IsValue (value_of_word x)) (sym e) (subst IsValue (sym no_value) tt)
-value_in_range w (inr h) = met (value_of_word w) refl
+value_in_range w (inr h) = saw (value_of_word w) refl
   where
-    met : (x : Option ℕ) → value_of_word w ≡ x → IsValue x
-    met (Some v) e = let f : VALUE_END + v ≡ w = rw e at (value_word-value_of_word w h.0) in omega (arith, f, h.1)
-    met None e = tt
+    saw : (x : Option ℕ) → value_of_word w ≡ x → IsValue x
+    saw (Some v) e = let f : VALUE_END + v ≡ w = rw e at (value_word-value_of_word w h.0) in omega (arith, f, h.1)
+    saw None e = tt
 
 -- Calls and links.
 

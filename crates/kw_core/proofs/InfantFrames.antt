@@ -136,7 +136,7 @@ same_state x q e = cc
 same_count : (x q : ℕ) → Some (name.Count x) ≡ Some (name.Count q) → q ≡ x
 same_count x q e = cc
 
-same_least : (x q : ℕ) → Some (name.Min x) ≡ Some (name.Min q) → q ≡ x
+same_least : (x q : ℕ) → Some (name.Least x) ≡ Some (name.Least q) → q ≡ x
 same_least x q e = cc
 
 same_next : (x q : ℕ) → Some (name.Next x) ≡ Some (name.Next q) → q ≡ x
@@ -247,12 +247,12 @@ not_count (Activity.Rebalance (Rebalance.Gather Gather.Link)) s b l q f e = cc
 not_count (Activity.Rebalance (Rebalance.Seek Seek.Next)) s b l q f e = cc
 not_count _ s b l q f e = cc
 
-not_least : (a : Activity) (s : ℕ) (b : Bool) (l : Local) (q : ℕ) → (ChangesLeast a s l q → ⊥) → writes a s b l ≢ Some (name.Min q)
+not_least : (a : Activity) (s : ℕ) (b : Bool) (l : Local) (q : ℕ) → (ChangesLeast a s l q → ⊥) → writes a s b l ≢ Some (name.Least q)
 not_least (Activity.Rebalance (Rebalance.Write Write.Least)) s b l q f e = f (same_least (infant l) q e)
-not_least (Activity.Rebalance (Rebalance.Replace Replace.Exchange)) s b l q f e = no_replaced l.rebalance.before (name.Min q) refl e
-not_least (Activity.Insert Insert.Exchange) s b l q f e = no_link l.row l.link (name.Min q) refl e
-not_least (Activity.Walk Walk.Next) s true l q f e = let x : Some (name.Scan s) ≡ Some (name.Min q) = e in cc
-not_least (Activity.Walk Walk.Next) s false l q f e = let x : None ≡ Some (name.Min q) = e in cc
+not_least (Activity.Rebalance (Rebalance.Replace Replace.Exchange)) s b l q f e = no_replaced l.rebalance.before (name.Least q) refl e
+not_least (Activity.Insert Insert.Exchange) s b l q f e = no_link l.row l.link (name.Least q) refl e
+not_least (Activity.Walk Walk.Next) s true l q f e = let x : Some (name.Scan s) ≡ Some (name.Least q) = e in cc
+not_least (Activity.Walk Walk.Next) s false l q f e = let x : None ≡ Some (name.Least q) = e in cc
 not_least (Activity.Enter Enter.Announce) s b l q f e = cc
 not_least (Activity.Draw Draw.Clock) s b l q f e = cc
 not_least (Activity.Look Look.Key) s b l q f e = cc
@@ -399,8 +399,8 @@ module _ {z : Sizes} {r r' : Run} {s : ℕ} {choice : Choice} {l l' : Local} whe
   pub count_stays : (a : Activity) → Happens z r r' s choice l l' a → (q : ℕ) → q < r.world.rows → (ChangesCount a s l q → ⊥) → word z r'.world (name.Count q) ≡ word z r.world (name.Count q)
   count_stays a h q i f = unwritten a h (name.Count q) i (not_count a s (is_stopped choice l) l q f)
 
-  pub least_stays : (a : Activity) → Happens z r r' s choice l l' a → (q : ℕ) → q < r.world.rows → (ChangesLeast a s l q → ⊥) → word z r'.world (name.Min q) ≡ word z r.world (name.Min q)
-  least_stays a h q i f = unwritten a h (name.Min q) i (not_least a s (is_stopped choice l) l q f)
+  pub least_stays : (a : Activity) → Happens z r r' s choice l l' a → (q : ℕ) → q < r.world.rows → (ChangesLeast a s l q → ⊥) → word z r'.world (name.Least q) ≡ word z r.world (name.Least q)
+  least_stays a h q i f = unwritten a h (name.Least q) i (not_least a s (is_stopped choice l) l q f)
 
   pub next_stays : (a : Activity) → Happens z r r' s choice l l' a → (q : ℕ) → q < r.world.rows → (ChangesNext a s l q → ⊥) → word z r'.world (name.Next q) ≡ word z r.world (name.Next q)
   next_stays a h q i f = unwritten a h (name.Next q) i (not_next a s (is_stopped choice l) l q f)
@@ -471,7 +471,7 @@ IsTarget RowBefore l q = l.rebalance.before ≡ Some q
 abbrev pub row_in : Name → Option ℕ
 row_in (name.State q) = Some q
 row_in (name.Count q) = Some q
-row_in (name.Min q) = Some q
+row_in (name.Least q) = Some q
 row_in (name.Next q) = Some q
 row_in (name.First q) = Some q
 row_in (name.Pend q t) = Some q
@@ -518,7 +518,7 @@ targets (Activity.Rebalance (Rebalance.Freeze (Freeze.Entry i))) s b l n q f e =
 targets (Activity.Rebalance (Rebalance.Replace Replace.Retire)) s b l n q f e = of_row (name.State l.row) n l.row q refl f e
 targets (Activity.Rebalance (Rebalance.Seek Seek.GiveBack)) s b l n q f e = of_row (name.State (infant l)) n (infant l) q refl f e
 targets (Activity.Rebalance (Rebalance.Write Write.Count)) s b l n q f e = of_row (name.Count (infant l)) n (infant l) q refl f e
-targets (Activity.Rebalance (Rebalance.Write Write.Least)) s b l n q f e = of_row (name.Min (infant l)) n (infant l) q refl f e
+targets (Activity.Rebalance (Rebalance.Write Write.Least)) s b l n q f e = of_row (name.Least (infant l)) n (infant l) q refl f e
 targets (Activity.Rebalance (Rebalance.Write Write.Next)) s b l n q f e = of_row (name.Next (infant l)) n (infant l) q refl f e
 targets (Activity.Rebalance (Rebalance.Write Write.First)) s b l n q f e = of_row (name.First (infant l)) n (infant l) q refl f e
 targets (Activity.Rebalance (Rebalance.Write (Write.Entry i))) s b l n q f e = of_row (name.Pend (infant l) i) n (infant l) q refl f e
@@ -605,7 +605,7 @@ module _ {z : Sizes} {r r' : Run} {s : ℕ} {choice : Choice} {l l' : Local} whe
   pub count_written : Happens z r r' s choice l l' (Activity.Rebalance (Rebalance.Write Write.Count)) → word z r'.world (name.Count (infant l)) ≡ count_word (infant_count l)
   count_written h = h.changed.same
 
-  pub least_written : Happens z r r' s choice l l' (Activity.Rebalance (Rebalance.Write Write.Least)) → word z r'.world (name.Min (infant l)) ≡ key_word (infant_least l)
+  pub least_written : Happens z r r' s choice l l' (Activity.Rebalance (Rebalance.Write Write.Least)) → word z r'.world (name.Least (infant l)) ≡ key_word (infant_least l)
   least_written h = h.changed.same
 
   pub next_written : Happens z r r' s choice l l' (Activity.Rebalance (Rebalance.Write Write.Next)) → word z r'.world (name.Next (infant l)) ≡ link_word (infant_link l)

@@ -12,38 +12,38 @@ use Rattle.kw_core.proofs.Arrows.{eq_from}
 -- a cell that is remembered stays remembered
 pub marked_more : (c : ℕ) (ms : List Mark) (m : Mark) → is_marked c ms ≡ true → is_marked c (ms ++ m ∷ []) ≡ true
 marked_more c [] m e = let x : false ≡ true = e in absurd (cc)
-marked_more c (n ∷ ms) m e = met (n.cell == c) (marked_more c ms m) e
+marked_more c (n ∷ ms) m e = saw (n.cell == c) (marked_more c ms m) e
   where
-    met : (b : Bool) → (is_marked c ms ≡ true → is_marked c (ms ++ m ∷ []) ≡ true) → (if b then true else is_marked c ms) ≡ true → (if b then true else is_marked c (ms ++ m ∷ [])) ≡ true
-    met true f x = refl
-    met false f x = f x
+    saw : (b : Bool) → (is_marked c ms ≡ true → is_marked c (ms ++ m ∷ []) ≡ true) → (if b then true else is_marked c ms) ≡ true → (if b then true else is_marked c (ms ++ m ∷ [])) ≡ true
+    saw true f x = refl
+    saw false f x = f x
 
 -- the cell that is remembered last is remembered
 pub marked_last : (c version : ℕ) (ms : List Mark) → is_marked c (ms ++ mark_of c version ∷ []) ≡ true
 marked_last c version [] = rw (eq-eqb c c refl) refl
-marked_last c version (n ∷ ms) = met (n.cell == c) (marked_last c version ms)
+marked_last c version (n ∷ ms) = saw (n.cell == c) (marked_last c version ms)
   where
-    met : (b : Bool) → is_marked c (ms ++ mark_of c version ∷ []) ≡ true → (if b then true else is_marked c (ms ++ mark_of c version ∷ [])) ≡ true
-    met true x = refl
-    met false x = x
+    saw : (b : Bool) → is_marked c (ms ++ mark_of c version ∷ []) ≡ true → (if b then true else is_marked c (ms ++ mark_of c version ∷ [])) ≡ true
+    saw true x = refl
+    saw false x = x
 
 -- one that is forgotten is not remembered
 pub marked_none : (c : ℕ) (ms : List Mark) → is_marked c (unmarked c ms) ≡ false
 marked_none c [] = refl
-marked_none c (n ∷ ms) = met (n.cell == c) refl (marked_none c ms)
+marked_none c (n ∷ ms) = saw (n.cell == c) refl (marked_none c ms)
   where
-    met : (b : Bool) → (n.cell == c) ≡ b → is_marked c (unmarked c ms) ≡ false → is_marked c (unmarked c (n ∷ ms)) ≡ false
-    met true f x = rw f x
-    met false f x = rw f (rw f x)
+    saw : (b : Bool) → (n.cell == c) ≡ b → is_marked c (unmarked c ms) ≡ false → is_marked c (unmarked c (n ∷ ms)) ≡ false
+    saw true f x = rw f x
+    saw false f x = rw f (rw f x)
 
 -- and every other one is as it was
 pub marked_other : (c d : ℕ) (ms : List Mark) → c ≢ d → is_marked c (unmarked d ms) ≡ is_marked c ms
 marked_other c d [] f = refl
-marked_other c d (n ∷ ms) f = met (n.cell == d) refl (marked_other c d ms f)
+marked_other c d (n ∷ ms) f = saw (n.cell == d) refl (marked_other c d ms f)
   where
-    met : (b : Bool) → (n.cell == d) ≡ b → is_marked c (unmarked d ms) ≡ is_marked c ms → is_marked c (unmarked d (n ∷ ms)) ≡ is_marked c (n ∷ ms)
-    met true g x = let k : (n.cell == c) ≡ false = ne_eqb n.cell c (λ e. f (sym e ∙ eq_from n.cell d g)) in rw (g, k) x
-    met false g x = rw g (ap (λ y. if n.cell == c then true else y) x)
+    saw : (b : Bool) → (n.cell == d) ≡ b → is_marked c (unmarked d ms) ≡ is_marked c ms → is_marked c (unmarked d (n ∷ ms)) ≡ is_marked c (n ∷ ms)
+    saw true g x = let k : (n.cell == c) ≡ false = ne_eqb n.cell c (λ e. f (sym e ∙ eq_from n.cell d g)) in rw (g, k) x
+    saw false g x = rw g (ap (λ y. if n.cell == c then true else y) x)
 
 -- where no mark is the least none is there
 pub least_none : (c : ℕ) (ms : List Mark) → least_mark ms ≡ None → is_marked c ms ≡ false
@@ -53,7 +53,7 @@ least_none c (n ∷ ms) e = let x : Some (lesser_of n (least_mark ms)) ≡ None 
 -- the least is one of them
 pub least_marked : (ms : List Mark) (m : Mark) → least_mark ms ≡ Some m → is_marked m.cell ms ≡ true
 least_marked [] m e = let x : None ≡ Some m = e in absurd (cc)
-least_marked (n ∷ ms) m e = met (least_mark ms) refl e (λ k f. least_marked ms k f)
+least_marked (n ∷ ms) m e = saw (least_mark ms) refl e (λ k f. least_marked ms k f)
   where
     first : n ≡ m → is_marked m.cell (n ∷ ms) ≡ true
     first f = rw f (rw (eq-eqb m.cell m.cell refl) refl)
@@ -62,9 +62,9 @@ least_marked (n ∷ ms) m e = met (least_mark ms) refl e (λ k f. least_marked m
     later true x = refl
     later false x = x
 
-    met : (o : Option Mark) → least_mark ms ≡ o → Some (lesser_of n o) ≡ Some m → ((k : Mark) → least_mark ms ≡ Some k → is_marked k.cell ms ≡ true) → is_marked m.cell (n ∷ ms) ≡ true
-    met None f g rest = first (same_Some n m g)
-    met (Some k) f g rest = which (nat_lt k.cell n.cell) g
+    saw : (o : Option Mark) → least_mark ms ≡ o → Some (lesser_of n o) ≡ Some m → ((k : Mark) → least_mark ms ≡ Some k → is_marked k.cell ms ≡ true) → is_marked m.cell (n ∷ ms) ≡ true
+    saw None f g rest = first (same_Some n m g)
+    saw (Some k) f g rest = which (nat_lt k.cell n.cell) g
       where
         which : (b : Bool) → Some (if b then k else n) ≡ Some m → is_marked m.cell (n ∷ ms) ≡ true
         which true x = later (n.cell == m.cell) (subst (λ (y : Mark). is_marked y.cell ms ≡ true) (same_Some k m x) (rest k f))

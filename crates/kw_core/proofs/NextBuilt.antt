@@ -2,7 +2,7 @@
 -- has no event of its own.
 --
 -- There is a type for each such part, with a constructor for each way that it may go, and a lemma
--- that the table goes one of these ways: the next row is asked, or all were; the next pass is
+-- that the table goes one of these ways: the next row is asked, or all were; the next visit is
 -- looked at, or all were; taken rows are given back, or none was taken; enough rows are taken, or
 -- one more is sought; the next entry, the next cell, the next row is written, or all are; and the
 -- walk to the row before the full one begins behind the first row, or the full row is the first.
@@ -54,7 +54,7 @@ pub data NextSeek (rows : ℕ) (l : Local) : Local → Type 0 where
   asks : l.rebalance.asked < rows → NextSeek rows l (record l { rebalance = record l.rebalance { sought = row_behind rows l.rebalance.sought; asked = l.rebalance.asked + 1 }; activity = Activity.Rebalance (Rebalance.Seek Seek.Next) })
   has_asked : (next : Local) → rows ≤ l.rebalance.asked → NextBack Refuse l next → NextSeek rows l next
 
--- the pass of this seat is looked at, or all passes were
+-- the visit of this seat is looked at, or all visits were
 pub data NextPass (z : Sizes) (i : ℕ) (l : Local) : Local → Type 0 where
   looks_on : i < z.seats → NextPass z i l (record l { activity = Activity.Rebalance (Rebalance.Seek (Seek.Pass i)) })
   has_looked : z.seats ≤ i → NextPass z i l (record l { activity = Activity.Rebalance (Rebalance.Seek Seek.Reclaim) })
@@ -88,74 +88,74 @@ pub data NextBefore (r : ℕ) (l : Local) : Local → Type 0 where
 -- The table goes one of these ways.
 
 back_given : (a : Afterwards) (l : Local) → GivenBack l a (given_back a l).local
-back_given TryAgain l = met l.tidies refl
+back_given TryAgain l = saw l.tidies refl
   where
-    met : (b : Bool) → l.tidies ≡ b → GivenBack l TryAgain (to (if b then (Activity.Leave Done) else Activity.Retry) (without_rows (without_rebalance l))).local
-    met true e = was_done e
-    met false e = tries_again e
-back_given Refuse l = met l.tidies refl
+    saw : (b : Bool) → l.tidies ≡ b → GivenBack l TryAgain (to (if b then (Activity.Leave Done) else Activity.Retry) (without_rows (without_rebalance l))).local
+    saw true e = was_done e
+    saw false e = tries_again e
+back_given Refuse l = saw l.tidies refl
   where
-    met : (b : Bool) → l.tidies ≡ b → GivenBack l Refuse (leave (if b then Done else NoRows) (without_rebalance l)).local
-    met true e = was_served e
-    met false e = is_refused_rows e
+    saw : (b : Bool) → l.tidies ≡ b → GivenBack l Refuse (leave (if b then Done else NoRows) (without_rebalance l)).local
+    saw true e = was_served e
+    saw false e = is_refused_rows e
 back_given MoveLeft l = moves_left
 
 pub next_given : (l : Local) → GivenBack l l.rebalance.afterwards (given_back l.rebalance.afterwards l).local
 next_given l = back_given l.rebalance.afterwards l
 
 pub next_back : (a : Afterwards) (l : Local) → NextBack a l (give_back a l).local
-next_back a l = met (nat_lt 0 (length l.rebalance.taken)) refl
+next_back a l = saw (nat_lt 0 (length l.rebalance.taken)) refl
   where
-    met : (b : Bool) → nat_lt 0 (length l.rebalance.taken) ≡ b → NextBack a l (let x : Outcome = if b then to (Activity.Rebalance (Rebalance.Seek Seek.GiveBack)) (record l { rebalance = record l.rebalance { at = 0; afterwards = a } }) else given_back a l in x).local
-    met true e = gives_back (grind (arith, nat_tests))
-    met false e = has_none _ (grind (arith, nat_tests)) (back_given a l)
+    saw : (b : Bool) → nat_lt 0 (length l.rebalance.taken) ≡ b → NextBack a l (let x : Outcome = if b then to (Activity.Rebalance (Rebalance.Seek Seek.GiveBack)) (record l { rebalance = record l.rebalance { at = 0; afterwards = a } }) else given_back a l in x).local
+    saw true e = gives_back (grind (arith, nat_tests))
+    saw false e = has_none _ (grind (arith, nat_tests)) (back_given a l)
 
 pub next_seek : (rows : ℕ) (l : Local) → NextSeek rows l (to_seek rows l).local
-next_seek rows l = met (nat_lt l.rebalance.asked rows) refl
+next_seek rows l = saw (nat_lt l.rebalance.asked rows) refl
   where
-    met : (b : Bool) → nat_lt l.rebalance.asked rows ≡ b → NextSeek rows l (let x : Outcome = if b then to (Activity.Rebalance (Rebalance.Seek Seek.Next)) (record l { rebalance = record l.rebalance { sought = row_behind rows l.rebalance.sought; asked = l.rebalance.asked + 1 } }) else give_back Refuse l in x).local
-    met true e = asks (grind (arith, nat_tests))
-    met false e = has_asked _ (grind (arith, nat_tests)) (next_back Refuse l)
+    saw : (b : Bool) → nat_lt l.rebalance.asked rows ≡ b → NextSeek rows l (let x : Outcome = if b then to (Activity.Rebalance (Rebalance.Seek Seek.Next)) (record l { rebalance = record l.rebalance { sought = row_behind rows l.rebalance.sought; asked = l.rebalance.asked + 1 } }) else give_back Refuse l in x).local
+    saw true e = asks (grind (arith, nat_tests))
+    saw false e = has_asked _ (grind (arith, nat_tests)) (next_back Refuse l)
 
 pub next_pass : (z : Sizes) (i : ℕ) (l : Local) → NextPass z i l (to_pass z i l).local
-next_pass z i l = met (nat_lt i z.seats) refl
+next_pass z i l = saw (nat_lt i z.seats) refl
   where
-    met : (b : Bool) → nat_lt i z.seats ≡ b → NextPass z i l (let x : Outcome = if b then to (Activity.Rebalance (Rebalance.Seek (Seek.Pass i))) l else to (Activity.Rebalance (Rebalance.Seek Seek.Reclaim)) l in x).local
-    met true e = looks_on (grind (arith, nat_tests))
-    met false e = has_looked (grind (arith, nat_tests))
+    saw : (b : Bool) → nat_lt i z.seats ≡ b → NextPass z i l (let x : Outcome = if b then to (Activity.Rebalance (Rebalance.Seek (Seek.Pass i))) l else to (Activity.Rebalance (Rebalance.Seek Seek.Reclaim)) l in x).local
+    saw true e = looks_on (grind (arith, nat_tests))
+    saw false e = has_looked (grind (arith, nat_tests))
 
 pub next_taken : (rows : ℕ) (l : Local) → NextTaken rows l (row_taken rows l).local
-next_taken rows l = met (nat_lt (length l.rebalance.taken) (length l.rebalance.starts)) refl
+next_taken rows l = saw (nat_lt (length l.rebalance.taken) (length l.rebalance.starts)) refl
   where
-    met : (b : Bool) → nat_lt (length l.rebalance.taken) (length l.rebalance.starts) ≡ b → NextTaken rows l (let x : Outcome = if b then to_seek rows l else to (Activity.Rebalance (Rebalance.Write Write.Count)) (at_infant 0 l) in x).local
-    met true e = wants_more _ (grind (arith, nat_tests)) (next_seek rows l)
-    met false e = has_enough (grind (arith, nat_tests))
+    saw : (b : Bool) → nat_lt (length l.rebalance.taken) (length l.rebalance.starts) ≡ b → NextTaken rows l (let x : Outcome = if b then to_seek rows l else to (Activity.Rebalance (Rebalance.Write Write.Count)) (at_infant 0 l) in x).local
+    saw true e = wants_more _ (grind (arith, nat_tests)) (next_seek rows l)
+    saw false e = has_enough (grind (arith, nat_tests))
 
 pub next_new_row : (l : Local) → NextNewRow l (row_written l).local
-next_new_row l = met (has_more l) refl
+next_new_row l = saw (has_more l) refl
   where
-    met : (b : Bool) → has_more l ≡ b → NextNewRow l (let x : Outcome = if b then to (Activity.Rebalance (Rebalance.Write Write.Count)) (at_infant (l.rebalance.at + 1) l) else to (Activity.Rebalance (Rebalance.Replace Replace.Start)) l in x).local
-    met true e = writes_row (grind (arith, nat_tests))
-    met false e = has_written (grind (arith, nat_tests))
+    saw : (b : Bool) → has_more l ≡ b → NextNewRow l (let x : Outcome = if b then to (Activity.Rebalance (Rebalance.Write Write.Count)) (at_infant (l.rebalance.at + 1) l) else to (Activity.Rebalance (Rebalance.Replace Replace.Start)) l in x).local
+    saw true e = writes_row (grind (arith, nat_tests))
+    saw false e = has_written (grind (arith, nat_tests))
 
 pub next_new_cell : (z : Sizes) (j : ℕ) (l : Local) → NextNewCell z j l (to_write_cell z j l).local
-next_new_cell z j l = met (nat_lt j z.cells) (nat_lt j (length (infant_cells l))) refl refl
+next_new_cell z j l = saw (nat_lt j z.cells) (nat_lt j (length (infant_cells l))) refl refl
   where
-    met : (b c : Bool) → nat_lt j z.cells ≡ b → nat_lt j (length (infant_cells l)) ≡ c → NextNewCell z j l (let x : Outcome = if b then (if c then to (Activity.Rebalance (Rebalance.Write (Write.Key j))) l else to (Activity.Rebalance (Rebalance.Write (Write.Version j))) l) else row_written l in x).local
-    met true true e f = fills (grind (arith, nat_tests)) (grind (arith, nat_tests))
-    met true false e f = empties (grind (arith, nat_tests)) (grind (arith, nat_tests))
-    met false c e f = has_cells _ (grind (arith, nat_tests)) (next_new_row l)
+    saw : (b c : Bool) → nat_lt j z.cells ≡ b → nat_lt j (length (infant_cells l)) ≡ c → NextNewCell z j l (let x : Outcome = if b then (if c then to (Activity.Rebalance (Rebalance.Write (Write.Key j))) l else to (Activity.Rebalance (Rebalance.Write (Write.Version j))) l) else row_written l in x).local
+    saw true true e f = fills (grind (arith, nat_tests)) (grind (arith, nat_tests))
+    saw true false e f = empties (grind (arith, nat_tests)) (grind (arith, nat_tests))
+    saw false c e f = has_cells _ (grind (arith, nat_tests)) (next_new_row l)
 
 pub next_new_entry : (z : Sizes) (i : ℕ) (l : Local) → NextNewEntry z i l (to_write_entry z i l).local
-next_new_entry z i l = met (nat_lt i z.seats) refl
+next_new_entry z i l = saw (nat_lt i z.seats) refl
   where
-    met : (b : Bool) → nat_lt i z.seats ≡ b → NextNewEntry z i l (let x : Outcome = if b then to (Activity.Rebalance (Rebalance.Write (Write.Entry i))) l else to_write_cell z 0 l in x).local
-    met true e = writes_idle (grind (arith, nat_tests))
-    met false e = has_entries _ (grind (arith, nat_tests)) (next_new_cell z 0 l)
+    saw : (b : Bool) → nat_lt i z.seats ≡ b → NextNewEntry z i l (let x : Outcome = if b then to (Activity.Rebalance (Rebalance.Write (Write.Entry i))) l else to_write_cell z 0 l in x).local
+    saw true e = writes_idle (grind (arith, nat_tests))
+    saw false e = has_entries _ (grind (arith, nat_tests)) (next_new_cell z 0 l)
 
 pub next_before : (r : ℕ) (l : Local) → NextBefore r l (first_before r l).local
-next_before r l = met (r == l.row) refl
+next_before r l = saw (r == l.row) refl
   where
-    met : (b : Bool) → (r == l.row) ≡ b → NextBefore r l (let x : Outcome = if b then to (Activity.Rebalance (Rebalance.Replace Replace.Exchange)) (at_before None 0 l) else to (Activity.Rebalance (Rebalance.Replace Replace.Next)) (at_before (Some r) 0 l) in x).local
-    met true e = is_first (grind (arith, nat_tests))
-    met false e = is_behind (grind (arith, nat_tests))
+    saw : (b : Bool) → (r == l.row) ≡ b → NextBefore r l (let x : Outcome = if b then to (Activity.Rebalance (Rebalance.Replace Replace.Exchange)) (at_before None 0 l) else to (Activity.Rebalance (Rebalance.Replace Replace.Next)) (at_before (Some r) 0 l) in x).local
+    saw true e = is_first (grind (arith, nat_tests))
+    saw false e = is_behind (grind (arith, nat_tests))

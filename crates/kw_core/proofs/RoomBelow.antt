@@ -7,9 +7,9 @@ use Rattle.kw_world.specs.Sizes.{Sizes}
 
 -- a row that has room has given fewer cells than it has
 pub room_below : (z : Sizes) (c : Option Counted) → has_room z c ≡ true → given_of c < z.cells
-room_below z (Some c) h = met c.frozen h
+room_below z (Some c) h = saw c.frozen h
   where
-    met : (b : Bool) → (if b then false else nat_lt c.given z.cells) ≡ true → c.given < z.cells
-    met true x = let y : false ≡ true = x in absurd (cc)
-    met false x = ltb-true c.given z.cells x
+    saw : (b : Bool) → (if b then false else nat_lt c.given z.cells) ≡ true → c.given < z.cells
+    saw true x = let y : false ≡ true = x in absurd (cc)
+    saw false x = ltb-true c.given z.cells x
 room_below z None h = let y : false ≡ true = h in absurd (cc)

@@ -20,7 +20,7 @@ use Rattle.kw_world.specs.declared.event.Choice.{Choice}
 use Rattle.kw_world.specs.Sizes.{Sizes}
 use Rattle.kw_world.specs.PutTransitions.{has_room}
 use Rattle.kw_core.specs.History.{History}
-use Rattle.kw_core.specs.Run.{SeatLog, Origins, seat_after, log_settled, log_gathered, place_gathered, is_at_cell}
+use Rattle.kw_core.specs.Run.{SeatLog, Origins, seat_after, log_settled, log_gathered, index_gathered, is_at_cell}
 use Rattle.kw_core.specs.Stages.{IsPublished, IsReading, IsUnderway}
 use Rattle.kw_core.proofs.Happens.{chosen, not_chosen}
 
@@ -58,7 +58,7 @@ module _ (z : Sizes) (choice : Choice) (l : Local) (found : ℕ) (next : Activit
   call_kept (Activity.Read Read.Link) u = either (λ (q : SeatLog). q.call) (is_at_cell next) g (record g { read = Some l.row }) g.call refl refl
   call_kept (Activity.Read Read.Key) u = either (λ (q : SeatLog). q.call) (is_at_cell next) g (record g { read = Some l.row }) g.call refl refl
   call_kept (Activity.Read Read.LeftOverKey) u = either (λ (q : SeatLog). q.call) (is_at_cell next) g (record g { read = Some l.row }) g.call refl refl
-  call_kept (Activity.Read Read.LeftOverValue) u = let k = log_gathered (o l.row l.place) (place_gathered l found) g in either (λ (q : SeatLog). q.call) (is_at_cell next) k (record k { read = Some l.row }) g.call refl refl
+  call_kept (Activity.Read Read.LeftOverValue) u = let k = log_gathered (o l.row l.place) (index_gathered l found) g in either (λ (q : SeatLog). q.call) (is_at_cell next) k (record k { read = Some l.row }) g.call refl refl
   call_kept (Activity.Put Put.Add) u = either (λ (q : SeatLog). q.call) (has_room z (count_of found)) (record g { own = length h.attempts }) g g.call refl refl
   call_kept (Activity.Rebalance (Rebalance.Engage Engage.Clock)) u = refl
   call_kept (Activity.Rebalance (Rebalance.Freeze Freeze.Count)) u = refl
@@ -78,7 +78,7 @@ module _ (z : Sizes) (choice : Choice) (l : Local) (found : ℕ) (next : Activit
   draw_kept (Activity.Read Read.Link) u = either (λ (q : SeatLog). q.drawn) (is_at_cell next) g (record g { read = Some l.row }) g.drawn refl refl
   draw_kept (Activity.Read Read.Key) u = either (λ (q : SeatLog). q.drawn) (is_at_cell next) g (record g { read = Some l.row }) g.drawn refl refl
   draw_kept (Activity.Read Read.LeftOverKey) u = either (λ (q : SeatLog). q.drawn) (is_at_cell next) g (record g { read = Some l.row }) g.drawn refl refl
-  draw_kept (Activity.Read Read.LeftOverValue) u = let k = log_gathered (o l.row l.place) (place_gathered l found) g in either (λ (q : SeatLog). q.drawn) (is_at_cell next) k (record k { read = Some l.row }) g.drawn refl refl
+  draw_kept (Activity.Read Read.LeftOverValue) u = let k = log_gathered (o l.row l.place) (index_gathered l found) g in either (λ (q : SeatLog). q.drawn) (is_at_cell next) k (record k { read = Some l.row }) g.drawn refl refl
   draw_kept (Activity.Put Put.Add) u = either (λ (q : SeatLog). q.drawn) (has_room z (count_of found)) (record g { own = length h.attempts }) g g.drawn refl refl
   draw_kept (Activity.Rebalance (Rebalance.Engage Engage.Clock)) u = refl
   draw_kept _ u = refl
@@ -89,7 +89,7 @@ module _ (z : Sizes) (choice : Choice) (l : Local) (found : ℕ) (next : Activit
   look_kept (Activity.Look _) u = refl
   look_kept (Activity.Read Read.Version) u = refl
   look_kept (Activity.Read Read.Value) u = refl
-  look_kept (Activity.Read Read.LeftOverValue) u = let k = log_gathered (o l.row l.place) (place_gathered l found) g in either (λ (q : SeatLog). q.looked) (is_at_cell next) k (record k { read = Some l.row }) g.looked refl refl
+  look_kept (Activity.Read Read.LeftOverValue) u = let k = log_gathered (o l.row l.place) (index_gathered l found) g in either (λ (q : SeatLog). q.looked) (is_at_cell next) k (record k { read = Some l.row }) g.looked refl refl
   look_kept (Activity.Read _) u = either (λ (q : SeatLog). q.looked) (is_at_cell next) g (record g { read = Some l.row }) g.looked refl refl
   look_kept _ u = absurd u
 

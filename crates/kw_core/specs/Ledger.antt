@@ -1,10 +1,10 @@
--- The ledger: what has become of each row and since when each seat is in a pass, as the laws of
+-- The ledger: what has become of each row and since when each seat is in a visit, as the laws of
 -- rows have it (`kw_rows`), and where each scan began to wait. It is folded along with the events
 -- beside the record, and no code reads it: laws about rows that come and go speak of it.
 --
 -- A row is taken by a seat that builds it (`Infant`), linked into the list (`Live`), unlinked
--- (`Dead`), and may be taken again. A seat that is in a pass may still read a row that was unlinked
--- after the pass began.
+-- (`Dead`), and may be taken again. A seat that is in a visit may still read a row that was
+-- unlinked after the visit began.
 use Rattle.std.specs.Prelude.{ℕ, zero, suc, ◌+◌, ◌==◌, Bool, true, false, if◌then◌else◌, Option, Some, None, List, [], ◌∷◌}
 use Rattle.kw_words.specs.declared.layout.Name.TheVariants.{Clock}
 use Rattle.kw_words.specs.declared.state.State.TheVariants as state
@@ -25,7 +25,7 @@ use Rattle.kw_world.specs.WriteTransitions.{unmarked_link}
 use Rattle.kw_core.specs.Words.{Words, least_in, next_in}
 
 pub record Ledger : Type 0 where
-  -- the fates of the rows, where the passes that are on began, and where numbers were drawn
+  -- the fates of the rows, where the visits that are on began, and where numbers were drawn
   pub rows : kw_rows.Ledger
   -- of a scan that waits, the position of the event that stored so
   pub waits : ℕ → ℕ
@@ -39,13 +39,13 @@ status_at_first (suc q) = kw_rows.Free
 abbrev pub fate_at_first : Opening → ℕ → kw_rows.Fate
 fate_at_first o q = record { status = status_at_first q; taken = 0; born = 0; gone = 0; owner = 0; upper = None; clock = o.clock }
 
--- the ledger of an opening: no seat is in a pass, no number is drawn, and no scan has waited
+-- the ledger of an opening: no seat is in a visit, no number is drawn, and no scan has waited
 abbrev pub ledger_at_first : Opening → Ledger
-ledger_at_first o = record { rows = record { fates = fate_at_first o; passes = λ s. None; numbered = λ m. None }; waits = λ s. 0 }
+ledger_at_first o = record { rows = record { fates = fate_at_first o; visits = λ s. None; numbered = λ m. None }; waits = λ s. 0 }
 
--- the rows' part with the pass of one seat set
-abbrev pub with_pass : kw_rows.Ledger → ℕ → Option ℕ → kw_rows.Ledger
-with_pass g s since = record g { passes = λ t. if t == s then since else g.passes t }
+-- the rows' part with the visit of one seat set
+abbrev pub with_visit : kw_rows.Ledger → ℕ → Option ℕ → kw_rows.Ledger
+with_visit g s since = record g { visits = λ t. if t == s then since else g.visits t }
 
 -- where scans waited, with the place of one seat's set
 abbrev pub with_wait : (ℕ → ℕ) → ℕ → ℕ → ℕ → ℕ
@@ -92,18 +92,18 @@ abbrev pub with_number : kw_rows.Ledger → ℕ → ℕ → kw_rows.Ledger
 with_number g m now = record g { numbered = λ n. if n == m then Some now else g.numbered n }
 
 -- the ledger after the event of an activity, of the seat s that knew l and found this word among
--- these, at the position `now`: a seat that stores its pass is in it from there on, one that clears
--- it, to leave or to try again, is in none, and a scan that stores that it waits does so from there
--- on. A seat that finds a row free takes it; it gives a row back; where it finds a row retired with
--- the number that it knows, that row is free from then on, and all else that is recorded of it
--- stays until it is taken again; where it finds the unmarked link to its full row, that row is
--- unlinked and the taken ones are linked; and the epoch that it finds where it adds to it is the
--- number that it draws
+-- these, at the position `now`: a seat that stores its pass word is in it from there on, one that
+-- clears it, to leave or to try again, is in none, and a scan that stores that it waits does so
+-- from there on. A seat that finds a row free takes it; it gives a row back; where it finds a row
+-- retired with the number that it knows, that row is free from then on, and all else that is
+-- recorded of it stays until it is taken again; where it finds the unmarked link to its full row,
+-- that row is unlinked and the taken ones are linked; and the epoch that it finds where it adds to
+-- it is the number that it draws
 abbrev pub ledger_after : Sizes → Activity → ℕ → Local → ℕ → Words → ℕ → Ledger → Ledger
-ledger_after z (Activity.Enter Enter.Announce) s l found v now g = record g { rows = with_pass g.rows s (Some now) }
+ledger_after z (Activity.Enter Enter.Announce) s l found v now g = record g { rows = with_visit g.rows s (Some now) }
 ledger_after z (Activity.Draw Draw.Wait) s l found v now g = record g { waits = with_wait g.waits s now }
-ledger_after z (Activity.Leave answer) s l found v now g = record g { rows = with_pass g.rows s None }
-ledger_after z Activity.Retry s l found v now g = record g { rows = with_pass g.rows s None }
+ledger_after z (Activity.Leave answer) s l found v now g = record g { rows = with_visit g.rows s None }
+ledger_after z Activity.Retry s l found v now g = record g { rows = with_visit g.rows s None }
 ledger_after z (Activity.Rebalance (Rebalance.Seek Seek.Take)) s l found v now g = if found == state_word state.Free then record g { rows = with_fate g.rows l.rebalance.sought (fate_taken s now (g.rows.fates l.rebalance.sought)) } else g
 ledger_after z (Activity.Rebalance (Rebalance.Seek Seek.Reclaim)) s l found v now g = if found == state_word (state.Retired l.rebalance.number) then record g { rows = with_fate g.rows l.rebalance.sought (fate_free (g.rows.fates l.rebalance.sought)) } else g
 ledger_after z (Activity.Rebalance (Rebalance.Seek Seek.GiveBack)) s l found v now g = record g { rows = with_fate g.rows (infant l) (fate_free (g.rows.fates (infant l))) }

@@ -18,9 +18,9 @@ use Rattle.kw_world.specs.declared.event.Choice.TheVariants.{Begin, Go, Guess, S
 use Rattle.kw_world.specs.Sizes.{Sizes}
 use Rattle.kw_world.specs.PutTransitions.{has_room}
 use Rattle.kw_core.specs.History.{History}
-use Rattle.kw_core.specs.Run.{SeatLog, Origins, log_read, place_gathered}
+use Rattle.kw_core.specs.Run.{SeatLog, Origins, log_read, index_gathered}
 use Rattle.kw_core.specs.declared.seat_log.Remark.{Remark}
-use Rattle.kw_core.specs.declared.seat_log.Remark.TheVariants.{Same, BeginsCall, LooksFirst, LoadsClock, DrawsVersion, ReadsRow, GathersListed, GathersRest, GetsCell}
+use Rattle.kw_core.specs.declared.seat_log.Remark.TheVariants.{Same, BeginsCall, LooksFirst, LoadsClock, DrawsVersion, ReadsRow, GathersListed, GathersLeftOver, GetsCell}
 
 -- a call begins
 abbrev pub remark_begun : Choice → History → Remark
@@ -40,9 +40,9 @@ remark_of z (Activity.Look (Look.Entry i)) choice l found o h settled = if i == 
 remark_of z (Activity.Look Look.Clock) choice l found o h settled = LoadsClock (length h.log)
 remark_of z (Activity.Read Read.Link) choice l found o h settled = ReadsRow l.row
 remark_of z (Activity.Read Read.Key) choice l found o h settled = ReadsRow l.row
-remark_of z (Activity.Read Read.Value) choice l found o h settled = GathersListed (unwrap_or (o l.row l.place) 0) (place_gathered l found)
+remark_of z (Activity.Read Read.Value) choice l found o h settled = GathersListed (unwrap_or (o l.row l.place) 0) (index_gathered l found)
 remark_of z (Activity.Read Read.LeftOverKey) choice l found o h settled = ReadsRow l.row
-remark_of z (Activity.Read Read.LeftOverValue) choice l found o h settled = GathersRest (unwrap_or (o l.row l.place) 0) (place_gathered l found) l.row
+remark_of z (Activity.Read Read.LeftOverValue) choice l found o h settled = GathersLeftOver (unwrap_or (o l.row l.place) 0) (index_gathered l found) l.row
 remark_of z (Activity.Put Put.Add) choice l found o h settled = if has_room z (count_of found) then GetsCell (length h.attempts) else Same
 remark_of z (Activity.Put Put.Clock) choice l found o h settled = LoadsClock (length h.log)
 remark_of z (Activity.Rebalance (Rebalance.Engage Engage.Clock)) choice l found o h settled = LoadsClock (length h.log)
@@ -58,11 +58,11 @@ remarked (LoadsClock at) next g = record g { loaded = at }
 remarked (DrawsVersion at) next g = record g { drawn = at }
 remarked (ReadsRow row) next g = log_read next row g
 remarked (GathersListed p at) next g = record g { ids = insert g.ids at p }
-remarked (GathersRest p at row) next g = log_read next row (record g { ids = insert g.ids at p })
+remarked (GathersLeftOver p at row) next g = log_read next row (record g { ids = insert g.ids at p })
 remarked (GetsCell p) next g = record g { own = p }
 
 -- the log has room for one more gathered cell at its place, where there is one
 abbrev pub HasRoomFor : ℕ → Remark → SeatLog → Type 0
 HasRoomFor cells (GathersListed p at) g = (length g.ids < cells) × (at ≤ length g.ids)
-HasRoomFor cells (GathersRest p at row) g = (length g.ids < cells) × (at ≤ length g.ids)
+HasRoomFor cells (GathersLeftOver p at row) g = (length g.ids < cells) × (at ≤ length g.ids)
 HasRoomFor cells _ g = Unit {0}

@@ -19,7 +19,7 @@ use Rattle.kw_words.specs.Count.{count_of}
 use Rattle.kw_words.specs.Plain.{value_of_word}
 use Rattle.kw_cells.specs.declared.cell.Cell as kw_cell
 use Rattle.kw_cells.specs.Cells.{best_of}
-use Rattle.kw_cells.specs.InOrder.{place_in}
+use Rattle.kw_cells.specs.InOrder.{index_in}
 use Rattle.kw_model.specs.declared.call.Call.{Call}
 use Rattle.kw_model.specs.declared.call.Call.TheVariants.{Put, Del, Get, Scan}
 use Rattle.kw_world.specs.declared.answer.Answer.{Answer}
@@ -155,7 +155,7 @@ drawing Stopped l g = None
 -- word
 abbrev pub change_of : Sizes → Activity → ℕ → Choice → Local → ℕ → SeatLog → Origins → Change
 change_of z Activity.Idle s choice l found g o = beginning choice s l
-change_of z (Activity.Look Look.Help) s choice l found g o = if found == pend_word (pend.Pending l.met) then helping (o l.row l.met) l.helping g.loaded else Nothing
+change_of z (Activity.Look Look.Help) s choice l found g o = if found == pend_word (pend.Pending l.saw) then helping (o l.row l.saw) l.helping g.loaded else Nothing
 change_of z (Activity.Put Put.Add) s choice l found g o = if has_room z (count_of found) then Adds g.call s (first_key l.call) (put_value l.call) l.row (given_of (count_of found)) else Nothing
 change_of z (Activity.Put Put.Announce) s choice l found g o = if found == pend_word pend.Idle then Announces g.own else Nothing
 change_of z (Activity.Put Put.Stamp) s choice l found g o = if found == pend_word (pend.Pending l.cell) then Stamps g.own l.version g.loaded else Nothing
@@ -190,8 +190,8 @@ abbrev pub log_gathered : Option ℕ → ℕ → SeatLog → SeatLog
 log_gathered p at g = record g { ids = insert g.ids at (unwrap_or p 0) }
 
 -- the place among the gathered cells at which the cell in hand is put, where its value is this word
-abbrev pub place_gathered : Local → ℕ → ℕ
-place_gathered l found = place_in (cell_in_hand (value_of_word found) l) l.gathered
+abbrev pub index_gathered : Local → ℕ → ℕ
+index_gathered l found = index_in (cell_in_hand (value_of_word found) l) l.gathered
 
 -- the log of a scan that found this word when it tried to settle: another seat has drawn for it if
 -- it waits no more, and the place of that draw is known
@@ -209,9 +209,9 @@ seat_after z (Activity.Look (Look.Entry i)) choice l found next g o h settled = 
 seat_after z (Activity.Look Look.Clock) choice l found next g o h settled = record g { loaded = length h.log }
 seat_after z (Activity.Read Read.Link) choice l found next g o h settled = log_read next l.row g
 seat_after z (Activity.Read Read.Key) choice l found next g o h settled = log_read next l.row g
-seat_after z (Activity.Read Read.Value) choice l found next g o h settled = log_gathered (o l.row l.place) (place_gathered l found) g
+seat_after z (Activity.Read Read.Value) choice l found next g o h settled = log_gathered (o l.row l.place) (index_gathered l found) g
 seat_after z (Activity.Read Read.LeftOverKey) choice l found next g o h settled = log_read next l.row g
-seat_after z (Activity.Read Read.LeftOverValue) choice l found next g o h settled = log_read next l.row (log_gathered (o l.row l.place) (place_gathered l found) g)
+seat_after z (Activity.Read Read.LeftOverValue) choice l found next g o h settled = log_read next l.row (log_gathered (o l.row l.place) (index_gathered l found) g)
 seat_after z (Activity.Put Put.Add) choice l found next g o h settled = if has_room z (count_of found) then record g { own = length h.attempts } else g
 seat_after z (Activity.Put Put.Clock) choice l found next g o h settled = record g { loaded = length h.log }
 seat_after z (Activity.Rebalance (Rebalance.Engage Engage.Clock)) choice l found next g o h settled = record g { loaded = length h.log }

@@ -67,14 +67,14 @@ IsBusyStage _ = Unit {0}
 abbrev pub IsBusy : Activity → Type 0
 IsBusy a = IsBusyStage (stage_of a)
 
-abbrev pub IsPassingStage : Stage → Type 0
-IsPassingStage Resting = ⊥
-IsPassingStage Entering = ⊥
-IsPassingStage _ = Unit {0}
+abbrev pub IsVisitingStage : Stage → Type 0
+IsVisitingStage Resting = ⊥
+IsVisitingStage Entering = ⊥
+IsVisitingStage _ = Unit {0}
 
--- the seat is in a pass: it has stored the epoch of its call, and has not cleared it
-abbrev pub IsPassing : Activity → Type 0
-IsPassing a = IsPassingStage (stage_of a)
+-- the seat is in a visit: it has stored the epoch of its call, and has not cleared it
+abbrev pub IsVisiting : Activity → Type 0
+IsVisiting a = IsVisitingStage (stage_of a)
 
 abbrev IsUnderwayStage : Stage → Type 0
 IsUnderwayStage Resting = ⊥
@@ -256,7 +256,7 @@ abbrev pub IsInserting : Activity → Type 0
 IsInserting (Activity.Insert _) = Unit {0}
 IsInserting _ = ⊥
 
--- it has met a cell on its walk along the list
+-- it has reached a cell on its walk along the list
 abbrev pub IsMeeting : Activity → Type 0
 IsMeeting (Activity.Insert Insert.Key) = Unit {0}
 IsMeeting (Activity.Insert Insert.Version) = Unit {0}
@@ -295,12 +295,12 @@ HasLooked (Activity.Look (Look.Entry i)) = 1 ≤ i
 HasLooked (Activity.Look _) = Unit {0}
 HasLooked _ = ⊥
 
--- it met a pending entry
-abbrev pub HasMet : Activity → Type 0
-HasMet (Activity.Look Look.Key) = Unit {0}
-HasMet (Activity.Look Look.Clock) = Unit {0}
-HasMet (Activity.Look Look.Help) = Unit {0}
-HasMet _ = ⊥
+-- it saw a pending entry
+abbrev pub HasSeenPending : Activity → Type 0
+HasSeenPending (Activity.Look Look.Key) = Unit {0}
+HasSeenPending (Activity.Look Look.Clock) = Unit {0}
+HasSeenPending (Activity.Look Look.Help) = Unit {0}
+HasSeenPending _ = ⊥
 
 -- the key of that entry's cell is one that it reads
 abbrev pub IsToHelp : Activity → Type 0
@@ -313,7 +313,7 @@ abbrev pub IsHelp : Activity → Type 0
 IsHelp (Activity.Look Look.Help) = Unit {0}
 IsHelp _ = ⊥
 
--- it has met a cell in the row's list
+-- it has reached a cell in the row's list
 abbrev pub IsAtListed : Activity → Type 0
 IsAtListed (Activity.Read Read.Key) = Unit {0}
 IsAtListed (Activity.Read Read.Version) = Unit {0}
@@ -325,7 +325,7 @@ abbrev pub IsListing : Activity → Type 0
 IsListing (Activity.Read Read.Link) = Unit {0}
 IsListing a = IsAtListed a
 
--- it reads a remembered cell that it did not meet
+-- it reads a remembered cell that it did not reach
 abbrev pub IsResting : Activity → Type 0
 IsResting (Activity.Read Read.LeftOverKey) = Unit {0}
 IsResting (Activity.Read Read.LeftOverValue) = Unit {0}

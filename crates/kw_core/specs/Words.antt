@@ -18,7 +18,7 @@ next_in v r = row_linked (link_of (v (name.Next r)))
 
 -- the least key that a row may hold
 abbrev pub least_in : Words → ℕ → ℕ
-least_in v r = key_of_word (v (name.Min r))
+least_in v r = key_of_word (v (name.Least r))
 
 -- how many cells of a row were asked for
 abbrev pub given_in : Words → ℕ → ℕ

@@ -246,18 +246,18 @@ fn beginning(happening: Happening, local: &Local) -> Change
     }
 }
 
-/// A reader helps the put whose cell it met pending.
+/// A reader helps the put whose cell it saw pending.
 fn helping(local: &Local, found: u64, log: &SeatLog, origins: &[Option<usize>]) -> Change
     requires ranges { IsLocal product local.now }
     requires origins { local.now.row * CELLS + CELLS ≤ length origins.now }
-    ensures { result ≡ (if found == pend_word (pend.Pending local.now.met)
-        then helping (origin_in product origins.now local.now.row local.now.met) local.now.helping
+    ensures { result ≡ (if found == pend_word (pend.Pending local.now.saw)
+        then helping (origin_in product origins.now local.now.row local.now.saw) local.now.helping
         log.now.loaded else Change.Nothing) }
 {
-    if found != Pend::Pending(local.met).pack() {
+    if found != Pend::Pending(local.saw).pack() {
         return Change::Nothing;
     }
-    match origin_at(origins, local.row, local.met) {
+    match origin_at(origins, local.row, local.saw) {
         Some(attempt) => Change::Stamps {
             attempt,
             version: local.helping,

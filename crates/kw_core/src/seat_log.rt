@@ -9,7 +9,7 @@ ghost use Rattle.kw_words.specs.declared.scan.ScanWord.TheVariants.{Waiting};
 ghost use Rattle.kw_words.specs.Scan.{scan_word};
 ghost use Rattle.kw_world.specs.Sizes.{product};
 ghost use Rattle.kw_world.specs.Sane.{IsLocal};
-ghost use Rattle.kw_core.specs.Run.{is_at_cell, log_read, no_log, place_gathered};
+ghost use Rattle.kw_core.specs.Run.{is_at_cell, log_read, no_log, index_gathered};
 ghost use Rattle.kw_core.specs.Recording.{origin_in};
 ghost use Rattle.kw_core.specs.Remarks.{remark_of, remarked, HasRoomFor};
 
@@ -70,7 +70,7 @@ pub enum Remark {
     GathersListed(usize, usize),
     /// A remembered cell is gathered, which was given to this attempt, at this place; then the row
     /// is read, unless the seat goes on to one of its cells.
-    GathersRest(usize, usize, u32),
+    GathersLeftOver(usize, usize, u32),
     /// The seat is given a cell, as this attempt.
     GetsCell(usize),
 }
@@ -113,7 +113,7 @@ impl SeatLog {
             Remark::DrawsVersion(at) => self.drawn = at,
             Remark::ReadsRow(row) => self.note_read(row, next),
             Remark::GathersListed(attempt, at) => self.ids.insert(at, attempt),
-            Remark::GathersRest(attempt, at, row) => {
+            Remark::GathersLeftOver(attempt, at, row) => {
                 self.ids.insert(at, attempt);
                 self.note_read(row, next);
             }
@@ -168,12 +168,12 @@ impl Remark {
             | Activity::Read(Read::LeftOverKey) => { Remark::ReadsRow(local.row) }
             Activity::Read(Read::Value) => {
                 let attempt = origin_at(origins, local.row, local.place).unwrap_or(0);
-                Remark::GathersListed(attempt, place_gathered(local, happening.found))
+                Remark::GathersListed(attempt, index_gathered(local, happening.found))
             }
             Activity::Read(Read::LeftOverValue) => {
                 let attempt = origin_at(origins, local.row, local.place).unwrap_or(0);
-                let at = place_gathered(local, happening.found);
-                Remark::GathersRest(attempt, at, local.row)
+                let at = index_gathered(local, happening.found);
+                Remark::GathersLeftOver(attempt, at, local.row)
             }
             Activity::Put(Put::Add) if room(happening.found).is_some() => {
                 Remark::GetsCell(history.attempts().len())
@@ -208,8 +208,8 @@ fn is_at_cell(next: &Activity) -> bool
 
 /// The place among the gathered cells at which the cell in hand is put, where its value is this
 /// word.
-fn place_gathered(local: &Local, found: u64) -> usize
-    ensures { result ≡ place_gathered local.now found }
+fn index_gathered(local: &Local, found: u64) -> usize
+    ensures { result ≡ index_gathered local.now found }
 {
     let cell = Cell {
         key: local.place_key,
@@ -217,5 +217,5 @@ fn place_gathered(local: &Local, found: u64) -> usize
         version: local.place_version,
         value: unpack_value(found),
     };
-    local.gathered.place_of(&cell)
+    local.gathered.index_of(&cell)
 }

@@ -27,7 +27,7 @@ pub enum Stage {
     Looking,
 
     /// A get or a scan walks along the row's list, and reads the remembered cells that it did not
-    /// meet.
+    /// reach.
     Taking,
 
     /// A scan is over, and clears its word.

@@ -15,7 +15,7 @@ ghost use Rattle.kw_world.specs.RowEnd.{MayEndRow, MayEndRowAt};
 
 use kw_model::memory::Memory;
 use kw_step_put::operation::put_operation;
-pub use kw_step_put::reading::{gather, hold_version, meet, pass_cell, take_remembered};
+pub use kw_step_put::reading::{gather, go_by_cell, hold_version, reach, take_remembered};
 use kw_step_put::resume::put_resume;
 use kw_step_put::step::put_step;
 use kw_step_rebal::operation::rebalance_operation;

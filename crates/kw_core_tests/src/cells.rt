@@ -3,7 +3,7 @@
 ghost use Rattle.kw_cells.specs.InOrder.{AreBelow, AreInOrder};
 
 use kw_cells::cell::{Cell, best, next_pair};
-use kw_cells::in_order::{first_fit, is_behind, next_in_order, place_in};
+use kw_cells::in_order::{first_fit, index_in, is_behind, next_in_order};
 use kw_cells::limits::{MOST_GATHERED, MOST_NEEDED, MOST_STARTS};
 
 fn put(key: u32, version: u64, place: u32, value: u64) -> Cell {
@@ -188,10 +188,10 @@ fn pairs_come_in_one_pass(rt: HostRuntime) {
 fn a_cell_belongs_behind_those_before_it(rt: HostRuntime) {
     let row = ordered_row();
     let places = [
-        place_in(&put(5, 2, 5, 0), &row),
-        place_in(&put(4, 1, 0, 0), &row),
-        place_in(&put(7, 2, 0, 0), &row),
-        place_in(&put(9, 8, 2, 0), &row),
+        index_in(&put(5, 2, 5, 0), &row),
+        index_in(&put(4, 1, 0, 0), &row),
+        index_in(&put(7, 2, 0, 0), &row),
+        index_in(&put(9, 8, 2, 0), &row),
     ];
     let behind = [
         is_behind(&put(9, 8, 2, 0), &row),

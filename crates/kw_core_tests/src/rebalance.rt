@@ -430,10 +430,10 @@ fn new_rows_are_linked_before_the_row_after_the_full_one(rt: HostRuntime) {
     ];
     let wanted = [
         Some((Name::Count(3), 3)),
-        Some((Name::Min(3), 40)),
+        Some((Name::Least(3), 40)),
         Some((Name::Next(3), 6)),
         Some((Name::Next(5), 8)),
-        Some((Name::Min(5), 48)),
+        Some((Name::Least(5), 48)),
     ];
     assert_eq!(rt; words, wanted);
 }
@@ -452,8 +452,8 @@ fn links_by(alloc: Global) -> Operation {
     rebalance_operation(1, &linking(alloc), Choice::Go)
 }
 
-// What it does once that has met this word, in a table of nine rows, which of the new rows is at
-// hand, and what follows once they are given back.
+// What it does once that has reached this word, in a table of nine rows, which of the new rows is
+// at hand, and what follows once they are given back.
 fn after_linking(alloc: Global, word: u64) -> (Activity, usize, Afterwards) {
     let mut local = linking(alloc);
     rebalance_resume(&mut local, 9, Choice::Go, word);

@@ -58,7 +58,7 @@ fn words_of_the_product_lie_in_place(rt: HostRuntime) {
         (Name::Pin(5), 25),
         (Name::State(9), 2_449),
         (Name::Count(9), 2_450),
-        (Name::Min(9), 2_451),
+        (Name::Least(9), 2_451),
         (Name::Next(9), 2_452),
         (Name::First(9), 2_453),
         (Name::Pend(9, 5), 2_459),

@@ -39,10 +39,10 @@ use Rattle.kw_world.specs.declared.local.Local.{Local}
 use Rattle.kw_world.specs.Calls.{first_key, is_in_range, is_range_empty, is_scan}
 use Rattle.kw_world.specs.Transition.{row_linked, leave}
 use Rattle.kw_world.specs.ListTransitions.{insert_from, insert_tried, is_newer}
-use Rattle.kw_world.specs.PutTransitions.{cleared, has_room, stamp_met, tidies_row}
-use Rattle.kw_world.specs.ReadTransitions.{to_look, look_met, help_met, remembering}
+use Rattle.kw_world.specs.PutTransitions.{cleared, has_room, stamp_seen, tidies_row}
+use Rattle.kw_world.specs.ReadTransitions.{to_look, look_seen, help_seen, remembering}
 use Rattle.kw_world.specs.ScanTransitions.{entered, answer_or_stopped, settled, version_settled}
-use Rattle.kw_world.specs.WalkTransitions.{arrive, guess_met, is_stop, is_stopped, link_met, start_transition, walk_min, walk_transition}
+use Rattle.kw_world.specs.WalkTransitions.{arrive, guess_seen, is_stop, is_stopped, link_reached, start_transition, walk_least, walk_transition}
 use Rattle.kw_world.specs.SeekTransitions.{seek_first_transition}
 use Rattle.kw_world.specs.ReplaceTransitions.{before_transition}
 use Rattle.kw_world.specs.Sizes.{Sizes}
@@ -66,7 +66,7 @@ module _ (c : Choice) where
 
   -- The walk.
 
-  guesses : (r : ℕ) (x : Option State) (l : Local) → Carries c l.pairs (guess_met r x l) (guess_met r x (carried l))
+  guesses : (r : ℕ) (x : Option State) (l : Local) → Carries c l.pairs (guess_seen r x l) (guess_seen r x (carried l))
   guesses r (Some Free) l = record { local = refl; done = refl; held = λ g. refl }
   guesses r (Some (Infant seat)) l = record { local = refl; done = refl; held = λ g. refl }
   guesses r (Some Normal) l = record { local = refl; done = refl; held = λ g. refl }
@@ -88,7 +88,7 @@ module _ (c : Choice) where
   arrives (Some (Scan from upto)) l = record { local = refl; done = refl; held = λ g. refl }
   arrives None l = record { local = refl; done = refl; held = λ g. refl }
 
-  links : (r : Option ℕ) (l : Local) → Carries c l.pairs (link_met r l) (link_met r (carried l))
+  links : (r : Option ℕ) (l : Local) → Carries c l.pairs (link_reached r l) (link_reached r (carried l))
   links None l = arrives l.call (record l { next = None; upper = 0 })
   links (Some r) l = record { local = refl; done = refl; held = λ g. refl }
 
@@ -96,7 +96,7 @@ module _ (c : Choice) where
   walks true s l rows told n = record { local = refl; done = refl; held = λ g. let x : true ≡ false = n g in absurd (cc) }
   walks false s l rows told n = links (row_linked (link_of told)) l
 
-  walks_on : (least : ℕ) (l : Local) → Carries c l.pairs (walk_min least l) (walk_min least (carried l))
+  walks_on : (least : ℕ) (l : Local) → Carries c l.pairs (walk_least least l) (walk_least least (carried l))
   walks_on least l = either c (nat_le least l.want) l.pairs _ _ _ _ (record { local = refl; done = refl; held = λ g. refl }) (arrives l.call (record l { next = Some l.candidate; upper = least }))
 
   -- A reader looks at the entries.
@@ -104,16 +104,16 @@ module _ (c : Choice) where
   looks : (z : Sizes) (i : ℕ) (l : Local) → Carries c l.pairs (to_look z i l) (to_look z i (carried l))
   looks z i l = either c (nat_lt i z.seats) l.pairs _ _ _ _ (record { local = refl; done = refl; held = λ g. refl }) (record { local = refl; done = refl; held = λ g. refl })
 
-  meets : (z : Sizes) (i : ℕ) (e : Option Pend) (l : Local) → Carries c l.pairs (look_met z i e l) (look_met z i e (carried l))
-  meets z i (Some pend.Idle) l = looks z (i + 1) l
-  meets z i (Some (pend.Pending cell)) l = record { local = refl; done = refl; held = λ g. refl }
-  meets z i (Some (pend.Stamped cell version)) l = looks z (i + 1) (remembering cell version l)
-  meets z i (Some pend.Frozen) l = looks z (i + 1) l
-  meets z i None l = looks z (i + 1) l
+  sees : (z : Sizes) (i : ℕ) (e : Option Pend) (l : Local) → Carries c l.pairs (look_seen z i e l) (look_seen z i e (carried l))
+  sees z i (Some pend.Idle) l = looks z (i + 1) l
+  sees z i (Some (pend.Pending cell)) l = record { local = refl; done = refl; held = λ g. refl }
+  sees z i (Some (pend.Stamped cell version)) l = looks z (i + 1) (remembering cell version l)
+  sees z i (Some pend.Frozen) l = looks z (i + 1) l
+  sees z i None l = looks z (i + 1) l
 
-  helps : (z : Sizes) (e : Option Pend) (l : Local) → Carries c l.pairs (help_met z e l) (help_met z e (carried l))
+  helps : (z : Sizes) (e : Option Pend) (l : Local) → Carries c l.pairs (help_seen z e l) (help_seen z e (carried l))
   helps z (Some pend.Idle) l = looks z (l.looked + 1) l
-  helps z (Some (pend.Pending cell)) l = own (cell == l.met)
+  helps z (Some (pend.Pending cell)) l = own (cell == l.saw)
     where
       own : (b : Bool) → Carries c l.pairs (to_look z (l.looked + 1) (if b then remembering cell l.helping l else l)) (to_look z (l.looked + 1) (if b then remembering cell l.helping (carried l) else carried l))
       own true = looks z (l.looked + 1) (remembering cell l.helping l)
@@ -124,7 +124,7 @@ module _ (c : Choice) where
 
   -- A put at its row.
 
-  stamps : (e : Option Pend) (l : Local) → Carries c l.pairs (stamp_met e l) (stamp_met e (carried l))
+  stamps : (e : Option Pend) (l : Local) → Carries c l.pairs (stamp_seen e l) (stamp_seen e (carried l))
   stamps (Some pend.Idle) l = record { local = refl; done = refl; held = λ g. refl }
   stamps (Some (pend.Pending cell)) l = either c (cell == l.cell) l.pairs _ _ _ _ (record { local = refl; done = refl; held = λ g. refl }) (record { local = refl; done = refl; held = λ g. refl })
   stamps (Some (pend.Stamped cell version)) l = either c (cell == l.cell) l.pairs _ _ _ _ (record { local = refl; done = refl; held = λ g. refl }) (record { local = refl; done = refl; held = λ g. refl })
@@ -178,7 +178,7 @@ carries z (Activity.Walk Walk.First) s c l rows told u = record { local = refl; 
 carries z (Activity.Walk Walk.GuessedLeast) s c l rows told u = either c (nat_le (key_of_word told) l.want) l.pairs _ _ _ _ (record { local = refl; done = refl; held = λ g. refl }) (record { local = refl; done = refl; held = λ g. refl })
 carries z (Activity.Walk Walk.Next) s c l rows told u = walks c (is_stopped c l) s l rows told (not_stopped c l)
 carries z (Activity.Walk Walk.NextLeast) s c l rows told u = walks_on c (key_of_word told) l
-carries z (Activity.Look (Look.Entry i)) s c l rows told u = meets c z i (pend_of told) l
+carries z (Activity.Look (Look.Entry i)) s c l rows told u = sees c z i (pend_of told) l
 carries z (Activity.Look Look.Key) s c l rows told u = either c (is_in_range l.call (key_of_word told)) l.pairs _ _ _ _ (record { local = refl; done = refl; held = λ g. refl }) (looks c z (l.looked + 1) l)
 carries z (Activity.Look Look.Clock) s c l rows told u = record { local = refl; done = refl; held = λ g. refl }
 carries z (Activity.Look Look.Help) s c l rows told u = helps c z (pend_of told) l

@@ -33,10 +33,10 @@ use Rattle.kw_world.specs.Marks.{least_mark}
 use Rattle.kw_world.specs.Sizes.{Sizes}
 use Rattle.kw_world.specs.Table.{transition}
 use Rattle.kw_world.specs.Transition.{row_linked, row_or_first}
-use Rattle.kw_world.specs.EngageTransitions.{is_alone, state_met, engaged, link_marked, decided}
-use Rattle.kw_world.specs.FreezeTransitions.{to_freeze_look, marking, freeze_met, entry_tried, to_scan_look, needing, scan_met, scan_helped}
-use Rattle.kw_world.specs.TakeTransitions.{left_of, take_met, keeping}
-use Rattle.kw_world.specs.SeekTransitions.{given_back, give_back, gave_back, has_more, to_seek, to_pass, seek_met, pass_met, seeking, seek_first_transition, with_row, take_row}
+use Rattle.kw_world.specs.EngageTransitions.{is_alone, state_seen, engaged, link_marked, decided}
+use Rattle.kw_world.specs.FreezeTransitions.{to_freeze_look, marking, freeze_seen, entry_tried, to_scan_look, needing, scan_seen, scan_helped}
+use Rattle.kw_world.specs.TakeTransitions.{left_of, take_reached, keeping}
+use Rattle.kw_world.specs.SeekTransitions.{given_back, give_back, gave_back, has_more, to_seek, to_pass, seek_seen, pass_seen, seeking, seek_first_transition, with_row, take_row}
 use Rattle.kw_world.specs.WriteTransitions.{infant_cells, row_written, to_write_cell, to_write_entry}
 use Rattle.kw_world.specs.ReplaceTransitions.{first_before, guess_before, before_transition, row_before, link_before, row_replaced, replaced}
 use Rattle.kw_follow.specs.Following.{carried}
@@ -50,7 +50,7 @@ IsRebalancing (Activity.Rebalance _) = Unit {0}
 IsRebalancing _ = ⊥
 
 module _ (c : Choice) where
-  state_carries : (state : Option State) (l : Local) → Carries c l.pairs (state_met state l) (state_met state (carried l))
+  state_carries : (state : Option State) (l : Local) → Carries c l.pairs (state_seen state l) (state_seen state (carried l))
   state_carries (Some Free) l = record { local = refl; done = refl; held = λ g. refl }
   state_carries (Some (Infant seat)) l = record { local = refl; done = refl; held = λ g. refl }
   state_carries (Some Normal) l = record { local = refl; done = refl; held = λ g. refl }
@@ -78,7 +78,7 @@ module _ (c : Choice) where
   freeze_looks : (z : Sizes) (i : ℕ) (l : Local) → Carries c l.pairs (to_freeze_look z i l) (to_freeze_look z i (carried l))
   freeze_looks z i l = either c (nat_lt i z.seats) l.pairs _ _ _ _ (record { local = refl; done = refl; held = λ g. refl }) (record { local = refl; done = refl; held = λ g. refl })
 
-  freeze_carries : (z : Sizes) (i : ℕ) (e : Option Pend) (l : Local) → Carries c l.pairs (freeze_met z i e l) (freeze_met z i e (carried l))
+  freeze_carries : (z : Sizes) (i : ℕ) (e : Option Pend) (l : Local) → Carries c l.pairs (freeze_seen z i e l) (freeze_seen z i e (carried l))
   freeze_carries z i (Some pend.Idle) l = record { local = refl; done = refl; held = λ g. refl }
   freeze_carries z i (Some (pend.Pending cell)) l = record { local = refl; done = refl; held = λ g. refl }
   freeze_carries z i (Some (pend.Stamped cell version)) l = freeze_looks z (i + 1) (marking cell version l)
@@ -92,11 +92,11 @@ module _ (c : Choice) where
   scan_looks : (z : Sizes) (i : ℕ) (l : Local) → Carries c l.pairs (to_scan_look z i l) (to_scan_look z i (carried l))
   scan_looks z i l = either c (nat_lt i z.seats) l.pairs _ _ _ _ (record { local = refl; done = refl; held = λ g. refl }) (record { local = refl; done = refl; held = λ g. refl })
 
-  scan_met_carries : (z : Sizes) (i : ℕ) (w : Option ScanWord) (l : Local) → Carries c l.pairs (scan_met z i w l) (scan_met z i w (carried l))
-  scan_met_carries z i (Some scan.Quiet) l = scan_looks z (i + 1) l
-  scan_met_carries z i (Some (scan.Waiting clock)) l = record { local = refl; done = refl; held = λ g. refl }
-  scan_met_carries z i (Some (scan.Drawn version)) l = scan_looks z (i + 1) (needing version l)
-  scan_met_carries z i None l = scan_looks z (i + 1) l
+  scan_seen_carries : (z : Sizes) (i : ℕ) (w : Option ScanWord) (l : Local) → Carries c l.pairs (scan_seen z i w l) (scan_seen z i w (carried l))
+  scan_seen_carries z i (Some scan.Quiet) l = scan_looks z (i + 1) l
+  scan_seen_carries z i (Some (scan.Waiting clock)) l = record { local = refl; done = refl; held = λ g. refl }
+  scan_seen_carries z i (Some (scan.Drawn version)) l = scan_looks z (i + 1) (needing version l)
+  scan_seen_carries z i None l = scan_looks z (i + 1) l
 
   helped_carries : (z : Sizes) (i : ℕ) (w : Option ScanWord) (l : Local) → Carries c l.pairs (scan_helped z i w l) (scan_helped z i w (carried l))
   helped_carries z i (Some scan.Quiet) l = scan_looks z (i + 1) l
@@ -112,7 +112,7 @@ module _ (c : Choice) where
   left_carries z (Some m) l = record { local = refl; done = refl; held = λ g. refl }
   left_carries z None l = record { local = refl; done = refl; held = λ g. refl }
 
-  take_carries : (z : Sizes) (cell : Option ℕ) (l : Local) → Carries c l.pairs (take_met z cell l) (take_met z cell (carried l))
+  take_carries : (z : Sizes) (cell : Option ℕ) (l : Local) → Carries c l.pairs (take_reached z cell l) (take_reached z cell (carried l))
   take_carries z (Some cell) l = record { local = refl; done = refl; held = λ g. refl }
   take_carries z None l = left_carries z (least_mark l.rebalance.marks) l
 
@@ -133,11 +133,11 @@ module _ (c : Choice) where
   passes_carry : (z : Sizes) (i : ℕ) (l : Local) → Carries c l.pairs (to_pass z i l) (to_pass z i (carried l))
   passes_carry z i l = either c (nat_lt i z.seats) l.pairs _ _ _ _ (record { local = refl; done = refl; held = λ g. refl }) (record { local = refl; done = refl; held = λ g. refl })
 
-  pass_carries : (z : Sizes) (i rows : ℕ) (epoch : Option ℕ) (l : Local) → Carries c l.pairs (pass_met z i rows epoch l) (pass_met z i rows epoch (carried l))
+  pass_carries : (z : Sizes) (i rows : ℕ) (epoch : Option ℕ) (l : Local) → Carries c l.pairs (pass_seen z i rows epoch l) (pass_seen z i rows epoch (carried l))
   pass_carries z i rows (Some epoch) l = either c (nat_le epoch l.rebalance.number) l.pairs _ _ _ _ (seeks rows l) (passes_carry z (i + 1) l)
   pass_carries z i rows None l = passes_carry z (i + 1) l
 
-  seek_carries : (rows : ℕ) (state : Option State) (l : Local) → Carries c l.pairs (seek_met rows state l) (seek_met rows state (carried l))
+  seek_carries : (rows : ℕ) (state : Option State) (l : Local) → Carries c l.pairs (seek_seen rows state l) (seek_seen rows state (carried l))
   seek_carries rows (Some Free) l = record { local = refl; done = refl; held = λ g. refl }
   seek_carries rows (Some (Infant seat)) l = seeks rows l
   seek_carries rows (Some Normal) l = seeks rows l
@@ -213,7 +213,7 @@ module _ (c : Choice) where
   rebalance_carries z (Activity.Rebalance (Rebalance.Freeze Freeze.Count)) s l rows told u = record { local = refl; done = refl; held = λ g. refl }
   rebalance_carries z (Activity.Rebalance (Rebalance.Freeze (Freeze.Look i))) s l rows told u = freeze_carries z i (pend_of told) l
   rebalance_carries z (Activity.Rebalance (Rebalance.Freeze (Freeze.Entry i))) s l rows told u = entry_carries z i (told == pend_word l.rebalance.entry) l
-  rebalance_carries z (Activity.Rebalance (Rebalance.Freeze (Freeze.Scan i))) s l rows told u = scan_met_carries z i (scan_of told) l
+  rebalance_carries z (Activity.Rebalance (Rebalance.Freeze (Freeze.Scan i))) s l rows told u = scan_seen_carries z i (scan_of told) l
   rebalance_carries z (Activity.Rebalance (Rebalance.Freeze (Freeze.Draw i))) s l rows told u = record { local = refl; done = refl; held = λ g. refl }
   rebalance_carries z (Activity.Rebalance (Rebalance.Freeze (Freeze.Settle i))) s l rows told u = helped_carries z i (scan_of told) l
   rebalance_carries z (Activity.Rebalance (Rebalance.Gather Gather.Link)) s l rows told u = take_carries z (cell_of_link_word told) l

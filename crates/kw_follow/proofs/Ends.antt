@@ -37,11 +37,11 @@ cleared rows c l told answer is = ap (λ a. ((transition product a 0 c l).next r
 pub offered_stopped : (rows : ℕ) (c : Choice) (answer : Answer) → answer_or_stopped answer (offered rows c) ≡ answer_or_stopped answer c
 offered_stopped rows (Begin call) answer = refl
 offered_stopped rows Go answer = refl
-offered_stopped rows (Guess r) answer = met (nat_lt r rows)
+offered_stopped rows (Guess r) answer = saw (nat_lt r rows)
   where
-    met : (b : Bool) → answer_or_stopped answer (if b then Guess r else Go) ≡ answer
-    met true = refl
-    met false = refl
+    saw : (b : Bool) → answer_or_stopped answer (if b then Guess r else Go) ≡ answer
+    saw true = refl
+    saw false = refl
 offered_stopped rows Stop answer = refl
 
 module _ {s : Shared} {p q : Pass} {c : Choice} {l after : Local} {done : StepDone} {told : ℕ} where

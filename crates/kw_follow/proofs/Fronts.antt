@@ -27,7 +27,7 @@ use Rattle.kw_table.specs.declared.pass.Pass.{Pass}
 use Rattle.kw_table.specs.declared.shared.Shared.{Shared}
 use Rattle.kw_table.specs.Passes.{view}
 use Rattle.kw_follow.specs.Following.{GoesTo}
-use Rattle.kw_follow.specs.OwnEvents.{Met, transition_after}
+use Rattle.kw_follow.specs.OwnEvents.{Saw, transition_after}
 
 -- what the pass's seat knows after these events
 abbrev pub local_at : Pass → List Event → Local
@@ -38,8 +38,8 @@ pub seat_within : (p : Pass) → (view p).number < (view p).opening.seats
 seat_within p = omega (arith, p.known.seats, p.known.number)
 
 -- the events before it are a valid list
-pub met_valid : (s : Shared) (p q : Pass) (a : Activity) (c : Choice) (told : ℕ) → GoesTo s p q → (m : Met p q a c told) → is_valid product (view p).opening m.front ≡ true
-met_valid s p q a c told goes m =
+pub saw_valid : (s : Shared) (p q : Pass) (a : Activity) (c : Choice) (told : ℕ) → GoesTo s p q → (m : Saw p q a c told) → is_valid product (view p).opening m.front ≡ true
+saw_valid s p q a c told goes m =
     let o : Opening = (view p).opening in
     let e : Event = event (view p).number c in
     let all : is_valid product o (view q).seen ≡ true = subst (λ (x : Opening). is_valid product x (view q).seen ≡ true) goes.opening q.known.valid in
@@ -47,31 +47,31 @@ met_valid s p q a c told goes m =
     valid_front product o m.front (e ∷ []) with_it
 
 -- so all laws hold of them
-pub met_laws : (s : Shared) (p q : Pass) (a : Activity) (c : Choice) (told : ℕ) → GoesTo s p q → (m : Met p q a c told) → KeepsLaws product (history product (view p).opening m.front)
-met_laws s p q a c told goes m = laws_hold product (view p).opening p.known.opens m.front (met_valid s p q a c told goes m)
+pub saw_laws : (s : Shared) (p q : Pass) (a : Activity) (c : Choice) (told : ℕ) → GoesTo s p q → (m : Saw p q a c told) → KeepsLaws product (history product (view p).opening m.front)
+saw_laws s p q a c told goes m = laws_hold product (view p).opening p.known.opens m.front (saw_valid s p q a c told goes m)
 
 -- the seat's local is among those of that world
-pub met_local : (p q : Pass) (a : Activity) (c : Choice) (told : ℕ) → (m : Met p q a c told) → slice_get (history product (view p).opening m.front).world.locals (view p).number ≡ Some (local_at p m.front)
-met_local p q a c told m =
+pub saw_local : (p q : Pass) (a : Activity) (c : Choice) (told : ℕ) → (m : Saw p q a c told) → slice_get (history product (view p).opening m.front).world.locals (view p).number ≡ Some (local_at p m.front)
+saw_local p q a c told m =
     ap (λ (w : WorldView). slice_get w.locals (view p).number) (history-world product (view p).opening m.front)
     ∙ world-local product (view p).opening m.front (view p).number (seat_within p)
 
 -- the line of the event, by the activity at which it was made
-pub met_transition : (p q : Pass) (a : Activity) (c : Choice) (told : ℕ) → (m : Met p q a c told) → transition_after (view p).opening m.front (view p).number c ≡ transition product a (view p).number (offered (view p).opening.rows c) (local_at p m.front)
+pub saw_transition : (p q : Pass) (a : Activity) (c : Choice) (told : ℕ) → (m : Saw p q a c told) → transition_after (view p).opening m.front (view p).number c ≡ transition product a (view p).number (offered (view p).opening.rows c) (local_at p m.front)
 unfolding transition_of
-met_transition p q a c told m = ap (λ b. transition product b (view p).number (offered (view p).opening.rows c) (local_at p m.front)) m.activity
+saw_transition p q a c told m = ap (λ b. transition product b (view p).number (offered (view p).opening.rows c) (local_at p m.front)) m.activity
 
 -- what it was told, by that line
-pub met_told : (p q : Pass) (a : Activity) (c : Choice) (told : ℕ) → (m : Met p q a c told) → (r : Transition) → transition product a (view p).number (offered (view p).opening.rows c) (local_at p m.front) ≡ r
+pub saw_told : (p q : Pass) (a : Activity) (c : Choice) (told : ℕ) → (m : Saw p q a c told) → (r : Transition) → transition product a (view p).number (offered (view p).opening.rows c) (local_at p m.front) ≡ r
     → told ≡ told_by r.operation.action (word product (history product (view p).opening m.front).world r.operation.name)
-met_told p q a c told m r is =
+saw_told p q a c told m r is =
     m.tells
-    ∙ (ap (λ (x : Transition). told_by x.operation.action (word product (world product (view p).opening m.front) x.operation.name)) (met_transition p q a c told m ∙ is)
+    ∙ (ap (λ (x : Transition). told_by x.operation.action (word product (world product (view p).opening m.front) x.operation.name)) (saw_transition p q a c told m ∙ is)
     ∙ ap (λ (w : WorldView). told_by r.operation.action (word product w r.operation.name)) (sym (history-world product (view p).opening m.front)))
 
 -- its row is one of the table's
-pub met_row_below : (s : Shared) (p q : Pass) (a : Activity) (c : Choice) (told : ℕ) → GoesTo s p q → (m : Met p q a c told) → (local_at p m.front).row < (history product (view p).opening m.front).world.rows
-met_row_below s p q a c told goes m = ((met_laws s p q a c told goes m).sane.locals (view p).number (local_at p m.front) (met_local p q a c told m)).below.row
+pub saw_row_below : (s : Shared) (p q : Pass) (a : Activity) (c : Choice) (told : ℕ) → GoesTo s p q → (m : Saw p q a c told) → (local_at p m.front).row < (history product (view p).opening m.front).world.rows
+saw_row_below s p q a c told goes m = ((saw_laws s p q a c told goes m).sane.locals (view p).number (local_at p m.front) (saw_local p q a c told m)).below.row
 
 -- what stands behind the first part of a list is at its length
 get_behind : {A : Type 0} (xs : List A) (y : A) (ys : List A) → slice_get (xs ++ y ∷ ys) (length xs) ≡ Some y
@@ -98,10 +98,10 @@ acts_behind o n front rest a c seat is =
     }
 
 -- so it acts at its place among all that the pass has then seen
-pub acts_of_met : (s : Shared) (p q : Pass) (a : Activity) (c : Choice) (told : ℕ) → GoesTo s p q → (m : Met p q a c told)
+pub acts_of_saw : (s : Shared) (p q : Pass) (a : Activity) (c : Choice) (told : ℕ) → GoesTo s p q → (m : Saw p q a c told)
     → Acts product (view q).opening (view q).seen (length m.front) (view q).number a (transition_after (view p).opening m.front (view p).number c).operation
     (word product (world product (view p).opening m.front) (transition_after (view p).opening m.front (view p).number c).operation.name)
-acts_of_met s p q a c told goes m =
+acts_of_saw s p q a c told goes m =
     let o : Opening = (view p).opening in
     let n : ℕ = (view p).number in
     let op : Operation = (transition_after o m.front n c).operation in

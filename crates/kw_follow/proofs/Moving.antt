@@ -17,11 +17,11 @@ use Rattle.kw_table.specs.declared.shared.Shared.{Shared}
 use Rattle.kw_table.specs.Passes.{Makes}
 use Rattle.kw_follow.specs.Following.{Follows, activity_in}
 use Rattle.kw_follow.specs.Moving.{Begins, FollowsAt, Moves, WentOn}
-use Rattle.kw_follow.specs.OwnEvents.{MetOnly}
+use Rattle.kw_follow.specs.OwnEvents.{SawOnly}
 use Rattle.kw_follow.proofs.Carrying.{IsGoingOn}
 use Rattle.kw_follow.proofs.Ends.{begin_follows, begin_holds, begin_is}
 use Rattle.kw_follow.proofs.Growing.{keeps, opens}
-use Rattle.kw_follow.proofs.OneEvent.{Went, went, goes_in, goes_stay, makes_met, same_activity, went_follows, went_held, went_line}
+use Rattle.kw_follow.proofs.OneEvent.{Went, went, goes_in, goes_stay, makes_saw, same_activity, went_follows, went_held, went_line}
 use Rattle.kw_follow.proofs.OwnEvents.{only_event}
 use Rattle.kw_follow.proofs.PutEvents.{next_at}
 use Rattle.kw_follow.proofs.ReadEvents.{goes_by}
@@ -46,8 +46,8 @@ module _ {s : Shared} {p q : Pass} {l m : Local} {c : Choice} {done : StepDone} 
     goes = goes_by s p q c w.told w.makes;
     follows = went_follows (went_in f w) going;
     line = went_line (went_in f w) going;
-    met = makes_met f w.makes;
-    only = subst (λ (a : Activity). MetOnly p q a w.told) (same_activity s p l f) (only_event w.makes);
+    saw = makes_saw f w.makes;
+    only = subst (λ (a : Activity). SawOnly p q a w.told) (same_activity s p l f) (only_event w.makes);
     calls = keeps w.makes (goes_stay _ (goes_in s p l f going));
     held = went_held (went_in f w) going;
   }

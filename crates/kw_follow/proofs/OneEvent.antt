@@ -40,7 +40,7 @@ use Rattle.kw_table.specs.Views.{local_in}
 use Rattle.kw_table.proofs.Carried.{known_in}
 use Rattle.kw_table.proofs.Prefixes.{prefix_self}
 use Rattle.kw_follow.specs.Following.{Follows, activity_in, carried, held, known}
-use Rattle.kw_follow.specs.OwnEvents.{MetAs}
+use Rattle.kw_follow.specs.OwnEvents.{SawAs}
 use Rattle.kw_follow.specs.Within.{IsWithinCall}
 use Rattle.kw_follow.proofs.Carries.{Carries}
 use Rattle.kw_follow.proofs.Carrying.{IsGoingOn, carries, operates}
@@ -71,7 +71,7 @@ carried_in_range z l k = record {
   version = k.version;
   pairs = All-nil IsPair;
   looked = k.looked;
-  met = k.met;
+  saw = k.saw;
   helping = k.helping;
   marks = k.marks;
   place = k.place;
@@ -164,11 +164,11 @@ went s p q c l after done told rows o follows makes counts offers goes = record 
 offered_stop : (rows : ℕ) (c : Choice) → is_stop c ≡ false → is_stop (offered rows c) ≡ false
 offered_stop rows (Begin call) n = refl
 offered_stop rows Go n = refl
-offered_stop rows (Guess r) n = met (nat_lt r rows)
+offered_stop rows (Guess r) n = saw (nat_lt r rows)
   where
-    met : (b : Bool) → is_stop (if b then Guess r else Go) ≡ false
-    met true = refl
-    met false = refl
+    saw : (b : Bool) → is_stop (if b then Guess r else Go) ≡ false
+    saw true = refl
+    saw false = refl
 offered_stop rows Stop n = n
 
 -- Where a pass is, by what code knows.
@@ -211,9 +211,9 @@ pub same_activity : (s : Shared) (p : Pass) (l : Local) → Follows s p l → ac
 same_activity s p l f = sym (ap (λ (k : Local). k.activity) f.carries)
 
 -- the event is among the pass's own since
-pub makes_met : {s : Shared} {p q : Pass} {c : Choice} {l : Local} {told : ℕ} → Follows s p l → Makes s p c told q → MetAs p q l c told
-makes_met {s} {p} {q} {c} {l} {told} f makes = record {
-  met = record {
+pub makes_saw : {s : Shared} {p q : Pass} {c : Choice} {l : Local} {told : ℕ} → Follows s p l → Makes s p c told q → SawAs p q l c told
+makes_saw {s} {p} {q} {c} {l} {told} f makes = record {
+  saw = record {
     front = makes.step.front;
     later = makes.step.later;
     here = subst (λ es. IsPrefix (makes.step.front ++ event (view p).number c ∷ []) es) (sym makes.step.seen) (prefix_self _);
@@ -260,5 +260,5 @@ module _ {s : Shared} {p q : Pass} {c : Choice} {l after : Local} {done : StepDo
       ∙ (both_go w u).held (offered_stop (view p).opening.rows c n)
 
   -- it is among the pass's events since
-  pub went_met : Went s p q c l after done told → IsWithinCall l.activity → MetAs p q l c told
-  went_met w u = makes_met w.follows w.makes
+  pub went_saw : Went s p q c l after done told → IsWithinCall l.activity → SawAs p q l c told
+  went_saw w u = makes_saw w.follows w.makes

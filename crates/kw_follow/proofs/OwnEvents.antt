@@ -1,5 +1,5 @@
--- The events of a pass's own: each step makes one event, and what was met on a whole way was met on
--- one part of it.
+-- The events of a pass's own: each step makes one event, and what was seen on a whole way was seen
+-- on one part of it.
 use Rattle.std.proofs.Common.{ℕ, ◌≡◌, List, [], ◌∷◌, ◌++◌, arith, refl, sym, ◌∙◌, ap, subst, inl, inr, ◌⊎◌, length, length-append, append_assoc}
 use Rattle.std.proofs.lemmas.List.{append_cancel_left}
 use mathlib.Core.Logic.{⊎_elim}
@@ -21,7 +21,7 @@ use Rattle.kw_table.specs.Passes.{view, Makes}
 use Rattle.kw_table.proofs.Prefixes.{prefix_nil, prefix_trans}
 use Rattle.kw_table.proofs.Stepping.{rest_is_others}
 use Rattle.kw_follow.specs.Following.{GoesTo, activity_in}
-use Rattle.kw_follow.specs.OwnEvents.{Met, MetIn, MetOnly, transition_after}
+use Rattle.kw_follow.specs.OwnEvents.{Saw, SawIn, SawOnly, transition_after}
 use Rattle.kw_follow.proofs.Growing.{first_own}
 
 -- Lists of events.
@@ -85,8 +85,8 @@ abbrev tells : Pass → List Event → Choice → ℕ
 tells p es c = told_by (transition_after (view p).opening es (view p).number c).operation.action (word product (world product (view p).opening es) (transition_after (view p).opening es (view p).number c).operation.name)
 
 module _ {s : Shared} {p q : Pass} {c : Choice} {told : ℕ} (makes : Makes s p c told q) where
-  -- whichever event of the pass's own was met since, it is the one that was made
-  is_that : (a : Activity) (d : Choice) (n : ℕ) → (m : Met p q a d n) → (makes.step.front ≡ m.front) × (c ≡ d)
+  -- whichever event of the pass's own was seen since, it is the one that was made
+  is_that : (a : Activity) (d : Choice) (n : ℕ) → (m : Saw p q a d n) → (makes.step.front ≡ m.front) × (c ≡ d)
   is_that a d n m =
       let k : ℕ = (view p).number in
       let old : List Event = (view p).seen in
@@ -115,7 +115,7 @@ module _ {s : Shared} {p q : Pass} {c : Choice} {told : ℕ} (makes : Makes s p 
       (sym makes.step.later.1 ∙ (ap (λ es. old ++ es) same.0 ∙ m.later.1), same.1)
 
   -- so it was made where the pass was, and was told the same
-  pub only_event : MetOnly p q (activity_in p) told
+  pub only_event : SawOnly p q (activity_in p) told
   only_event = λ a d n m.
       let k : ℕ = (view p).number in
       let o : Opening = (view p).opening in
@@ -134,32 +134,32 @@ module _ {s : Shared} {p q : Pass} {c : Choice} {told : ℕ} (makes : Makes s p 
 pub goes_trans : (s : Shared) (p q r : Pass) → GoesTo s p q → GoesTo s q r → GoesTo s p r
 goes_trans s p q r a b = record { of_table = b.of_table; number = b.number ∙ a.number; opening = b.opening ∙ a.opening; seen = prefix_trans _ _ _ a.seen b.seen }
 
--- nothing is met while nothing is made
-pub meets_none : (p : Pass) (a : Activity) (c : Choice) (told : ℕ) → Met p p a c told → ⊥
-meets_none p a c told m =
+-- nothing is seen while nothing is made
+pub sees_none : (p : Pass) (a : Activity) (c : Choice) (told : ℕ) → Saw p p a c told → ⊥
+sees_none p a c told m =
     let e : List Event = event (view p).number c ∷ [] in
     omega (arith, ap length m.later.1, ap length m.here.1, length-append (view p).seen m.later.0, length-append (m.front ++ e) m.here.0, length-append m.front e)
 
 module _ {s : Shared} {p q r : Pass} (first : GoesTo s p q) (second : GoesTo s q r) where
-  -- an event that was met on the way was met on one of its two parts
-  pub met_on_one : (a : Activity) (c : Choice) (told : ℕ) → Met p r a c told → Met p q a c told ⊎ Met q r a c told
-  met_on_one a c told m =
+  -- an event that was seen on the way was seen on one of its two parts
+  pub saw_on_one : (a : Activity) (c : Choice) (told : ℕ) → Saw p r a c told → Saw p q a c told ⊎ Saw q r a c told
+  saw_on_one a c told m =
       let e : Event = event (view p).number c in
       ⊎_elim
       (λ (here : IsPrefix (m.front ++ e ∷ []) (view q).seen). inl (record { front = m.front; later = m.later; here = here; activity = m.activity; tells = m.tells }))
       (λ (later : IsPrefix (view q).seen m.front). inr
-      (subst (λ n. MetIn (view q).opening n (view q).seen (view r).seen a c told) (sym first.number)
-      (subst (λ o. MetIn o (view p).number (view q).seen (view r).seen a c told) (sym first.opening)
+      (subst (λ n. SawIn (view q).opening n (view q).seen (view r).seen a c told) (sym first.number)
+      (subst (λ o. SawIn o (view p).number (view q).seen (view r).seen a c told) (sym first.opening)
       record { front = m.front; later = later; here = m.here; activity = m.activity; tells = m.tells })))
       (cut m.front e m.here.0 (view q).seen second.seen.0 (m.here.1 ∙ sym second.seen.1))
 
 -- it is among the events of a longer list
-pub met_later : (p q r : Pass) {a : Activity} {c : Choice} {told : ℕ} → Met p q a c told → IsPrefix (view q).seen (view r).seen → Met p r a c told
-met_later p q r m more = record { front = m.front; later = m.later; here = prefix_trans _ _ _ m.here more; activity = m.activity; tells = m.tells }
+pub saw_later : (p q r : Pass) {a : Activity} {c : Choice} {told : ℕ} → Saw p q a c told → IsPrefix (view q).seen (view r).seen → Saw p r a c told
+saw_later p q r m more = record { front = m.front; later = m.later; here = prefix_trans _ _ _ m.here more; activity = m.activity; tells = m.tells }
 
 -- and of those after a shorter one
-pub met_earlier : (s : Shared) (p q r : Pass) {a : Activity} {c : Choice} {told : ℕ} → GoesTo s p q → Met q r a c told → Met p r a c told
-met_earlier s p q r {a} {c} {told} goes m =
-    let x : MetIn (view p).opening (view p).number (view q).seen (view r).seen a c told =
-    subst (λ n. MetIn (view p).opening n (view q).seen (view r).seen a c told) goes.number (subst (λ o. MetIn o (view q).number (view q).seen (view r).seen a c told) goes.opening m) in
+pub saw_earlier : (s : Shared) (p q r : Pass) {a : Activity} {c : Choice} {told : ℕ} → GoesTo s p q → Saw q r a c told → Saw p r a c told
+saw_earlier s p q r {a} {c} {told} goes m =
+    let x : SawIn (view p).opening (view p).number (view q).seen (view r).seen a c told =
+    subst (λ n. SawIn (view p).opening n (view q).seen (view r).seen a c told) goes.number (subst (λ o. SawIn o (view q).number (view q).seen (view r).seen a c told) goes.opening m) in
     record { front = x.front; later = prefix_trans _ _ _ goes.seen x.later; here = x.here; activity = x.activity; tells = x.tells }

@@ -17,7 +17,7 @@ use Rattle.kw_world.specs.declared.local.Local.{Local}
 use Rattle.kw_world.specs.declared.operation.Action.TheVariants.{Load}
 use Rattle.kw_world.specs.Calls.{first_key, last_key, is_scan}
 use Rattle.kw_world.specs.ListTransitions.{link_name}
-use Rattle.kw_world.specs.ReadTransitions.{gathering, get_answered, list_key, list_past, row_read, to_rest}
+use Rattle.kw_world.specs.ReadTransitions.{gathering, get_answered, list_key, list_past, row_read, to_left_over}
 use Rattle.kw_world.specs.Sizes.{product}
 use Rattle.kw_world.specs.Step.{next_of}
 use Rattle.kw_world.specs.Table.{transition}
@@ -34,7 +34,7 @@ use Rattle.kw_follow.specs.Following.{CarriesOn, Follows, GoesTo, carried}
 use Rattle.kw_follow.specs.Moving.{FollowsAt}
 use Rattle.kw_follow.specs.Within.{IsAtRemembered}
 use Rattle.kw_follow.proofs.Growing.{IsStaying, keeps}
-use Rattle.kw_follow.proofs.OneEvent.{follows_from, makes_met, same_activity}
+use Rattle.kw_follow.proofs.OneEvent.{follows_from, makes_saw, same_activity}
 use Rattle.kw_follow.proofs.PutEvents.{asks_at, next_at}
 
 -- Where a reader is.
@@ -93,7 +93,7 @@ reads_word s p q l told f makes taking = record {
   makes = makes;
   goes = goes_by s p q Go told makes;
   seat = seat_reads s p q told makes;
-  met = makes_met f makes;
+  saw = makes_saw f makes;
   calls = keeps makes (taking_stays _ (subst IsTaking (sym (same_activity s p l f)) taking));
 }
 
@@ -113,12 +113,12 @@ gathered_on next value l k m is on =
     let h : CarriesOn next (gathering product value l) m = subst (λ (x : Local). CarriesOn next x m) is on in
     record { carries = h.carries; number = h.number; pairs = h.pairs }
 
--- a cell below the range is passed
-pub passed_on : (key : ℕ) (l m : Local) → key < first_key l.call → CarriesOn list_past l m → CarriesOn (list_key key) l m
-passed_on key l m below on =
+-- a cell below the range is gone by
+pub gone_by_on : (key : ℕ) (l m : Local) → key < first_key l.call → CarriesOn list_past l m → CarriesOn (list_key key) l m
+gone_by_on key l m below on =
     let lower : nat_lt key (first_key l.call) ≡ true = lt-ltb key (first_key l.call) below in
     record {
-      carries = λ begun added. on.carries begun added ∙ ap (λ (b : Bool). carried (if b then list_past (record l { number = begun; pairs = added }) else if nat_le key (last_key l.call) then to (Activity.Read Read.Version) (record l { number = begun; pairs = added; place_key = key }) else to_rest (record l { number = begun; pairs = added })).local) (sym lower);
+      carries = λ begun added. on.carries begun added ∙ ap (λ (b : Bool). carried (if b then list_past (record l { number = begun; pairs = added }) else if nat_le key (last_key l.call) then to (Activity.Read Read.Version) (record l { number = begun; pairs = added; place_key = key }) else to_left_over (record l { number = begun; pairs = added })).local) (sym lower);
       number = on.number;
       pairs = on.pairs;
     }

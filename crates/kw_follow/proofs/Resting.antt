@@ -13,7 +13,7 @@ use Rattle.kw_core.specs.Events.{is_valid, may_step}
 use Rattle.kw_reads.specs.Inv.{Inv}
 use Rattle.kw_core.specs.Run.{Run, goes_on, history, start}
 use Rattle.kw_shape.specs.Shape.{Words}
-use Rattle.kw_core.proofs.Arrows.{Arrow, builds, NextLook, NextRest, rests, answers, ends_scan, scans_on, looks, lists, leaves, meets_stamped, meets_neither, is_passed, helps, finds_stamped, finds_other, list_ends, key_above, rest_passed, gathers_rest}
+use Rattle.kw_core.proofs.Arrows.{Arrow, builds, NextLook, NextLeftOver, goes_to_left_over, answers, ends_scan, scans_on, looks, lists, leaves, sees_stamped, sees_neither, is_gone_by, helps, finds_stamped, finds_other, list_ends, key_above, left_over_gone_by, gathers_left_over}
 use Rattle.kw_core.proofs.BuiltNext.{IsAfterBuilding, built_next}
 use Rattle.kw_core.proofs.Events.{may_come}
 use Rattle.kw_core.proofs.Happens.{happens, each_seat}
@@ -35,11 +35,11 @@ look_rests : (z : Sizes) (j : ℕ) (next : Activity) (l : Local) → NextLook z 
 look_rests z j next l (looks w) = tt
 look_rests z j next l (lists w) = tt
 
-rest_rests : (l : Local) (k : Local) → NextRest l k → Rests k.activity k
-rest_rests l k (rests m e) = tt
-rest_rests l k (answers w e) = tt
-rest_rests l k (ends_scan w e f) = tt
-rest_rests l k (scans_on q w e f g) = tt
+left_over_rests : (l : Local) (k : Local) → NextLeftOver l k → Rests k.activity k
+left_over_rests l k (goes_to_left_over m e) = tt
+left_over_rests l k (answers w e) = tt
+left_over_rests l k (ends_scan w e f) = tt
+left_over_rests l k (scans_on q w e f g) = tt
 
 -- what follows the building of rows does not end the call
 after_rests : (b : Activity) (k : Local) → IsAfterBuilding b → Rests b k
@@ -50,16 +50,16 @@ after_rests _ k x = tt
 arrow_rests : (z : Sizes) (v : Words) (s : ℕ) (choice : Choice) (l : Local) (a : Activity) (k : Local) → Arrow z v s choice l a k → Rests k.activity k
 arrow_rests z v s choice l a k (leaves answer) = refl
 arrow_rests z v s choice l a k (builds b next y t) = after_rests k.activity k (built_next z v choice l b k t)
-arrow_rests z v s choice l a k (meets_stamped i c version next e n) = look_rests z _ next _ n
-arrow_rests z v s choice l a k (meets_neither i next e n) = look_rests z _ next _ n
-arrow_rests z v s choice l a k (is_passed next e n) = look_rests z _ next _ n
+arrow_rests z v s choice l a k (sees_stamped i c version next e n) = look_rests z _ next _ n
+arrow_rests z v s choice l a k (sees_neither i next e n) = look_rests z _ next _ n
+arrow_rests z v s choice l a k (is_gone_by next e n) = look_rests z _ next _ n
 arrow_rests z v s choice l a k (helps next e n) = look_rests z _ next _ n
 arrow_rests z v s choice l a k (finds_stamped c version next e n) = look_rests z _ next _ n
 arrow_rests z v s choice l a k (finds_other next e n) = look_rests z _ next _ n
-arrow_rests z v s choice l a k (list_ends next e n) = rest_rests _ _ n
-arrow_rests z v s choice l a k (key_above next e n) = rest_rests _ _ n
-arrow_rests z v s choice l a k (rest_passed next e n) = rest_rests _ _ n
-arrow_rests z v s choice l a k (gathers_rest next n) = rest_rests _ _ n
+arrow_rests z v s choice l a k (list_ends next e n) = left_over_rests _ _ n
+arrow_rests z v s choice l a k (key_above next e n) = left_over_rests _ _ n
+arrow_rests z v s choice l a k (left_over_gone_by next e n) = left_over_rests _ _ n
+arrow_rests z v s choice l a k (gathers_left_over next n) = left_over_rests _ _ n
 arrow_rests z v s choice l a k _ = tt
 
 -- every seat of a run rests where it is idle

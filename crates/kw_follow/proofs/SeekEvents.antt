@@ -1,4 +1,4 @@
--- The events of a search that passes over rows in use: what each asks for, and what follows.
+-- The events of a search that goes by over rows in use: what each asks for, and what follows.
 use Rattle.std.proofs.Common.{arith, ◌≡◌, ◌∙◌, ◌<◌, ℕ, Bool, true, false, nat_lt, if◌then◌else◌, Option, Some, None, refl, sym, ap, subst}
 use Rattle.std.proofs.lemmas.Bool.Decides.{nat_tests}
 use Rattle.kw_words.specs.declared.state.State.{State}
@@ -13,7 +13,7 @@ use Rattle.kw_world.specs.declared.local.Local.{Local}
 use Rattle.kw_world.specs.declared.rebalance.Afterwards.TheVariants.{Refuse}
 use Rattle.kw_world.specs.declared.part.Part.TheVariants as part
 use Rattle.kw_world.specs.Parts.{part_at, part_of}
-use Rattle.kw_world.specs.SeekTransitions.{give_back, seek_met, to_seek}
+use Rattle.kw_world.specs.SeekTransitions.{give_back, seek_seen, to_seek}
 use Rattle.kw_world.specs.Transition.{Outcome, to}
 use Rattle.kw_table.specs.declared.pass.Pass.{Pass}
 use Rattle.kw_table.specs.declared.shared.Shared.{Shared}
@@ -25,8 +25,8 @@ use Rattle.kw_follow.specs.Searches.{behind, is_in_use, seeking_at, with_search}
 use Rattle.kw_follow.proofs.BuildsOn.{builds_by}
 use Rattle.kw_follow.proofs.Fronts.{seat_within}
 
--- a row in use is passed over
-in_use_passed : (rows : ℕ) (x : Option State) (l : Local) → is_in_use x ≡ true → seek_met rows x l ≡ to_seek rows l
+-- a row in use is gone by
+in_use_passed : (rows : ℕ) (x : Option State) (l : Local) → is_in_use x ≡ true → seek_seen rows x l ≡ to_seek rows l
 in_use_passed rows (Some Free) l e = let x : false ≡ true = e in absurd (cc)
 in_use_passed rows (Some (Infant seat)) l e = refl
 in_use_passed rows (Some Normal) l e = refl
@@ -55,7 +55,7 @@ begins_search {s} {p} x l is at f =
     let here : Follows s p (record l { activity = Activity.Rebalance (Rebalance.Seek Seek.Next) }) = subst (λ (a : Activity). Follows s p (record l { activity = a })) at f in
     subst (λ (k : Local). Follows s p (record k { activity = Activity.Rebalance (Rebalance.Seek Seek.Next) })) (sym is) here
 
--- What is asked of a row that is not passed over.
+-- What is asked of a row that is not gone by.
 
 -- the events of a search are those of a rebalance
 pub seek_part : (l : Local) (x : Seek) → l.activity ≡ Activity.Rebalance (Rebalance.Seek x) → part_of Go l ≡ part.Rebalance

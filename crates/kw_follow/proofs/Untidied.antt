@@ -30,7 +30,7 @@ use Rattle.kw_world.specs.declared.event.Choice.{Choice}
 use Rattle.kw_world.specs.declared.event.Choice.TheVariants.{Begin, Go, Guess, Stop}
 use Rattle.kw_world.specs.Sizes.{Sizes}
 use Rattle.kw_world.specs.Transition.{Outcome, row_linked, row_or_first, to}
-use Rattle.kw_world.specs.PutTransitions.{stamp_met, has_room, given_of}
+use Rattle.kw_world.specs.PutTransitions.{stamp_seen, has_room, given_of}
 use Rattle.kw_world.specs.ListTransitions.{insert_from, insert_key, insert_past, insert_tried, is_newer}
 use Rattle.kw_world.specs.declared.marks.Mark.{Mark}
 use Rattle.kw_world.specs.Marks.{least_mark}
@@ -40,10 +40,10 @@ use Rattle.kw_words.specs.declared.link.Link.{Link}
 use Rattle.kw_words.specs.State.{state_word}
 use Rattle.kw_world.specs.declared.rebalance.Afterwards.{Afterwards}
 use Rattle.kw_world.specs.declared.rebalance.Afterwards.TheVariants.{TryAgain, Refuse, MoveLeft}
-use Rattle.kw_world.specs.EngageTransitions.{again, refuse, to_rebalance, is_alone, state_met, engaged, followed_by, link_marked, decided}
-use Rattle.kw_world.specs.FreezeTransitions.{to_scans, to_freeze_look, marking, freeze_met, entry_tried, to_scan_look, needing, scan_met, scan_helped}
-use Rattle.kw_world.specs.TakeTransitions.{to_take, left_of, take_met, keeping}
-use Rattle.kw_world.specs.SeekTransitions.{given_back, give_back, gave_back, at_infant, has_more, row_behind, to_seek, to_pass, seek_met, pass_met, seeking, seek_first_transition, with_row, take_row}
+use Rattle.kw_world.specs.EngageTransitions.{again, refuse, to_rebalance, is_alone, state_seen, engaged, followed_by, link_marked, decided}
+use Rattle.kw_world.specs.FreezeTransitions.{to_scans, to_freeze_look, marking, freeze_seen, entry_tried, to_scan_look, needing, scan_seen, scan_helped}
+use Rattle.kw_world.specs.TakeTransitions.{to_take, left_of, take_reached, keeping}
+use Rattle.kw_world.specs.SeekTransitions.{given_back, give_back, gave_back, at_infant, has_more, row_behind, to_seek, to_pass, seek_seen, pass_seen, seeking, seek_first_transition, with_row, take_row}
 use Rattle.kw_world.specs.WriteTransitions.{infant_cells, row_written, to_write_cell, to_write_entry}
 use Rattle.kw_world.specs.ReplaceTransitions.{at_before, first_before, guess_before, before_transition, row_before, link_before, row_replaced, replaced}
 use Rattle.kw_world.specs.Table.{transition}
@@ -67,7 +67,7 @@ either : {t : Bool} (b : Bool) (p q : Outcome) → p.local.tidies ≡ t → q.lo
 either true p q g h = g
 either false p q g h = h
 
-stamp_tidies : (e : Option Pend) (l : Local) → (stamp_met e l).local.tidies ≡ l.tidies
+stamp_tidies : (e : Option Pend) (l : Local) → (stamp_seen e l).local.tidies ≡ l.tidies
 stamp_tidies (Some pend.Idle) l = refl
 stamp_tidies (Some (pend.Pending cell)) l = either (cell == l.cell) (to (Activity.Put Put.Version) l) (to_rebalance l) refl refl
 stamp_tidies (Some (pend.Stamped cell version)) l = either (cell == l.cell) (to (Activity.Put Put.Version) (record l { version = version })) (to_rebalance l) refl refl
@@ -85,7 +85,7 @@ insert_tried_tidies : (z : Sizes) (b : Bool) (l : Local) → (insert_tried z b l
 insert_tried_tidies z true l = refl
 insert_tried_tidies z false l = refl
 
-state_tidies : (state : Option State) (l : Local) → (state_met state l).local.tidies ≡ l.tidies
+state_tidies : (state : Option State) (l : Local) → (state_seen state l).local.tidies ≡ l.tidies
 state_tidies (Some Free) l = refl
 state_tidies (Some (Infant seat)) l = refl
 state_tidies (Some Normal) l = refl
@@ -113,7 +113,7 @@ decided_tidies None l = refl
 freeze_looks : (z : Sizes) (i : ℕ) (l : Local) → (to_freeze_look z i l).local.tidies ≡ l.tidies
 freeze_looks z i l = either (nat_lt i z.seats) (to (Activity.Rebalance (Rebalance.Freeze (Freeze.Look i))) l) (to_scans l) refl refl
 
-freeze_tidies : (z : Sizes) (i : ℕ) (e : Option Pend) (l : Local) → (freeze_met z i e l).local.tidies ≡ l.tidies
+freeze_tidies : (z : Sizes) (i : ℕ) (e : Option Pend) (l : Local) → (freeze_seen z i e l).local.tidies ≡ l.tidies
 freeze_tidies z i (Some pend.Idle) l = refl
 freeze_tidies z i (Some (pend.Pending cell)) l = refl
 freeze_tidies z i (Some (pend.Stamped cell version)) l = freeze_looks z (i + 1) (marking cell version l)
@@ -127,11 +127,11 @@ entry_tidies z i false l = refl
 scan_looks_then : {n : Bool} (z : Sizes) (i : ℕ) (l : Local) → l.tidies ≡ n → (to_scan_look z i l).local.tidies ≡ n
 scan_looks_then z i l e = either (nat_lt i z.seats) (to (Activity.Rebalance (Rebalance.Freeze (Freeze.Scan i))) l) (to_take l) (e) (e)
 
-scan_met_tidies : (z : Sizes) (i : ℕ) (w : Option ScanWord) (l : Local) → (scan_met z i w l).local.tidies ≡ l.tidies
-scan_met_tidies z i (Some scan.Quiet) l = scan_looks_then z (i + 1) l refl
-scan_met_tidies z i (Some (scan.Waiting clock)) l = refl
-scan_met_tidies z i (Some (scan.Drawn version)) l = scan_looks_then z (i + 1) (needing version l) refl
-scan_met_tidies z i None l = scan_looks_then z (i + 1) l refl
+scan_seen_tidies : (z : Sizes) (i : ℕ) (w : Option ScanWord) (l : Local) → (scan_seen z i w l).local.tidies ≡ l.tidies
+scan_seen_tidies z i (Some scan.Quiet) l = scan_looks_then z (i + 1) l refl
+scan_seen_tidies z i (Some (scan.Waiting clock)) l = refl
+scan_seen_tidies z i (Some (scan.Drawn version)) l = scan_looks_then z (i + 1) (needing version l) refl
+scan_seen_tidies z i None l = scan_looks_then z (i + 1) l refl
 
 -- what is needed changes not whether it tidies
 needs : (b : Bool) (version : ℕ) (l : Local) → (if b then needing version l else l).tidies ≡ l.tidies
@@ -148,7 +148,7 @@ left_tidies : (z : Sizes) (m : Option Mark) (l : Local) → (left_of z m l).loca
 left_tidies z (Some m) l = refl
 left_tidies z None l = refl
 
-take_tidies : (z : Sizes) (cell : Option ℕ) (l : Local) → (take_met z cell l).local.tidies ≡ l.tidies
+take_tidies : (z : Sizes) (cell : Option ℕ) (l : Local) → (take_reached z cell l).local.tidies ≡ l.tidies
 take_tidies z (Some cell) l = refl
 take_tidies z None l = left_tidies z (least_mark l.rebalance.marks) l
 
@@ -169,7 +169,7 @@ seeks rows l = either (nat_lt l.rebalance.asked rows) (to (Activity.Rebalance (R
 passes_then : (z : Sizes) (i : ℕ) (l : Local) → (to_pass z i l).local.tidies ≡ l.tidies
 passes_then z i l = either (nat_lt i z.seats) (to (Activity.Rebalance (Rebalance.Seek (Seek.Pass i))) l) (to (Activity.Rebalance (Rebalance.Seek Seek.Reclaim)) l) refl refl
 
-seek_tidies : (rows : ℕ) (state : Option State) (l : Local) → (seek_met rows state l).local.tidies ≡ l.tidies
+seek_tidies : (rows : ℕ) (state : Option State) (l : Local) → (seek_seen rows state l).local.tidies ≡ l.tidies
 seek_tidies rows (Some Free) l = refl
 seek_tidies rows (Some (Infant seat)) l = seeks rows l
 seek_tidies rows (Some Normal) l = seeks rows l
@@ -184,7 +184,7 @@ seek_first_tidies Go l rows told = seek_tidies rows (state_of told) (seeking l.r
 seek_first_tidies (Guess r) l rows told = seek_tidies rows (state_of told) (seeking r l)
 seek_first_tidies Stop l rows told = seek_tidies rows (state_of told) (seeking l.rebalance.sought l)
 
-pass_tidies : (z : Sizes) (i rows : ℕ) (epoch : Option ℕ) (l : Local) → (pass_met z i rows epoch l).local.tidies ≡ l.tidies
+pass_tidies : (z : Sizes) (i rows : ℕ) (epoch : Option ℕ) (l : Local) → (pass_seen z i rows epoch l).local.tidies ≡ l.tidies
 pass_tidies z i rows (Some epoch) l = either (nat_le epoch l.rebalance.number) (to_seek rows l) (to_pass z (i + 1) l) (seeks rows l) (passes_then z (i + 1) l)
 pass_tidies z i rows None l = passes_then z (i + 1) l
 
@@ -270,7 +270,7 @@ keeps z (Activity.Rebalance (Rebalance.Engage (Engage.Decide count))) s choice l
 keeps z (Activity.Rebalance (Rebalance.Freeze Freeze.Count)) s choice l rows told u = refl
 keeps z (Activity.Rebalance (Rebalance.Freeze (Freeze.Look i))) s choice l rows told u = freeze_tidies z i (pend_of told) l
 keeps z (Activity.Rebalance (Rebalance.Freeze (Freeze.Entry i))) s choice l rows told u = entry_tidies z i (told == pend_word l.rebalance.entry) l
-keeps z (Activity.Rebalance (Rebalance.Freeze (Freeze.Scan i))) s choice l rows told u = scan_met_tidies z i (scan_of told) l
+keeps z (Activity.Rebalance (Rebalance.Freeze (Freeze.Scan i))) s choice l rows told u = scan_seen_tidies z i (scan_of told) l
 keeps z (Activity.Rebalance (Rebalance.Freeze (Freeze.Draw i))) s choice l rows told u = refl
 keeps z (Activity.Rebalance (Rebalance.Freeze (Freeze.Settle i))) s choice l rows told u = helped_tidies z i (scan_of told) l
 keeps z (Activity.Rebalance (Rebalance.Gather Gather.Link)) s choice l rows told u = take_tidies z (cell_of_link_word told) l

@@ -16,7 +16,7 @@ use Rattle.kw_world.specs.Sane.{IsActivity, marks_by}
 use Rattle.kw_world.specs.Sizes.{product}
 use Rattle.kw_world.specs.Step.{is_skipped, next_of, transition_of}
 use Rattle.kw_world.specs.Table.{transition}
-use Rattle.kw_world.specs.WalkTransitions.{guess_met, offered}
+use Rattle.kw_world.specs.WalkTransitions.{guess_seen, offered}
 use Rattle.kw_core.specs.Stages.{IsBusy}
 use Rattle.kw_core.specs.Events.{is_call_in_range, may_begin}
 use Rattle.kw_table.specs.declared.pass.Pass.{Pass}
@@ -65,7 +65,7 @@ asks_guess s p l r f is below =
     asks s p (Guess r) l s.opening.rows (view p).number (Guess r) _ f (begins_in s p l (Guess r) f b) (moves_in s p l (Guess r) f b) refl refl (sym (offered_guess _ r below)) (ap (λ x. (transition product x (view p).number (Guess r) l).operation) (sym is))
 
 -- and what follows is what the line says
-pub next_guess : (rows r : ℕ) (l : Local) (told : ℕ) → l.activity ≡ Activity.Walk Walk.Start → r < rows → guess_met r (state_of told) l ≡ next_of product rows (offered rows (Guess r)) l told
+pub next_guess : (rows r : ℕ) (l : Local) (told : ℕ) → l.activity ≡ Activity.Walk Walk.Start → r < rows → guess_seen r (state_of told) l ≡ next_of product rows (offered rows (Guess r)) l told
 unfolding transition_of
 next_guess rows r l told is below = ap (λ x. (transition product x 0 (Guess r) l).next rows told) (sym is) ∙ ap (λ o. next_of product rows o l told) (sym (offered_guess rows r below))
 

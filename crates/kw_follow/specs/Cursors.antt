@@ -18,7 +18,7 @@ use Rattle.kw_table.specs.Views.{local_in}
 use Rattle.kw_follow.specs.declared.cursor.Cursor.{Cursor}
 use Rattle.kw_follow.specs.Calling.{KeepsCalls}
 use Rattle.kw_follow.specs.Following.{Follows, GoesTo}
-use Rattle.kw_follow.specs.OwnEvents.{MetAs}
+use Rattle.kw_follow.specs.OwnEvents.{SawAs}
 
 -- the local of a reader or a put at this activity whose cursor is here
 abbrev pub with_cursor : Activity → Cursor → Local → Local
@@ -58,10 +58,10 @@ pub record ReadsWord (s : Shared) (p : Pass) (l : Local) (told : ℕ) (q : Pass)
   pub makes : Makes s p Go told q
   pub goes : GoesTo s p q
   pub seat : local_in (view q) ≡ (next_of product (view p).opening.rows Go (local_in (view p)) told).local
-  pub met : MetAs p q l Go told
+  pub saw : SawAs p q l Go told
   pub calls : KeepsCalls p q
 
--- the same at a cell that a reader remembers and did not meet in the list, and the local follows
+-- the same at a cell that a reader remembers and did not reach in the list, and the local follows
 -- the pass still
 pub record ReadsLeftOver (s : Shared) (p : Pass) (l : Local) (q : Pass) (m : Local) : Type 0 where
   pub told : ℕ

@@ -15,7 +15,7 @@ use Rattle.kw_table.specs.declared.shared.Shared.{Shared}
 use Rattle.kw_table.specs.Passes.{view, Makes}
 use Rattle.kw_follow.specs.Calling.{KeepsCalls, Opens}
 use Rattle.kw_follow.specs.Following.{Follows, GoesTo, held}
-use Rattle.kw_follow.specs.OwnEvents.{MetAs, MetOnly}
+use Rattle.kw_follow.specs.OwnEvents.{SawAs, SawOnly}
 
 -- the local follows the pass, and does this next
 pub record FollowsAt (s : Shared) (p : Pass) (l : Local) (a : Activity) : Type 0 where
@@ -37,8 +37,8 @@ pub record WentOn (s : Shared) (p : Pass) (l : Local) (c : Choice) (q : Pass) (m
   pub goes : GoesTo s p q
   pub follows : Follows s q m
   pub line : outcome m Moved ≡ next_of product (view p).opening.rows (offered (view p).opening.rows c) l told
-  pub met : MetAs p q l c told
-  pub only : MetOnly p q l.activity told
+  pub saw : SawAs p q l c told
+  pub only : SawOnly p q l.activity told
   pub calls : KeepsCalls p q
   -- the pairs stay, unless a scan is stopped
   pub held : is_stop c ≡ false → held q ≡ held p

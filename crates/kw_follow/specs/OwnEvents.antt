@@ -27,7 +27,7 @@ transition_after o es n c = transition_of product n (offered o.rows c) (local_of
 
 -- among the events from the first list to the second is one of this seat, made at this activity
 -- with this choice, which was told this
-pub record MetIn (o : Opening) (n : ℕ) (old new : List Event) (a : Activity) (c : Choice) (told : ℕ) : Type 0 where
+pub record SawIn (o : Opening) (n : ℕ) (old new : List Event) (a : Activity) (c : Choice) (told : ℕ) : Type 0 where
   -- the events before it
   pub front : List Event
   pub later : IsPrefix old front
@@ -36,16 +36,16 @@ pub record MetIn (o : Opening) (n : ℕ) (old new : List Event) (a : Activity) (
   pub tells : told ≡ told_by (transition_after o front n c).operation.action (word product (world product o front) (transition_after o front n c).operation.name)
 
 -- among the events that the pass has seen since is such an event of its own
-abbrev pub Met : Pass → Pass → Activity → Choice → ℕ → Type 0
-Met p q a c told = MetIn (view p).opening (view p).number (view p).seen (view q).seen a c told
+abbrev pub Saw : Pass → Pass → Activity → Choice → ℕ → Type 0
+Saw p q a c told = SawIn (view p).opening (view p).number (view p).seen (view q).seen a c told
 
 -- there is such an event, made where the seat knew this, and it is the first one of the pass's own
 -- since
-pub record MetAs (p q : Pass) (l : Local) (c : Choice) (told : ℕ) : Type 0 where
-  pub met : Met p q l.activity c told
-  pub knew : known (local_of (world product (view p).opening met.front) (view p).number) ≡ known l
-  pub first : of_seat (view p).number met.front ≡ of_seat (view p).number (view p).seen
+pub record SawAs (p q : Pass) (l : Local) (c : Choice) (told : ℕ) : Type 0 where
+  pub saw : Saw p q l.activity c told
+  pub knew : known (local_of (world product (view p).opening saw.front) (view p).number) ≡ known l
+  pub first : of_seat (view p).number saw.front ≡ of_seat (view p).number (view p).seen
 
 -- the pass made just one event since, at this activity, and it was told this
-abbrev pub MetOnly : Pass → Pass → Activity → ℕ → Type 0
-MetOnly p q a told = (b : Activity) (c : Choice) (n : ℕ) → Met p q b c n → (b ≡ a) × (n ≡ told)
+abbrev pub SawOnly : Pass → Pass → Activity → ℕ → Type 0
+SawOnly p q a told = (b : Activity) (c : Choice) (n : ℕ) → Saw p q b c n → (b ≡ a) × (n ≡ told)

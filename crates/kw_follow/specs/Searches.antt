@@ -21,7 +21,7 @@ seeking_at x l = record (with_search x l) { activity = Activity.Rebalance (Rebal
 abbrev pub behind : ℕ → Search → Search
 behind rows x = record { sought = row_behind rows x.sought; asked = x.asked + 1 }
 
--- a row with this state is passed over
+-- a row with this state is gone by
 abbrev pub is_in_use : Option State → Bool
 is_in_use (Some Free) = false
 is_in_use (Some (Retired number)) = false

@@ -28,7 +28,7 @@ walking a l = record l { activity = a }
 abbrev pub looking : ℕ → Local → Local
 looking i l = record l { activity = Activity.Look (Look.Entry i) }
 
--- a reader is at a cell that it remembers of the entries and did not meet in the list of its row
+-- a reader is at a cell that it remembers of the entries and did not reach in the list of its row
 abbrev pub IsAtRemembered : Activity → Type 0
 IsAtRemembered (Activity.Read Read.LeftOverKey) = Unit {0}
 IsAtRemembered (Activity.Read Read.LeftOverValue) = Unit {0}

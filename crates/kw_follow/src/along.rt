@@ -2,7 +2,7 @@
 //! as it ends; each by its own step of the table.
 //!
 //! A call loads the epoch and announces it, loads the link from the head, or the state and the
-//! least key of a guessed row, and the link after each row that it passes, and announces no epoch
+//! least key of a guessed row, and the link after each row that it goes by, and announces no epoch
 //! any more at its end; a reader looks at each entry of its row. What the local does next says
 //! which step it is, as in `putting`; every other event is put together in `going`.
 ghost use Rattle.std.specs.Prelude.{◌≡◌, ◌<◌, true, false, length};
@@ -12,10 +12,10 @@ ghost use Rattle.kw_words.specs.Plain.{key_of_word};
 ghost use Rattle.kw_words.specs.declared.sizes.TheConstants.{SEATS};
 ghost use Rattle.kw_core.specs.Events.{is_call_in_range};
 ghost use Rattle.kw_world.specs.Local.{resting};
-ghost use Rattle.kw_world.specs.ReadTransitions.{look_met};
+ghost use Rattle.kw_world.specs.ReadTransitions.{look_seen};
 ghost use Rattle.kw_world.specs.Sizes.{product};
 ghost use Rattle.kw_world.specs.Transition.{outcome, row_linked};
-ghost use Rattle.kw_world.specs.WalkTransitions.{link_met, walk_min};
+ghost use Rattle.kw_world.specs.WalkTransitions.{link_reached, walk_least};
 ghost use Rattle.kw_table.specs.Passes.{IsPassOf, Makes};
 ghost use Rattle.kw_follow.specs.Following.{Follows, activity_in};
 ghost use Rattle.kw_follow.specs.Moving.{FollowsAt, Moves, WentOn};
@@ -26,9 +26,9 @@ use kw_model::call::Call;
 use kw_step_put::resume::end_call;
 use kw_step_put::resume_entries::look;
 use kw_step_put::resume_scan::{begin, enter};
-use kw_step_rows::resume::{first, guess, guess_min, link, walk_min};
+use kw_step_rows::resume::{first, guess, guessed_least, link, walk_least};
 use kw_table::{
-    Pass, Shared, clear_pass, load_epoch, load_head, load_link, load_min, load_pend, load_state,
+    Pass, Shared, clear_pass, load_epoch, load_head, load_least, load_link, load_pend, load_state,
     store_pass,
 };
 use kw_words::layout::Name;
@@ -116,13 +116,13 @@ fn load_guessed_least(shared: &Shared, pass: &mut Pass, local: &mut Local) -> St
     requires { FollowsAt shared.now pass.old local.old (Activity.Walk Walk.GuessedLeast) }
     ensures { Moves shared.now pass.old local.old Choice.Go pass.new local.new result }
 {
-    let word = Name::Min(local.row);
-    let told = load_min(shared, pass, Choice::Go, word);
-    guess_min(local, told)
+    let word = Name::Least(local.row);
+    let told = load_least(shared, pass, Choice::Go, word);
+    guessed_least(local, told)
 }
 
 /// Loads the link after this row, for a call that walks along the rows and stands at it. The answer
-/// is what the event was told, and `meet_row_link` says what follows. Takes no memory.
+/// is what the event was told, and `see_row_link` says what follows. Takes no memory.
 #[inline(always)]
 pub fn load_row_link(shared: &Shared, pass: &mut Pass, row: u32) -> u64
     requires { (l : Local) × Follows shared.now pass.old (walking (Activity.Walk Walk.Next) l) × (l.row ≡ row) }
@@ -133,29 +133,29 @@ pub fn load_row_link(shared: &Shared, pass: &mut Pass, row: u32) -> u64
 
 /// The call was told the link after its row. Takes no memory.
 #[inline(always)]
-pub fn meet_row_link(local: &mut Local, found: u64) -> StepDone
-    ensures { outcome local.new result ≡ link_met (row_linked (link_of found)) local.old }
+pub fn see_row_link(local: &mut Local, found: u64) -> StepDone
+    ensures { outcome local.new result ≡ link_reached (row_linked (link_of found)) local.old }
 {
     link(local, found)
 }
 
 /// Loads the least key of the row to which that link led. The answer is what the event was told,
-/// and `meet_row_least` says what follows. Takes no memory.
+/// and `see_row_least` says what follows. Takes no memory.
 #[inline(always)]
 pub fn load_row_least(shared: &Shared, pass: &mut Pass, row: u32) -> u64
     requires { (l : Local) × Follows shared.now pass.old (walking (Activity.Walk Walk.NextLeast) l)
         × (l.candidate ≡ row) }
     ensures { Makes shared.now pass.old Choice.Go result pass.new }
 {
-    load_min(shared, pass, Choice::Go, Name::Min(row))
+    load_least(shared, pass, Choice::Go, Name::Least(row))
 }
 
 /// The call was told the least key of that row. Takes no memory.
 #[inline(always)]
-pub fn meet_row_least(local: &mut Local, found: u64) -> StepDone
-    ensures { outcome local.new result ≡ walk_min (key_of_word found) local.old }
+pub fn see_row_least(local: &mut Local, found: u64) -> StepDone
+    ensures { outcome local.new result ≡ walk_least (key_of_word found) local.old }
 {
-    walk_min(local, found)
+    walk_least(local, found)
 }
 
 // Goes on by the link after the row.
@@ -165,7 +165,7 @@ fn load_next_row(shared: &Shared, pass: &mut Pass, local: &mut Local) -> StepDon
     ensures { Moves shared.now pass.old local.old Choice.Go pass.new local.new result }
 {
     let told = load_row_link(shared, pass, local.row);
-    meet_row_link(local, told)
+    see_row_link(local, told)
 }
 
 // Goes on by the least key of the row after it.
@@ -175,11 +175,11 @@ fn load_least_key(shared: &Shared, pass: &mut Pass, local: &mut Local) -> StepDo
     ensures { Moves shared.now pass.old local.old Choice.Go pass.new local.new result }
 {
     let told = load_row_least(shared, pass, local.candidate);
-    meet_row_least(local, told)
+    see_row_least(local, told)
 }
 
 /// Loads the entry of this seat in the reader's row, for a reader that looks at it next. The answer
-/// is what the event was told, and `meet_entry` says what follows. So code that looks at many
+/// is what the event was told, and `see_entry` says what follows. So code that looks at many
 /// entries at which nothing is announced leaves its local as it is meanwhile. Takes no memory.
 #[inline(always)]
 pub fn load_entry(shared: &Shared, pass: &mut Pass, row: u32, entry: u32) -> u64
@@ -191,10 +191,10 @@ pub fn load_entry(shared: &Shared, pass: &mut Pass, row: u32, entry: u32) -> u64
 
 /// The reader was told the entry of this seat. Takes no memory.
 #[inline(always)]
-pub fn meet_entry(local: &mut Local, entry: u32, found: u64) -> StepDone
+pub fn see_entry(local: &mut Local, entry: u32, found: u64) -> StepDone
     requires entry { entry < SEATS }
     requires room { length local.old.remembered < SEATS }
-    ensures { outcome local.new result ≡ look_met product entry (pend_of found) local.old }
+    ensures { outcome local.new result ≡ look_seen product entry (pend_of found) local.old }
 {
     look(local, entry, found)
 }
@@ -206,7 +206,7 @@ fn look_at_entry(shared: &Shared, pass: &mut Pass, local: &mut Local, entry: u32
     ensures { Moves shared.now pass.old local.old Choice.Go pass.new local.new result }
 {
     let told = load_entry(shared, pass, local.row, entry);
-    meet_entry(local, entry, told)
+    see_entry(local, entry, told)
 }
 
 // The next event, by what the local does next.
@@ -255,7 +255,7 @@ pub fn go_guess(shared: &Shared, pass: &mut Pass, local: &mut Local, row: u32)
 /// Loads the least key of a guessed row that is in use, as `go_along` does where the call tries a
 /// guessed row. Takes no memory.
 #[inline(always)]
-pub fn go_guess_min(shared: &Shared, pass: &mut Pass, local: &mut Local)
+pub fn go_guessed_least(shared: &Shared, pass: &mut Pass, local: &mut Local)
     requires { FollowsAt shared.now pass.old local.old (Activity.Walk Walk.GuessedLeast) }
     ensures { WentOn shared.now pass.old local.old Choice.Go pass.new local.new }
 {

@@ -1,10 +1,10 @@
 //! The events of a rebalance.
 //!
-//! Those that freeze the full row and gather the cells that were not met in its list (`gathering`)
-//! have a step of their own each, and so have those that take a free row (`seeking`). What is left,
-//! as the exchange of the link, is put together in `going`; the cells in the list are gathered as
-//! `row_gathering` says, rows are asked for their state as `seeking` does, and new ones written as
-//! `row_writing` does.
+//! Those that freeze the full row and gather the cells that were not reached in its list
+//! (`gathering`) have a step of their own each, and so have those that take a free row (`seeking`).
+//! What is left, as the exchange of the link, is put together in `going`; the cells in the list are
+//! gathered as `row_gathering` says, rows are asked for their state as `seeking` does, and new ones
+//! written as `row_writing` does.
 ghost use Rattle.kw_follow.specs.Following.{Follows};
 ghost use Rattle.kw_follow.specs.Moving.{Moves, WentOn};
 ghost use Rattle.kw_follow.specs.Within.{IsWithinCall};
@@ -55,8 +55,8 @@ fn build_event(shared: &Shared, pass: &mut Pass, local: &mut Local) -> StepDone
 }
 
 /// Makes the next event in the middle of a call, as `go` does with the choice `Go`. Those of a
-/// rebalance that freeze the full row, gather the cells that were not met in its list and take free
-/// rows are made by steps of their own. Takes no memory.
+/// rebalance that freeze the full row, gather the cells that were not reached in its list and take
+/// free rows are made by steps of their own. Takes no memory.
 #[inline(always)]
 pub fn go_build(shared: &Shared, pass: &mut Pass, local: &mut Local)
     requires follows { Follows shared.now pass.old local.old }

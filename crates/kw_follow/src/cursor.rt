@@ -1,15 +1,15 @@
 //! A cursor along the list of a row, and the events by which a reader, or a put that inserts its
 //! cell, goes on.
 //!
-//! A reader makes two events for each cell that it passes and four for each that it gathers. All
+//! A reader makes two events for each cell that it goes by and four for each that it gathers. All
 //! that changes between them is how far it has come and which cell it has at hand. So code that
 //! goes along a list keeps these in a `Cursor`, which lies in registers, and leaves all else of the
 //! reader's local where it was: `with_cursor` says which local the two stand for. Once it has come
 //! to the end of the list or to a key above its range, it writes the cursor back, and goes on by
-//! `go_to_rest`.
+//! `go_to_left_over`.
 //!
 //! A put goes along the list in the same way, to where its own cell stands, by two events for each
-//! cell that it passes. It goes on from there by `meet_insert_link` or `meet_insert_key`.
+//! cell that it goes by. It goes on from there by `see_insert_link` or `see_insert_key`.
 ghost use Rattle.std.specs.Prelude.{◌≡◌, ◌<◌, unwrap_or};
 ghost use Rattle.kw_words.specs.Plain.{value_of_word, version_of_word};
 ghost use Rattle.kw_words.specs.declared.sizes.TheConstants.{CELLS};
@@ -35,9 +35,9 @@ pub struct Cursor {
     pub row: u32,
     /// The cell after whose link the walk goes on; none at the row's first link.
     pub link: Option<u32>,
-    /// The cell at hand, which is the one that was met last.
+    /// The cell at hand, which is the one that was reached last.
     pub place: u32,
-    /// How many cells were met, and never more than there are cells.
+    /// How many cells were reached, and never more than there are cells.
     pub walked: u32,
     /// The key of the cell at hand, where a reader has it in the range of its call.
     pub key: u32,
@@ -46,7 +46,7 @@ pub struct Cursor {
 }
 
 impl Cursor {
-    /// The cursor of a reader that stands at the first link of this row's list, and has met no
+    /// The cursor of a reader that stands at the first link of this row's list, and has reached no
     /// cell.
     #[inline(always)]
     pub fn first(row: u32) -> Cursor
@@ -91,7 +91,7 @@ impl Cursor {
         local.place_version = self.version;
     }
 
-    /// The link led to this cell. The walk has met fewer cells than there are.
+    /// The link led to this cell. The walk has reached fewer cells than there are.
     #[inline(always)]
     pub fn reach(self, cell: u32) -> Cursor
         requires { self.walked < CELLS }
@@ -103,10 +103,10 @@ impl Cursor {
         next
     }
 
-    /// The link led a put to this cell, and the put holds what the link held. The walk has met
+    /// The link led a put to this cell, and the put holds what the link held. The walk has reached
     /// fewer cells than there are.
     #[inline(always)]
-    pub fn meet(self, local: &mut Local, cell: u32) -> Cursor
+    pub fn reach_holding(self, local: &mut Local, cell: u32) -> Cursor
         requires { self.walked < CELLS }
         ensures cursor { result ≡ reached cell self }
         ensures local { local.new ≡ holding cell local.old }
@@ -174,7 +174,7 @@ impl Cursor {
     /// Loads the link at which the reader stands. The answer is what the event was told. Takes no
     /// memory.
     #[inline(always)]
-    pub fn load_link(self, shared: &Shared, pass: &mut Pass) -> u64
+    pub fn load_cell_link(self, shared: &Shared, pass: &mut Pass) -> u64
         requires { (l : Local) × Follows shared.now pass.old (with_cursor (Activity.Read Read.Link) self l) }
         ensures { (l : Local) → Follows shared.now pass.old (with_cursor (Activity.Read Read.Link) self l) →
             ReadsWord shared.now pass.old (with_cursor (Activity.Read Read.Link) self l) result pass.new }

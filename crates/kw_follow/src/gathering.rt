@@ -1,14 +1,14 @@
-//! The events that freeze a full row and gather the cells that were not met in its list, each by
-//! its own step of the table.
+//! The events that freeze a full row and gather the cells that were not reached in its list, each
+//! by its own step of the table.
 //!
 //! A rebalance looks at each entry of the full row, and freezes it where no version is stamped
 //! there; it looks at each scan; and then it goes along the row's list, as `row_gathering` says.
-//! What it remembers of the entries and did not meet there it reads after it. What the local does
+//! What it remembers of the entries and did not reach there it reads after it. What the local does
 //! next says which step it is, as in `putting`; `building` asks for it.
 ghost use Rattle.kw_follow.specs.Moving.{FollowsAt, Moves};
 
 use kw_step_rebal::resume_freeze::{entry_tried, look, scan};
-use kw_step_rebal::resume_take::{rest_value, take_rest_key};
+use kw_step_rebal::resume_take::{left_over_value, take_left_over_key};
 use kw_table::{Pass, Shared, freeze_pend, load_key, load_pend, load_scan, load_value};
 use kw_words::layout::Name;
 use kw_words::pend::Pend;
@@ -71,7 +71,7 @@ pub(crate) fn look_at_scan(
     scan(local, seat, told)
 }
 
-// Loads the key of a remembered cell that was not met.
+// Loads the key of a remembered cell that was not reached.
 #[inline(always)]
 pub(crate) fn load_left_key(shared: &Shared, pass: &mut Pass, local: &mut Local) -> StepDone
     requires { FollowsAt shared.now pass.old local.old
@@ -80,7 +80,7 @@ pub(crate) fn load_left_key(shared: &Shared, pass: &mut Pass, local: &mut Local)
 {
     let key = Name::Key(local.row, local.place);
     let told = load_key(shared, pass, Choice::Go, key);
-    take_rest_key(local, told)
+    take_left_over_key(local, told)
 }
 
 // Loads the value of that cell, which is gathered.
@@ -92,5 +92,5 @@ pub(crate) fn load_left_value(shared: &Shared, pass: &mut Pass, local: &mut Loca
 {
     let value = Name::Value(local.row, local.place);
     let told = load_value(shared, pass, Choice::Go, value);
-    rest_value(local, told)
+    left_over_value(local, told)
 }

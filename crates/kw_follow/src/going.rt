@@ -18,7 +18,7 @@ ghost use Rattle.kw_table.specs.Passes.{view, Asks, IsPassOf, Makes};
 ghost use Rattle.kw_follow.specs.Calling.{Closes};
 ghost use Rattle.kw_follow.specs.Following.{Follows, GoesTo, activity_in, held};
 ghost use Rattle.kw_follow.specs.Moving.{Begins, Moves, WentOn};
-ghost use Rattle.kw_follow.specs.OwnEvents.{MetOnly};
+ghost use Rattle.kw_follow.specs.OwnEvents.{SawOnly};
 ghost use Rattle.kw_follow.specs.Within.{IsWithinCall};
 
 use crate::along::{clear_epoch, load_own_epoch};
@@ -78,7 +78,7 @@ pub fn begin(shared: &Shared, pass: &mut Pass, local: &mut Local, call: Call)
     requires range { is_call_in_range call ≡ true }
     ensures begins { Begins shared.now pass.old pass.new call local.new }
     ensures activity { local.new.activity ≡ Activity.Enter Enter.Announce }
-    ensures only { (told : ℕ) × MetOnly pass.old pass.new (activity_in pass.old) told }
+    ensures only { (told : ℕ) × SawOnly pass.old pass.new (activity_in pass.old) told }
 {
     load_own_epoch(shared, pass, local, call);
 }
@@ -120,7 +120,7 @@ pub fn end(shared: &Shared, pass: &mut Pass, local: &mut Local) -> Reply
     ensures rests { local.new ≡ resting 0 }
     ensures closes { (answer : Answer) → activity_in pass.old ≡ Activity.Leave answer →
         Closes pass.old pass.new (reply_of answer (held pass.old)) × (result ≡ reply_of answer []) }
-    ensures only { (told : ℕ) × MetOnly pass.old pass.new (activity_in pass.old) told }
+    ensures only { (told : ℕ) × SawOnly pass.old pass.new (activity_in pass.old) told }
 {
     let Activity::Leave(answer) = local.activity else {
         unreachable!()

@@ -6,11 +6,11 @@
 //! middle of it, `clear` the one at the end of a scan, and `end` the last one. `go_along` makes
 //! those on the way to a row and at its entries, `go_guess` the first one of a way that begins at a
 //! guessed row, `go_draw` those by which a scan gets its version, `go_put` those of a put at its
-//! row, `Cursor` those of a reader along the list of its row and of a put that passes cells there,
-//! `go_remembered` those at the cells that a reader remembers and did not meet there, and
+//! row, `Cursor` those of a reader along the list of its row and of a put that goes by cells there,
+//! `go_remembered` those at the cells that a reader remembers and did not reach there, and
 //! `go_build` those of a rebalance that freeze the full row and take free ones: each by its own
 //! step of the table. A rebalance gathers the full row by `meet_next` and `gather_cell`, asks rows
-//! by a `Search`, and writes a new row by `write_row`, many events at once. A get that meets
+//! by a `Search`, and writes a new row by `write_row`, many events at once. A get that sees
 //! nothing on its way leaves its local at rest and goes by a `Way`, which `end_resting` ends.
 //!
 //! `specs/Following.antt` says what it is to follow a pass and what it is that a pass went on,
@@ -33,15 +33,15 @@ mod seeking;
 mod way;
 
 pub use along::{
-    go_along, go_guess, go_guess_min, load_entry, load_row_least, load_row_link, meet_entry,
-    meet_row_least, meet_row_link,
+    go_along, go_guess, go_guessed_least, load_entry, load_row_least, load_row_link, see_entry,
+    see_row_least, see_row_link,
 };
 pub use building::go_build;
 pub use cursor::Cursor;
 pub use drawing::go_draw;
 pub use going::{begin, clear, end, go};
-pub use putting::{go_put, meet_insert_key, meet_insert_link};
-pub use reading::{go_remembered, go_to_rest};
+pub use putting::{go_put, see_insert_key, see_insert_link};
+pub use reading::{go_remembered, go_to_left_over};
 pub use row_gathering::{gather_cell, meet_next};
 pub use row_writing::write_row;
 pub use seeking::{Search, is_in_use};

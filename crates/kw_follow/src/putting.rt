@@ -2,9 +2,9 @@
 //!
 //! What the local does next says which step it is, and the core says what follows from the word
 //! that was found: nothing else is asked. A put makes nine events for its cell, and then goes along
-//! the row's list, with two or three events for each cell that it passes. Code that passes many
+//! the row's list, with two or three events for each cell that it goes by. Code that goes by many
 //! cells of lesser keys leaves the put's local as it is meanwhile and makes these events by a
-//! `Cursor`, as `cursor` says; `meet_insert_link` and `meet_insert_key` say what follows from the
+//! `Cursor`, as `cursor` says; `see_insert_link` and `see_insert_key` say what follows from the
 //! last of them.
 ghost use Rattle.std.specs.Prelude.{◌≡◌, ◌≤◌, true};
 ghost use Rattle.kw_words.specs.Plain.{cell_of_link_word, key_of_word};
@@ -145,16 +145,16 @@ fn clear_entry(shared: &Shared, pass: &mut Pass, local: &mut Local) -> StepDone
 
 /// The put was told the link at which it stands. Takes no memory.
 #[inline(always)]
-pub fn meet_insert_link(local: &mut Local, found: u64) -> StepDone
+pub fn see_insert_link(local: &mut Local, found: u64) -> StepDone
     requires { local.old.walked ≤ CELLS }
     ensures { outcome local.new result ≡ insert_from product (cell_of_link_word found) local.old }
 {
     insert_from(local, found)
 }
 
-/// It was told the key of the cell that it met. Takes no memory.
+/// It was told the key of the cell that it reached. Takes no memory.
 #[inline(always)]
-pub fn meet_insert_key(local: &mut Local, found: u64) -> StepDone
+pub fn see_insert_key(local: &mut Local, found: u64) -> StepDone
     ensures { outcome local.new result ≡ insert_key (key_of_word found) local.old }
 {
     insert_key(local, found)
@@ -162,7 +162,7 @@ pub fn meet_insert_key(local: &mut Local, found: u64) -> StepDone
 
 // Loads the link at which the put stands.
 #[inline(always)]
-fn load_link(shared: &Shared, pass: &mut Pass, local: &mut Local) -> StepDone
+fn load_cell_link(shared: &Shared, pass: &mut Pass, local: &mut Local) -> StepDone
     requires { FollowsAt shared.now pass.old local.old (Activity.Insert Insert.Link) }
     ensures { Moves shared.now pass.old local.old Choice.Go pass.new local.new result }
 {
@@ -171,9 +171,9 @@ fn load_link(shared: &Shared, pass: &mut Pass, local: &mut Local) -> StepDone
     insert_from(local, told)
 }
 
-// Loads the key of the cell that the put has met.
+// Loads the key of the cell that the put has reached.
 #[inline(always)]
-fn load_met_key(shared: &Shared, pass: &mut Pass, local: &mut Local) -> StepDone
+fn load_reached_key(shared: &Shared, pass: &mut Pass, local: &mut Local) -> StepDone
     requires { FollowsAt shared.now pass.old local.old (Activity.Insert Insert.Key) }
     ensures { Moves shared.now pass.old local.old Choice.Go pass.new local.new result }
 {
@@ -184,7 +184,7 @@ fn load_met_key(shared: &Shared, pass: &mut Pass, local: &mut Local) -> StepDone
 
 // Loads the version of that cell.
 #[inline(always)]
-fn load_met_version(shared: &Shared, pass: &mut Pass, local: &mut Local) -> StepDone
+fn load_reached_version(shared: &Shared, pass: &mut Pass, local: &mut Local) -> StepDone
     requires { FollowsAt shared.now pass.old local.old (Activity.Insert Insert.Version) }
     ensures { Moves shared.now pass.old local.old Choice.Go pass.new local.new result }
 {
@@ -234,9 +234,9 @@ fn put_event(shared: &Shared, pass: &mut Pass, local: &mut Local) -> StepDone
         Activity::Put(Put::Clock) => load_own_clock(shared, pass, local),
         Activity::Put(Put::Stamp) => stamp_cell(shared, pass, local),
         Activity::Put(Put::Version) => write_version(shared, pass, local),
-        Activity::Insert(Insert::Link) => load_link(shared, pass, local),
-        Activity::Insert(Insert::Key) => load_met_key(shared, pass, local),
-        Activity::Insert(Insert::Version) => load_met_version(shared, pass, local),
+        Activity::Insert(Insert::Link) => load_cell_link(shared, pass, local),
+        Activity::Insert(Insert::Key) => load_reached_key(shared, pass, local),
+        Activity::Insert(Insert::Version) => load_reached_version(shared, pass, local),
         Activity::Insert(Insert::Set) => store_link(shared, pass, local),
         Activity::Insert(Insert::Exchange) => exchange_link(shared, pass, local),
         Activity::Put(Put::Clear) => clear_entry(shared, pass, local),

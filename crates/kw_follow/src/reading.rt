@@ -2,13 +2,13 @@
 //! what follows from the words that it is told.
 //!
 //! A reader goes along the list of its row by a `Cursor`, as `cursor` says; what it remembers of
-//! the entries and did not meet there it reads after it, by one event for the key of a cell and one
-//! more for the value where the key is in the range of its call. The end of a row has no event of
-//! its own: it follows the one that ends the walk, or reads the last remembered cell. There the
+//! the entries and did not reach there it reads after it, by one event for the key of a cell and
+//! one more for the value where the key is in the range of its call. The end of a row has no event
+//! of its own: it follows the one that ends the walk, or reads the last remembered cell. There the
 //! core keeps the pairs of a scan, which takes memory; code that follows a pass does not, so that
 //! it passes the end by itself here. All else of an event is the core's.
 ghost use Rattle.kw_words.specs.Plain.{key_of_word, value_of_word};
-ghost use Rattle.kw_world.specs.ReadTransitions.{get_answered, rest_key, row_read, row_scanned, to_rest, gathering};
+ghost use Rattle.kw_world.specs.ReadTransitions.{get_answered, left_over_key, row_read, row_scanned, to_left_over, gathering};
 ghost use Rattle.kw_world.specs.Sizes.{product};
 ghost use Rattle.kw_follow.specs.Cursors.{ReadsLeftOver};
 ghost use Rattle.kw_follow.specs.Following.{CarriesOn, Follows};
@@ -30,9 +30,9 @@ use kw_world::event::Choice;
 use kw_world::limits::NEWEST;
 use kw_world::local::Local;
 
-// Loads the key of a remembered cell that was not met.
+// Loads the key of a remembered cell that was not reached.
 #[inline(always)]
-fn load_rest_key(shared: &Shared, pass: &mut Pass, local: &mut Local)
+fn load_left_over_key(shared: &Shared, pass: &mut Pass, local: &mut Local)
     requires { FollowsAt shared.now pass.old local.old (Activity.Read Read.LeftOverKey) }
     ensures { ReadsLeftOver shared.now pass.old local.old pass.new local.new }
 {
@@ -43,7 +43,7 @@ fn load_rest_key(shared: &Shared, pass: &mut Pass, local: &mut Local)
 
 // Loads the value of that cell, which is gathered.
 #[inline(always)]
-fn load_rest_value(shared: &Shared, pass: &mut Pass, local: &mut Local)
+fn load_left_over_value(shared: &Shared, pass: &mut Pass, local: &mut Local)
     requires { FollowsAt shared.now pass.old local.old (Activity.Read Read.LeftOverValue) }
     ensures { ReadsLeftOver shared.now pass.old local.old pass.new local.new }
 {
@@ -52,7 +52,7 @@ fn load_rest_value(shared: &Shared, pass: &mut Pass, local: &mut Local)
     left_value(local, told);
 }
 
-/// Makes the next event of a reader that is at a cell which it remembers and did not meet in its
+/// Makes the next event of a reader that is at a cell which it remembers and did not reach in its
 /// row's list, and passes the end of the row, which has no event of its own.
 ///
 /// Takes no memory: the pairs of a scan are for the caller to take from `gathered`, and `reads`
@@ -64,8 +64,8 @@ pub fn go_remembered(shared: &Shared, pass: &mut Pass, local: &mut Local)
     ensures { ReadsLeftOver shared.now pass.old local.old pass.new local.new }
 {
     match local.activity {
-        Activity::Read(Read::LeftOverKey) => load_rest_key(shared, pass, local),
-        Activity::Read(Read::LeftOverValue) => load_rest_value(shared, pass, local),
+        Activity::Read(Read::LeftOverKey) => load_left_over_key(shared, pass, local),
+        Activity::Read(Read::LeftOverValue) => load_left_over_value(shared, pass, local),
         _ => unreachable!(),
     }
 }
@@ -74,29 +74,29 @@ pub fn go_remembered(shared: &Shared, pass: &mut Pass, local: &mut Local)
 
 // It was told the key of a remembered cell.
 fn left_key(local: &mut Local, found: u64)
-    ensures { CarriesOn (rest_key (key_of_word found)) local.old local.new }
+    ensures { CarriesOn (left_over_key (key_of_word found)) local.old local.new }
 {
     let key = unpack_key(found);
     if is_in_range(local.call, key) {
         local.place_key = key;
         local.activity = Activity::Read(Read::LeftOverValue);
     } else {
-        go_to_rest(local);
+        go_to_left_over(local);
     }
 }
 
 // It was told the value of that cell.
 fn left_value(local: &mut Local, found: u64)
-    ensures { CarriesOn (λ l. to_rest (gathering product (value_of_word found) l)) local.old local.new }
+    ensures { CarriesOn (λ l. to_left_over (gathering product (value_of_word found) l)) local.old local.new }
 {
     gather(local, found);
-    go_to_rest(local);
+    go_to_left_over(local);
 }
 
 /// The reader's walk along the list is over: it goes on to a cell that it remembers and did not
-/// meet, or the row is read. Takes no memory.
-pub fn go_to_rest(local: &mut Local)
-    ensures { CarriesOn to_rest local.old local.new }
+/// reach, or the row is read. Takes no memory.
+pub fn go_to_left_over(local: &mut Local)
+    ensures { CarriesOn to_left_over local.old local.new }
 {
     if take_remembered(local) {
         local.activity = Activity::Read(Read::LeftOverKey);

@@ -24,9 +24,9 @@ use kw_world::activity::rebalance::gather::Gather;
 use kw_world::event::Choice;
 use kw_world::local::Local;
 
-/// Loads the link at which the cursor stands, and meets the cell to which it leads: the answer is
+/// Loads the link at which the cursor stands, and reaches the cell to which it leads: the answer is
 /// the cursor there. None where the list is at its end; the local then has the cursor again, and
-/// has gone on to a cell that it remembers and did not meet, or to the search for free rows. Takes
+/// has gone on to a cell that it remembers and did not reach, or to the search for free rows. Takes
 /// no memory.
 #[inline(always)]
 pub fn meet_next(
@@ -36,8 +36,8 @@ pub fn meet_next(
     cursor: Cursor,
 ) -> Option<Cursor>
     requires { Follows shared.now pass.old (taking_at Gather.Link cursor local.old) }
-    ensures met { IfSome result (λ met. Builds shared.now pass.old pass.new
-        (taking_at Gather.Key met local.new)) }
+    ensures saw { IfSome result (λ saw. Builds shared.now pass.old pass.new
+        (taking_at Gather.Key saw local.new)) }
     ensures over { IfNone result (Builds shared.now pass.old pass.new local.new) }
     ensures stands { IfNone result (IsBuildingOn local.new.activity) }
     ensures tidies { local.new.tidies ≡ local.old.tidies }
@@ -45,7 +45,7 @@ pub fn meet_next(
     let name = link_name(cursor.row, cursor.link);
     let link = load_after(shared, pass, Choice::Go, name);
     match unpack_cell_link(link) {
-        Some(cell) => Some(meet(local, cursor, cell)),
+        Some(cell) => Some(reach_holding(local, cursor, cell)),
         None => {
             cursor.write(local, Activity::Rebalance(Rebalance::Gather(Gather::Link)));
             take_from(local, link);
@@ -56,7 +56,7 @@ pub fn meet_next(
 
 // The link led to this cell, which need not be remembered any more.
 #[inline(always)]
-fn meet(local: &mut Local, cursor: Cursor, cell: u32) -> Cursor
+fn reach_holding(local: &mut Local, cursor: Cursor, cell: u32) -> Cursor
     requires { cursor.walked ≤ CELLS }
     ensures cursor { result ≡ reached cell cursor }
     ensures local { local.new ≡ forgetting_mark cell local.old }

@@ -61,7 +61,7 @@ fn write_head(shared: &Shared, pass: &mut Pass, local: &Local)
     let next = next_word(local);
     let first = first_word(local);
     store_infant(shared, pass, Choice::Go, Name::Count(row), count);
-    store_infant(shared, pass, Choice::Go, Name::Min(row), least);
+    store_infant(shared, pass, Choice::Go, Name::Least(row), least);
     store_infant(shared, pass, Choice::Go, Name::Next(row), next);
     store_infant(shared, pass, Choice::Go, Name::First(row), first);
 }

@@ -4,7 +4,7 @@
 //! over all that are in use. All that changes then is which row is asked and how many were: so code
 //! keeps these in a `Search`, and leaves all else of its local where it was, up to the first row
 //! that is free or was retired, or to the last one. `with_search` says which local the two stand
-//! for. What is asked of a row that is not passed over has steps of its own, as in `gathering`;
+//! for. What is asked of a row that is not gone by has steps of its own, as in `gathering`;
 //! `building` asks for them.
 ghost use Rattle.std.specs.Prelude.{◌≡◌, ◌<◌};
 ghost use Rattle.kw_world.specs.Parts.{part_of};
@@ -59,7 +59,7 @@ impl Search {
         load_state(shared, pass, Choice::Go, Name::State(self.sought))
     }
 
-    /// The row at hand is passed over, in a table of so many rows, of which some were not asked.
+    /// The row at hand is gone by, in a table of so many rows, of which some were not asked.
     #[inline(always)]
     pub fn behind(self, rows: u32) -> Search
         requires { self.asked < rows }
@@ -74,7 +74,7 @@ impl Search {
         }
     }
 
-    /// The search stops at the row at hand, which is not passed over, or is the last one: the local
+    /// The search stops at the row at hand, which is not gone by, or is the last one: the local
     /// has the search again, and goes on by the state that the seat was told. Takes no memory.
     #[inline(always)]
     pub fn stop(self, local: &mut Local, rows: u32, found: u64) -> StepDone
@@ -90,7 +90,7 @@ impl Search {
     }
 }
 
-/// Whether a row with this state is passed over: it is neither free nor retired.
+/// Whether a row with this state is gone by: it is neither free nor retired.
 #[inline(always)]
 pub fn is_in_use(found: u64) -> bool
     ensures { result ≡ is_in_use (state_of found) }

@@ -1,9 +1,9 @@
 //! How far a get has come to its row, and the events by which it goes there and ends.
 //!
 //! Between calls a local knows nothing. All that a get learns up to the cells of its row is its
-//! epoch and a few numbers of rows; so code that meets nothing else on its way keeps these in a
+//! epoch and a few numbers of rows; so code that sees nothing else on its way keeps these in a
 //! `Way`, which lies in registers, and leaves its local at rest: `on_way` says which local a way
-//! stands for. Where anything else is met, the way is written into the local, and the call goes on
+//! stands for. Where anything else is seen, the way is written into the local, and the call goes on
 //! by `go_along` and what else follows a local. The looks at the entries, and the links between
 //! rows, are loaded by what `along` has for them, and cells by a `Cursor`.
 ghost use Rattle.std.specs.Prelude.{◌≡◌, ◌<◌};
@@ -16,7 +16,7 @@ ghost use Rattle.kw_follow.specs.Reaching.{Reaches};
 ghost use Rattle.kw_follow.specs.Ways.{entering, on_way, starting};
 
 use kw_model::call::Call;
-use kw_table::{Pass, Shared, clear_pass, load_epoch, load_min, load_state, store_pass};
+use kw_table::{Pass, Shared, clear_pass, load_epoch, load_least, load_state, store_pass};
 use kw_words::layout::Name;
 use kw_words::plain::pack_pass;
 use kw_world::activity::Activity;
@@ -105,7 +105,7 @@ impl Way {
         requires { Follows shared.now pass.old (on_way (Activity.Walk Walk.GuessedLeast) self) }
         ensures { Makes shared.now pass.old Choice.Go result pass.new }
     {
-        load_min(shared, pass, Choice::Go, Name::Min(self.row))
+        load_least(shared, pass, Choice::Go, Name::Least(self.row))
     }
 }
 

@@ -1,4 +1,4 @@
 pub mod Changes
 pub mod Entries
-pub mod Ledgers
+pub mod Logs
 pub mod Turns

@@ -6,7 +6,7 @@
 ghost use Rattle.std.specs.Prelude.{◌≡◌, ◌<◌, ◌≤◌, [], ◌∷◌, ◌++◌, length};
 ghost use Rattle.kw_index.specs.Changes.{with_change};
 
-use crate::entries::{Entries, Entry};
+use crate::entries::{Entries, IndexEntry};
 use arrayvec::ArrayVec;
 use std::marker::Model;
 
@@ -24,7 +24,7 @@ pub const MOST_UNTOLD: usize = 64;
 /// row that goes.
 #[derive(Debug, Default, Drop)]
 pub struct Change {
-    placed: ArrayVec<Entry, MOST_PLACED>,
+    placed: ArrayVec<IndexEntry, MOST_PLACED>,
     gone: u32,
 }
 
@@ -49,7 +49,7 @@ impl Change {
 
     /// This row comes too, with its least key. It is left out where the change has `MOST_PLACED`
     /// rows already. Takes no memory.
-    pub fn place(&mut self, entry: Entry)
+    pub fn place(&mut self, entry: IndexEntry)
         ensures room { length self.old.placed < MOST_PLACED → self.new ≡ record {
           placed = self.old.placed ++ entry ∷ [];
           gone = self.old.gone;

@@ -1,10 +1,10 @@
-//! The slot in which the published ledger stands, and what threads ask of it.
+//! The slot in which the published log stands, and what threads ask of it.
 //!
 //! The slot is a value with a word that counts its readers. Who reads takes a turn that counts one
-//! reader more, and leaves. Who edits takes the ledger out, and only while nobody reads; nobody
-//! else comes until it is back: a slot whose ledger is out has a word of its own, `FREE`, from
+//! reader more, and leaves. Who edits takes the log out, and only while nobody reads; nobody
+//! else comes until it is back: a slot whose log is out has a word of its own, `FREE`, from
 //! which nobody but the one who has it takes a turn. Edits are short: a few changes are written, or
-//! one base exchanged for another. A turn that meets another word than the one it loaded is tried
+//! one base exchanged for another. A turn that sees another word than the one it loaded is tried
 //! again, `TRIES` times at most; then the call goes on without the index. So nothing here waits for
 //! another thread.
 //!
@@ -12,11 +12,11 @@
 //! has.
 ghost use Rattle.std.specs.Prelude.{ℕ, ◌≡◌, ◌<◌, ◌≤◌, ◌%◌, false, drop, IfOk, IfSome, None, Some};
 ghost use Rattle.counted_slot.specs.Counting.{readers, IsTurn, Gains};
-ghost use Rattle.kw_index.specs.Turns.{IsLedgerOf};
+ghost use Rattle.kw_index.specs.Turns.{IsLogOf};
 
 use crate::change::{Change, MOST_UNTOLD};
 use crate::entries::Entries;
-use crate::ledger::{Ledger, Shown};
+use crate::log::{Log, Shown};
 use arrayvec::ArrayVec;
 use counted_slot::{Claim, Counted, FREE, Fits, MOST_READERS, ONE_READER, PRESENT, TAKEN};
 use kw_model::memory::Memory;
@@ -30,18 +30,18 @@ use std::marker::Model;
 /// less. So many tries as these outlast both.
 pub const TRIES: u32 = 4_096;
 
-impl Fits for Ledger {
+impl Fits for Log {
     type Tag = u32;
 
-    ghost fits = { IsLedgerOf };
+    ghost fits = { IsLogOf };
 }
 
-/// The published ledger of a map, which threads share by `&`. Seen as the number of rows of the
+/// The published log of a map, which threads share by `&`. Seen as the number of rows of the
 /// map.
 #[derive(Drop)]
 pub struct Index {
     rows: u32,
-    slot: Counted<Option<Ledger>>,
+    slot: Counted<Option<Log>>,
 }
 
 impl Model for Index {
@@ -61,12 +61,12 @@ impl Index {
         requires { 1 ≤ rows }
         ensures { IfOk result (λ index. index ≡ rows) }
     {
-        let ledger = Ledger::new(alloc, rows)?;
+        let log = Log::new(alloc, rows)?;
         let index = Index {
             rows,
             slot: Counted::new(None, &rows),
         };
-        index.give(ledger);
+        index.give(log);
         Ok(index)
     }
 
@@ -77,8 +77,8 @@ impl Index {
         self.rows
     }
 
-    /// Brings entries up to the last change that a turn shows, as `Ledger::bring_up` does, and
-    /// tells what `Ledger::shown` does.
+    /// Brings entries up to the last change that a turn shows, as `Log::bring_up` does, and
+    /// tells what `Log::shown` does.
     ///
     /// The entries have room for as many rows as the index. None comes only where the turn gained
     /// no right to read. Nothing has changed then, nor where the last change is the one that was
@@ -92,9 +92,9 @@ impl Index {
     {
         let turn = self.turn_to_read()?;
         let shown = match turn.get() {
-            Some(ledger) => {
-                ledger.bring_up(entries, seen);
-                Some(ledger.shown())
+            Some(log) => {
+                log.bring_up(entries, seen);
+                Some(log.shown())
             }
             None => None,
         };
@@ -104,24 +104,24 @@ impl Index {
 
     /// Publishes changes, the first ones first, and takes out those that it published.
     ///
-    /// None where the turn gained no right to write, and as many as the ledger has room for: it
+    /// None where the turn gained no right to write, and as many as the log has room for: it
     /// keeps no more than `CHANGES_KEPT` since its base. Takes no memory.
     pub fn add(&self, changes: &mut ArrayVec<Change, MOST_UNTOLD>)
         ensures { (count : ℕ) × (changes.new.items ≡ drop count changes.old.items) }
     {
-        let Some(mut ledger) = self.take() else {
+        let Some(mut log) = self.take() else {
             return;
         };
         for _ in 0..changes.len() {
-            if changes.is_empty() || !ledger.has_room() {
+            if changes.is_empty() || !log.has_room() {
                 break;
             }
-            ledger.add(changes.remove(0));
+            log.add(changes.remove(0));
         }
-        self.give(ledger);
+        self.give(log);
     }
 
-    /// Exchanges the ledger's base for these entries, which have the changes up to this number,
+    /// Exchanges the log's base for these entries, which have the changes up to this number,
     /// where that is behind the base's. Whether it did.
     ///
     /// Where it did not, the entries are as they were: the turn gained no right to write, or the
@@ -132,20 +132,20 @@ impl Index {
         ensures kept { result ≡ false → base.new ≡ base.old }
         ensures rows { base.new.rows ≡ self.now }
     {
-        let Some(mut ledger) = self.take() else {
+        let Some(mut log) = self.take() else {
             return false;
         };
-        let is_renewed = ledger.renew(base, number);
-        self.give(ledger);
+        let is_renewed = log.renew(base, number);
+        self.give(log);
         is_renewed
     }
 
-    /// Takes the ledger out to be edited, if one of the tries gained the right to.
+    /// Takes the log out to be edited, if one of the tries gained the right to.
     ///
     /// Nobody else gains a turn until it is given back: meanwhile calls go on without the index.
     /// Takes no memory.
-    pub fn take(&self) -> Option<Ledger>
-        ensures { IfSome result (IsLedgerOf self.now) }
+    pub fn take(&self) -> Option<Log>
+        ensures { IfSome result (IsLogOf self.now) }
     {
         for _ in 0..TRIES {
             if self.slot.load() == PRESENT {
@@ -157,20 +157,20 @@ impl Index {
         None
     }
 
-    /// Puts a ledger in, where none is: gives back the one that was taken out.
+    /// Puts a log in, where none is: gives back the one that was taken out.
     ///
-    /// Nobody else takes a turn at a slot whose ledger is out, so the first try gains it. Takes no
+    /// Nobody else takes a turn at a slot whose log is out, so the first try gains it. Takes no
     /// memory.
-    pub fn give(&self, ledger: Ledger)
-        requires { IsLedgerOf self.now ledger }
+    pub fn give(&self, log: Log)
+        requires { IsLogOf self.now log }
     {
         if let Some(turn) = self.turn_to_write(FREE) {
-            turn.put(Some(ledger), PRESENT);
+            turn.put(Some(log), PRESENT);
         }
     }
 
     // The right to write, if this is the word, which counts no reader.
-    fn turn_to_write(&self, word: u64) -> Option<Claim<'_, Option<Ledger>>>
+    fn turn_to_write(&self, word: u64) -> Option<Claim<'_, Option<Log>>>
         requires { (word % 4 < 3) × (readers word ≡ 0) }
         ensures { IfSome result (λ turn. (turn.right ≡ 2) × (turn.tag ≡ self.now)) }
     {
@@ -183,7 +183,7 @@ impl Index {
     }
 
     // The right to read, if one of the tries gained it.
-    fn turn_to_read(&self) -> Option<Claim<'_, Option<Ledger>>>
+    fn turn_to_read(&self) -> Option<Claim<'_, Option<Log>>>
         ensures { IfSome result (λ turn. (turn.right ≡ 1) × (turn.tag ≡ self.now)) }
     {
         for _ in 0..TRIES {
@@ -194,7 +194,7 @@ impl Index {
         None
     }
 
-    fn try_to_read(&self) -> Option<Claim<'_, Option<Ledger>>>
+    fn try_to_read(&self) -> Option<Claim<'_, Option<Log>>>
         ensures { IfSome result (λ turn. (turn.right ≡ 1) × (turn.tag ≡ self.now)) }
     {
         let word = self.slot.load();

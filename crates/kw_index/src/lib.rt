@@ -7,12 +7,12 @@
 //! before it begins there, and no reply depends on the index.
 //!
 //! `entries` has the list and its edits, which one thread owns, and `change` what a publication
-//! changes of it; `ledger` the changes that were made last, with a list to begin with; `index` the
-//! slot in which the ledger stands, and what threads ask of it; `own` the list that one caller
+//! changes of it; `log` the changes that were made last, with a list to begin with; `index` the
+//! slot in which the log stands, and what threads ask of it; `own` the list that one caller
 //! guesses from; `window` where a caller searches for free rows; `hints` all that one caller has of
 //! these. What an edit leaves and what a guess is stands in `specs/Entries.antt`, what a change
-//! leaves in `specs/Changes.antt`, what a ledger makes of a list that lags behind in
-//! `specs/Ledgers.antt`, and which ledger may stand in the slot in `specs/Turns.antt`. Nothing here
+//! leaves in `specs/Changes.antt`, what a log makes of a list that lags behind in
+//! `specs/Logs.antt`, and which log may stand in the slot in `specs/Turns.antt`. Nothing here
 //! waits, and nothing but the making of entries and of an index takes memory.
 #![tactic(auto)]
 
@@ -20,6 +20,6 @@ pub mod change;
 pub mod entries;
 pub mod hints;
 pub mod index;
-pub mod ledger;
+pub mod log;
 pub mod own;
 pub mod window;

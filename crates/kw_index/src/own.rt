@@ -12,7 +12,7 @@ ghost use Rattle.kw_index.specs.Entries.{IsOf, IsGuess};
 use crate::change::{Change, MOST_UNTOLD};
 use crate::entries::Entries;
 use crate::index::Index;
-use crate::ledger::{CHANGES_BEFORE_RENEWAL, Shown};
+use crate::log::{CHANGES_BEFORE_RENEWAL, Shown};
 use arrayvec::ArrayVec;
 use kw_model::memory::Memory;
 use std::alloc::Global;
@@ -48,7 +48,7 @@ impl OwnEntries {
     /// A row to begin at for the key by these entries, whatever was published since they were
     /// brought up: it may be in use no more.
     ///
-    /// None exactly where each minimum is above the key, or the entries have room for another
+    /// None exactly where each least key is above it, or the entries have room for another
     /// number of rows than the index. A row is below the number of rows. Takes no memory.
     pub fn guess(&self, index: &Index, key: u32) -> Option<u32>
         ensures shown { self.now.entries.rows ≡ index.now → IsOf index.now self.now.entries

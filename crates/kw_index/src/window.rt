@@ -51,7 +51,7 @@ impl Window {
     /// start of the window where the round is over.
     pub fn took(&mut self, last: u32, count: u32) {
         self.taken = self.taken.saturating_add(count);
-        self.passed = self.place_of(last).saturating_add(1);
+        self.passed = self.index_of(last).saturating_add(1);
         if self.passed < self.len {
             return;
         }
@@ -63,7 +63,7 @@ impl Window {
     }
 
     // How many rows stand between the first row of the window and this one.
-    fn place_of(&self, row: u32) -> u32 {
+    fn index_of(&self, row: u32) -> u32 {
         match row.checked_sub(self.first) {
             Some(place) => place,
             None => row.saturating_add(self.rows.saturating_sub(self.first)),

@@ -3,7 +3,7 @@
 use Rattle.std.proofs.Common.{ℕ, ◌≡◌, ◌⊎◌, inl, inr, ◌<◌, ◌≤◌, arith, subst}
 use Rattle.kw_kept.specs.Puts.{Puts}
 use Rattle.kw_kept.specs.Kept.{Rows, Kept}
-use Rattle.kw_kept.specs.Needed.{IsNeeded, Moves, IsCovered, IsLate, Passes}
+use Rattle.kw_kept.specs.Needed.{IsNeeded, Moves, IsCovered, IsLate, GoesBy}
 
 module _ (clock clock' : ℕ) (waits waits' : ℕ → ℕ) (through through' : ℕ → ℕ → Type 0) (m : Moves clock clock' waits waits' through through') where
   -- what is needed was needed before
@@ -37,8 +37,8 @@ pub late_starts : (waits : ℕ → ℕ) (through : ℕ → ℕ → Type 0) (sinc
 late_starts waits through since most f i u l t = absurd (omega (arith, f i, l))
 
 -- a seat that was looked at is covered with those that were
-pub passes_covered : (since : ℕ) (waits : ℕ → ℕ) (through : ℕ → ℕ → Type 0) (passed passed' listed listed' : ℕ → Type 0) (most s : ℕ) → Passes since waits through passed passed' listed listed' s → IsLate since waits through most → IsCovered through passed listed most → IsCovered through passed' listed' most
-passes_covered since waits through passed passed' listed listed' most s r late c i u p t = which (r.seat i p)
+pub goes_by_covered : (since : ℕ) (waits : ℕ → ℕ) (through : ℕ → ℕ → Type 0) (passed passed' listed listed' : ℕ → Type 0) (most s : ℕ) → GoesBy since waits through passed passed' listed listed' s → IsLate since waits through most → IsCovered through passed listed most → IsCovered through passed' listed' most
+goes_by_covered since waits through passed passed' listed listed' most s r late c i u p t = which (r.seat i p)
   where
     own : through s u → ((u : ℕ) → through s u → listed' u) ⊎ (since < waits s) → listed' u ⊎ (most ≤ u)
     own t (inl f) = inl (f u t)

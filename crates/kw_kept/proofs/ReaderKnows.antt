@@ -53,12 +53,12 @@ module _ (puts : Puts) (s : Sets) (k v : ℕ) (best : Option ℕ) (r : Reads put
     gap = best;
     of_key = λ q f. let x = r.best_is.among q f in ((r.of_row q x.0).1, x.1, x.2);
     shows = inl refl;
-    knows = early_known best r.best_is.greatest (λ q b f l. let x = r.best_is.among p e in met q f b (r.later p q x.0 d b (f ∙ sym x.1)) l);
+    knows = early_known best r.best_is.greatest (λ q b f l. let x = r.best_is.among p e in saw q f b (r.later p q x.0 d b (f ∙ sym x.1)) l);
   }
     where
-      met : (q : ℕ) → (puts q).key ≡ k → s.before q → s.in_row q ⊎ StandsBefore puts q p → (puts q).version ≤ v → StandsUpTo puts best q
-      met q f b (inl i) l = r.best_is.greatest q (r.all q i b) f l
-      met q f b (inr s) l = subst (λ o. StandsUpTo puts o q) (sym e) (inr s)
+      saw : (q : ℕ) → (puts q).key ≡ k → s.before q → s.in_row q ⊎ StandsBefore puts q p → (puts q).version ≤ v → StandsUpTo puts best q
+      saw q f b (inl i) l = r.best_is.greatest q (r.all q i b) f l
+      saw q f b (inr s) l = subst (λ o. StandsUpTo puts o q) (sym e) (inr s)
 
   -- nothing is gathered that shows at this version
   with_none : best ≡ None → Knows puts s k v best

@@ -16,7 +16,7 @@ pub record Moves (clock clock' : ℕ) (waits waits' : ℕ → ℕ) (through thro
   pub goes_on : (i u : ℕ) → through' i u → through i u ⊎ (clock ≤ u)
   pub renews : (i : ℕ) → (waits' i ≡ waits i) ⊎ ((u : ℕ) → through' i u → clock ≤ u)
 
--- of what is needed through the seats that were passed, all is listed or at least `most`
+-- of what is needed through the seats that were gone by, all is listed or at least `most`
 abbrev pub IsCovered : (ℕ → ℕ → Type 0) → (ℕ → Type 0) → (ℕ → Type 0) → ℕ → Type 0
 IsCovered through passed listed most = (i u : ℕ) → passed i → through i u → listed u ⊎ (most ≤ u)
 
@@ -24,8 +24,9 @@ IsCovered through passed listed most = (i u : ℕ) → passed i → through i u 
 abbrev pub IsLate : ℕ → (ℕ → ℕ) → (ℕ → ℕ → Type 0) → ℕ → Type 0
 IsLate since waits through most = (i u : ℕ) → since < waits i → through i u → most ≤ u
 
--- the seat s is passed: what is needed through it is listed, or it began to wait after the position
-pub record Passes (since : ℕ) (waits : ℕ → ℕ) (through : ℕ → ℕ → Type 0) (passed passed' listed listed' : ℕ → Type 0) (s : ℕ) : Type 0 where
+-- the seat s is gone by: what is needed through it is listed, or it began to wait after the
+-- position
+pub record GoesBy (since : ℕ) (waits : ℕ → ℕ) (through : ℕ → ℕ → Type 0) (passed passed' listed listed' : ℕ → Type 0) (s : ℕ) : Type 0 where
   pub seat : (i : ℕ) → passed' i → (i ≡ s) ⊎ passed i
   pub old : (u : ℕ) → listed u → listed' u
   pub looked : ((u : ℕ) → through s u → listed' u) ⊎ (since < waits s)

@@ -6,7 +6,7 @@
 ghost use Rattle.std.specs.Prelude.{◌≡◌, ◌<◌, ◌≤◌, ◌⊎◌, true, ℕ, Bool, Option};
 ghost use Rattle.kw_kept.specs.Puts.{Put, On, OnEach, AreApart, Greatest, HasGreatest, Shows};
 ghost use Rattle.kw_kept.specs.Kept.{RowTests, on_rows, Kept, Stamps, Rebuilds, Replaces};
-ghost use Rattle.kw_kept.specs.Needed.{IsNeeded, Moves, IsCovered, IsLate, Passes};
+ghost use Rattle.kw_kept.specs.Needed.{IsNeeded, Moves, IsCovered, IsLate, GoesBy};
 ghost use Rattle.kw_kept.specs.Readers.{Before, Front, GoesOn, Tests, on_sets, Reads, Knows};
 
 /// A finite set of puts that were given their cells at different events has a greatest for each key
@@ -45,8 +45,8 @@ pub fn replace_laws()
 {}
 
 /// What is needed was needed before, so rows that have kept what was needed still have. What a
-/// rebuild has listed covers what is needed through the seats that it passed, whatever goes on
-/// meanwhile, and when all are passed it covers all that is needed.
+/// rebuild has listed covers what is needed through the seats that it went by, whatever goes on
+/// meanwhile, and when all are gone by it covers all that is needed.
 pub fn needed_laws()
     ensures shrinks { (clock later : ℕ) (waits after : ℕ → ℕ) (a b : ℕ → ℕ → Bool) (u : ℕ) →
         Moves clock later waits after (OnEach a) (OnEach b) → IsNeeded later (OnEach b) u →
@@ -63,8 +63,8 @@ pub fn needed_laws()
     ensures late { (clock later : ℕ) (waits after : ℕ → ℕ) (a b : ℕ → ℕ → Bool) (since most : ℕ) →
         Moves clock later waits after (OnEach a) (OnEach b) → most ≤ clock →
         IsLate since waits (OnEach a) most → IsLate since after (OnEach b) most }
-    ensures passes { (waits : ℕ → ℕ) (a : ℕ → ℕ → Bool) (passed now listed more : ℕ → Bool)
-        (since most s : ℕ) → Passes since waits (OnEach a) (On passed) (On now) (On listed)
+    ensures goes_by { (waits : ℕ → ℕ) (a : ℕ → ℕ → Bool) (passed now listed more : ℕ → Bool)
+        (since most s : ℕ) → GoesBy since waits (OnEach a) (On passed) (On now) (On listed)
         (On more) s → IsLate since waits (OnEach a) most →
         IsCovered (OnEach a) (On passed) (On listed) most →
         IsCovered (OnEach a) (On now) (On more) most }

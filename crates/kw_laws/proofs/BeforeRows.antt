@@ -1,10 +1,10 @@
 -- Where the walk to the row before a full one ends, the full row is in the list no more.
 --
 -- Each row that the walk names was in the list after the full row came to it, or the full row is in
--- it no more: a row that was met along the link of a dead one went no sooner than that one. Of two
--- rows that hold one key one went before the other came. So as long as the full row is in the list,
--- each row of the walk whose range ends behind the full row's least key is in the list too, and
--- there the row before the full one leads to it.
+-- it no more: a row that was reached along the link of a dead one went no sooner than that one. Of
+-- two rows that hold one key one went before the other came. So as long as the full row is in the
+-- list, each row of the walk whose range ends behind the full row's least key is in the list too,
+-- and there the row before the full one leads to it.
 use Rattle.std.proofs.Common.{ℕ, ◌≡◌, ◌≢◌, ◌⊎◌, inl, inr, ◌<◌, ◌≤◌, true, Some, None, List, arith, refl, sym, ◌∙◌, ap, subst, slice_get, length}
 use Rattle.std.proofs.lemmas.Bool.{cases_lt}
 use Rattle.std.proofs.lemmas.Option.{same_Some}
@@ -41,9 +41,9 @@ use Rattle.kw_core.proofs.Events.{may_come}
 use Rattle.kw_core.proofs.Happens.{Happens, each_seat, happens}
 use Rattle.kw_core.proofs.NextBuilt.{GivenBack, is_refused_rows, moves_left, tries_again, NextBack, gives_back, has_none, NextPass, has_looked, looks_on, NextSeek, asks, has_asked, NextTaken, has_enough, wants_more, NextNewCell, empties, fills, has_cells, NextNewEntry, has_entries, writes_idle, NextNewRow, has_written, writes_row, NextBefore, is_behind, is_first, was_done, was_served}
 use Rattle.kw_core.proofs.Runs.{goes_on-moved, holds_of_history}
-use Rattle.kw_shape.specs.MetRows.{IsMet, is_first as met_first, is_next as met_next}
-use Rattle.kw_shape.specs.RowsIn.{rows_in, state_met}
-use Rattle.kw_shape.specs.Search.{HasMetNext, IsLeft, IsSearching, Search}
+use Rattle.kw_shape.specs.ReachedRows.{IsReached, is_first as reached_first, is_next as reached_next}
+use Rattle.kw_shape.specs.RowsIn.{rows_in, state_seen}
+use Rattle.kw_shape.specs.Search.{HasReachedNext, IsLeft, IsSearching, Search}
 use Rattle.kw_shape.specs.Shape.{Shape}
 use Rattle.kw_shape.proofs.AfterBuilding.{built_balancing}
 use Rattle.kw_shape.proofs.Comings.{Comes, comes, goes_on as builds_on, seeks, stays_out}
@@ -69,21 +69,21 @@ IsWalkingBefore _ = ⊥
 abbrev IsLate : Ledger → ℕ → ℕ → Type 0
 IsLate g q x = IsLive g q → IsDead g x → (g.fates q).born ≤ (g.fates x).gone
 
--- the row of the walk and the one that it met behind it are such ones; the range of the first ends
--- where the second begins, which is not the full one
+-- the row of the walk and the one that it reached behind it are such ones; the range of the first
+-- ends where the second begins, which is not the full one
 record WalksBefore (v : Words) (g : Ledger) (a : Activity) (l : Local) : Type 0 where
   late : (p : ℕ) → IsWalkingBefore a → l.rebalance.before ≡ Some p → IsLate g l.row p
-  late_next : HasMetNext a → IsLate g l.row l.candidate
-  ends : (p : ℕ) → HasMetNext a → l.rebalance.before ≡ Some p → (g.fates p).upper ≡ Some (least_in v l.candidate)
-  other : HasMetNext a → l.candidate ≢ l.row
+  late_next : HasReachedNext a → IsLate g l.row l.candidate
+  ends : (p : ℕ) → HasReachedNext a → l.rebalance.before ≡ Some p → (g.fates p).upper ≡ Some (least_in v l.candidate)
+  other : HasReachedNext a → l.candidate ≢ l.row
 
-met_walks : (a : Activity) → HasMetNext a → IsWalkingBefore a
-met_walks (Activity.Rebalance (Rebalance.Replace Replace.NextLeast)) x = tt
-met_walks _ x = absurd x
+reached_walks : (a : Activity) → HasReachedNext a → IsWalkingBefore a
+reached_walks (Activity.Rebalance (Rebalance.Replace Replace.NextLeast)) x = tt
+reached_walks _ x = absurd x
 
-met_searches : (a : Activity) (l : Local) → HasMetNext a → IsSearching a l
-met_searches (Activity.Rebalance (Rebalance.Replace Replace.NextLeast)) l x = tt
-met_searches _ l x = absurd x
+reached_searches : (a : Activity) (l : Local) → HasReachedNext a → IsSearching a l
+reached_searches (Activity.Rebalance (Rebalance.Replace Replace.NextLeast)) l x = tt
+reached_searches _ l x = absurd x
 
 walking_balances : (a : Activity) → IsWalkingBefore a → IsBalancing a
 walking_balances (Activity.Rebalance (Rebalance.Replace Replace.GuessedLeast)) x = tt
@@ -106,7 +106,7 @@ is_walking _ = inr (λ x. x)
 
 -- elsewhere it knows nothing of it
 elsewhere : (v : Words) (g : Ledger) (a : Activity) (l : Local) → (IsWalkingBefore a → ⊥) → WalksBefore v g a l
-elsewhere v g a l n = record { late = λ p x. absurd (n x); late_next = λ x. absurd (n (met_walks a x)); ends = λ p x. absurd (n (met_walks a x)); other = λ x. absurd (n (met_walks a x)) }
+elsewhere v g a l n = record { late = λ p x. absurd (n x); late_next = λ x. absurd (n (reached_walks a x)); ends = λ p x. absurd (n (reached_walks a x)); other = λ x. absurd (n (reached_walks a x)) }
 
 -- The steps of the walk.
 
@@ -116,7 +116,7 @@ data StepsBefore (v : Words) (l : Local) : Activity → Local → Type 0 where
   from_first : (a : Activity) → StepsBefore v l a (record (at_before (Some (row_or_first (row_linked (link_of (v name.Head))))) 0 l) { activity = Activity.Rebalance (Rebalance.Replace Replace.Next) })
   from_guess : (q : ℕ) → state_of (v (name.State q)) ≡ Some Normal → StepsBefore v l (Activity.Rebalance (Rebalance.Replace Replace.Start)) (record l { rebalance = record l.rebalance { before = Some q }; activity = Activity.Rebalance (Rebalance.Replace Replace.GuessedLeast) })
   serves : StepsBefore v l (Activity.Rebalance (Rebalance.Replace Replace.GuessedLeast)) (record l { rebalance = record l.rebalance { least = least_in v (row_or_first l.rebalance.before) }; activity = Activity.Rebalance (Rebalance.Replace Replace.Next) })
-  meets : (q : ℕ) → next_in v (row_or_first l.rebalance.before) ≡ Some q → q ≢ l.row → StepsBefore v l (Activity.Rebalance (Rebalance.Replace Replace.Next)) (record l { candidate = q; activity = Activity.Rebalance (Rebalance.Replace Replace.NextLeast) })
+  reaches : (q : ℕ) → next_in v (row_or_first l.rebalance.before) ≡ Some q → q ≢ l.row → StepsBefore v l (Activity.Rebalance (Rebalance.Replace Replace.Next)) (record l { candidate = q; activity = Activity.Rebalance (Rebalance.Replace Replace.NextLeast) })
   moves : StepsBefore v l (Activity.Rebalance (Rebalance.Replace Replace.NextLeast)) (record (at_before (Some l.candidate) (least_in v l.candidate) l) { activity = Activity.Rebalance (Rebalance.Replace Replace.Next) })
 
 -- its full row stays the same
@@ -124,7 +124,7 @@ row_same : (v : Words) (l : Local) (a : Activity) (k : Local) → StepsBefore v 
 row_same v l a k (from_first b) = refl
 row_same v l a k (from_guess q e) = refl
 row_same v l a k serves = refl
-row_same v l a k (meets q e d) = refl
+row_same v l a k (reaches q e d) = refl
 row_same v l a k moves = refl
 
 -- no other part of a rebalance leads there
@@ -187,7 +187,7 @@ steps_by z v choice l a k (guesses_before q f e) x = from_guess q e
 steps_by z v choice l a k (before_serves o) x = serves
 steps_by z v choice l a k (takes_head_before next y) x = first_step v l a next y x
 steps_by z v choice l a k (leads_on_marked next e y) x = absurd (back_off MoveLeft l next y x)
-steps_by z v choice l a k (leads_to_other q e d) x = meets q e d
+steps_by z v choice l a k (leads_to_other q e d) x = reaches q e d
 steps_by z v choice l a k (leads_nowhere next e y) x = absurd (back_off TryAgain l next y x)
 steps_by z v choice l a k (walks_before o) x = moves
 steps_by z v choice l a k (walks_past next o y) x = absurd (back_off TryAgain l next y x)
@@ -215,9 +215,9 @@ module _ (v : Words) (g : Ledger) (t now : ℕ) (i : Structure (rows_in v) g now
     where
       first : i.chain.first ≡ row_or_first (row_linked (link_of (v name.Head)))
       first = sym (ap row_or_first i.chain.leads)
-  knows a k (from_guess q e) s w = record { late = λ p x f. subst (λ y. IsLate g l.row y) (same_Some q p f) (live_late q (normal_live (rows_in v) g q i.states (ap state_met e))); late_next = λ x. absurd x; ends = λ p x. absurd x; other = λ x. absurd x }
+  knows a k (from_guess q e) s w = record { late = λ p x f. subst (λ y. IsLate g l.row y) (same_Some q p f) (live_late q (normal_live (rows_in v) g q i.states (ap state_seen e))); late_next = λ x. absurd x; ends = λ p x. absurd x; other = λ x. absurd x }
   knows a k serves s w = record { late = λ p x e. w.late p tt e; late_next = λ x. absurd x; ends = λ p x. absurd x; other = λ x. absurd x }
-  knows a k (meets q e d) s w = record {
+  knows a k (reaches q e d) s w = record {
     late = λ p x f. w.late p tt f;
     late_next = λ x. let p = s.some tt in next_late p.0 q (s.fresh p.0 tt p.1) (subst (λ b. next_in v (row_or_first b) ≡ Some q) p.1 e) (w.late p.0 tt p.1);
     ends = λ p x f. ends_at (rows_in v) g i.closed p q (held_by g t p (s.fresh p tt f)) (subst (λ b. next_in v (row_or_first b) ≡ Some q) f e);
@@ -240,10 +240,10 @@ module _ {z : Sizes} {r r' : Run} {s : ℕ} {choice : Choice} {l l' : Local} (a 
   walk_stays : (t : ℕ) (k : Local) → Search (word z r.world) r.ledger.rows t k.activity k → (IsWalkingBefore k.activity → WasLinked r.ledger.rows k.row) → WalksBefore (word z r.world) r.ledger.rows k.activity k → WalksBefore (word z r'.world) r'.ledger.rows k.activity k
   walk_stays t k y linked w = record {
     late = λ p x e. late_stays k.row p (linked x) (w.late p x e);
-    late_next = λ x. late_stays k.row k.candidate (linked (met_walks k.activity x)) (w.late_next x);
+    late_next = λ x. late_stays k.row k.candidate (linked (reached_walks k.activity x)) (w.late_next x);
     ends = λ p x e.
-        let u = linked_keeps a h i.shape p (fresh_linked r.ledger.rows t p (y.fresh p (met_searches k.activity k x) e)) in
-        let n = linked_keeps a h i.shape k.candidate (fresh_linked r.ledger.rows t k.candidate (y.met x)) in
+        let u = linked_keeps a h i.shape p (fresh_linked r.ledger.rows t p (y.fresh p (reached_searches k.activity k x) e)) in
+        let n = linked_keeps a h i.shape k.candidate (fresh_linked r.ledger.rows t k.candidate (y.saw x)) in
         u.upper ∙ w.ends p x e ∙ ap Some (sym n.least);
     other = w.other;
   }
@@ -273,9 +273,9 @@ module _ {z : Sizes} {r r' : Run} {s : ℕ} {choice : Choice} {l l' : Local} (a 
 -- Where the walk ends.
 
 -- a row of the list is live
-met_live : (v : Words) (g : Ledger) → Chain (rows_in v) g → (q : ℕ) → IsMet v q → IsLive g q
-met_live v g c x (met_first q e) = subst (IsLive g) (same_Some c.first q (sym c.leads ∙ e)) c.first_live
-met_live v g c x (met_next p q m e) = c.linked p q (met_live v g c p m) e
+reached_live : (v : Words) (g : Ledger) → Chain (rows_in v) g → (q : ℕ) → IsReached v q → IsLive g q
+reached_live v g c x (reached_first q e) = subst (IsLive g) (same_Some c.first q (sym c.leads ∙ e)) c.first_live
+reached_live v g c x (reached_next p q m e) = c.linked p q (reached_live v g c p m) e
 
 module _ (v : Words) (g : Ledger) (t now : ℕ) (i : Structure (rows_in v) g now) (l : Local) (lower : l.lower ≡ least_in v l.row) (live : IsLive g l.row) where
   -- the full row holds its least key
@@ -326,13 +326,13 @@ module _ (v : Words) (g : Ledger) (t now : ℕ) (i : Structure (rows_in v) g now
   none_shares q (inl a) late d e = d (one_beginning (rows_in v) g q l.row i.chain a live (e ∙ lower))
   none_shares q (inr a) late d e = none_holds q a.dead late (record { from = omega (arith, e); below = λ u f. omega (arith, e, above_least (rows_in v) g i.closed q u (inr (t, a)) f) })
 
--- at the end of the list that the walk meets the full row is met no more
+-- at the end of the list that the walk reaches the full row is reached no more
 abbrev pub EndsBefore : Sizes → Run → Type 0
-EndsBefore z r = (t : ℕ) (l : Local) → slice_get r.world.locals t ≡ Some l → l.activity ≡ Activity.Rebalance (Rebalance.Replace Replace.Next) → next_in (word z r.world) (row_or_first l.rebalance.before) ≡ None → IsMet (word z r.world) l.row → ⊥
+EndsBefore z r = (t : ℕ) (l : Local) → slice_get r.world.locals t ≡ Some l → l.activity ≡ Activity.Rebalance (Rebalance.Replace Replace.Next) → next_in (word z r.world) (row_or_first l.rebalance.before) ≡ None → IsReached (word z r.world) l.row → ⊥
 
--- nor is it where the walk meets a row whose least key is not below that of the full one
-abbrev pub PassesFull : Sizes → Run → Type 0
-PassesFull z r = (t : ℕ) (l : Local) → slice_get r.world.locals t ≡ Some l → l.activity ≡ Activity.Rebalance (Rebalance.Replace Replace.NextLeast) → l.lower ≤ least_in (word z r.world) l.candidate → IsMet (word z r.world) l.row → ⊥
+-- nor is it where the walk reaches a row whose least key is not below that of the full one
+abbrev pub GoesByFull : Sizes → Run → Type 0
+GoesByFull z r = (t : ℕ) (l : Local) → slice_get r.world.locals t ≡ Some l → l.activity ≡ Activity.Rebalance (Rebalance.Replace Replace.NextLeast) → l.lower ≤ least_in (word z r.world) l.candidate → IsReached (word z r.world) l.row → ⊥
 
 -- the invariant, and what each seat knows of the rows of its walk
 record Walking (z : Sizes) (r : Run) : Type 0 where
@@ -344,15 +344,15 @@ ends_by z r k t l g a e m =
     let i = k.inv.shape in
     let b = i.balances t l g in
     let x : IsBalancing l.activity = subst IsBalancing (sym a) tt in
-    let live = met_live (word z r.world) r.ledger.rows i.rows.chain l.row m in
+    let live = reached_live (word z r.world) r.ledger.rows i.rows.chain l.row m in
     let s = subst (λ c. Search (word z r.world) r.ledger.rows t c l) a (i.search t l g) in
     let w = subst (λ c. WalksBefore (word z r.world) r.ledger.rows c l) a (k.walks t l g) in
     let p = s.some tt in
     let o = left_of (word z r.world) r.ledger.rows t _ i.rows l (b.lower x) live p.0 (s.left p.0 tt p.1) in
     none_ends (word z r.world) r.ledger.rows t _ i.rows l (b.lower x) live p.0 (s.fresh p.0 tt p.1) o (w.late p.0 tt p.1) (subst (λ c. next_in (word z r.world) (row_or_first c) ≡ None) p.1 e)
 
-passes_by : (z : Sizes) (r : Run) → Walking z r → PassesFull z r
-passes_by z r k t l g a o m = which (cases_lt l.lower (least_in (word z r.world) l.candidate))
+full_goes_by : (z : Sizes) (r : Run) → Walking z r → GoesByFull z r
+full_goes_by z r k t l g a o m = which (cases_lt l.lower (least_in (word z r.world) l.candidate))
   where
     i : Shape z r
     i = k.inv.shape
@@ -361,7 +361,7 @@ passes_by z r k t l g a o m = which (cases_lt l.lower (least_in (word z r.world)
     lower_is = (i.balances t l g).lower (subst IsBalancing (sym a) tt)
 
     live : IsLive r.ledger.rows l.row
-    live = met_live (word z r.world) r.ledger.rows i.rows.chain l.row m
+    live = reached_live (word z r.world) r.ledger.rows i.rows.chain l.row m
 
     s : Search (word z r.world) r.ledger.rows t (Activity.Rebalance (Rebalance.Replace Replace.NextLeast)) l
     s = subst (λ c. Search (word z r.world) r.ledger.rows t c l) a (i.search t l g)
@@ -376,7 +376,7 @@ passes_by z r k t l g a o m = which (cases_lt l.lower (least_in (word z r.world)
         none_spans (word z r.world) r.ledger.rows t _ i.rows l lower_is live p.0 _ (s.fresh p.0 tt p.1) u (w.late p.0 tt p.1) (w.ends p.0 tt p.1) y
     which (inr y) =
         let same : least_in (word z r.world) l.candidate ≡ l.lower = omega (arith, o, y) in
-        none_shares (word z r.world) r.ledger.rows t _ i.rows l lower_is live l.candidate (s.met tt) (w.late_next tt) (w.other tt) same
+        none_shares (word z r.world) r.ledger.rows t _ i.rows l lower_is live l.candidate (s.saw tt) (w.late_next tt) (w.other tt) same
 
 -- All of it holds of every list.
 
@@ -399,5 +399,5 @@ walking_holds z o i es v = holds_of_history z o (Walking z) (walking_on z o) sta
 pub ends_before_holds : (z : Sizes) (o : Opening) → IsOpening z o → (es : List Event) → is_valid z o es ≡ true → EndsBefore z (history z o es)
 ends_before_holds z o i es v = ends_by z (history z o es) (walking_holds z o i es v)
 
-pub passes_full_holds : (z : Sizes) (o : Opening) → IsOpening z o → (es : List Event) → is_valid z o es ≡ true → PassesFull z (history z o es)
-passes_full_holds z o i es v = passes_by z (history z o es) (walking_holds z o i es v)
+pub goes_by_full_holds : (z : Sizes) (o : Opening) → IsOpening z o → (es : List Event) → is_valid z o es ≡ true → GoesByFull z (history z o es)
+goes_by_full_holds z o i es v = full_goes_by z (history z o es) (walking_holds z o i es v)

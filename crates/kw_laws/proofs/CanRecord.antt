@@ -36,7 +36,7 @@ use Rattle.kw_reads.specs.Inv.{Inv}
 use Rattle.kw_core.specs.Run.{Run, Origins, change_of, found_by, beginning, helping, noted_by, freezing, settled_scan, copied_cell}
 use Rattle.kw_core.specs.declared.seat_log.SeatLog.{SeatLog}
 use Rattle.kw_lists.specs.Rows.{Row}
-use Rattle.kw_cells.proofs.InOrder.{place_in-within}
+use Rattle.kw_cells.proofs.InOrder.{index_in-within}
 use Rattle.kw_words.specs.Plain.{value_of_word}
 use Rattle.kw_world.specs.ReadTransitions.{cell_in_hand}
 use Rattle.kw_reads.specs.Readers.{AreCopies, ReadsList, Apart}
@@ -80,11 +80,11 @@ none_below z cells (Ends x reply answer draw) n = tt
 
 -- what an event gives is a cell of the table
 given_below : (z : Sizes) (a : Activity) (s : ℕ) (choice : Choice) (l : Local) (found : ℕ) (g : SeatLog) (o : Origins) (rows : ℕ) → l.row < rows → IsGivenBelow z (rows * z.cells) (change_of z a s choice l found g o)
-given_below z (Activity.Put Put.Add) s choice l found g o rows below = met (has_room z (count_of found)) refl
+given_below z (Activity.Put Put.Add) s choice l found g o rows below = saw (has_room z (count_of found)) refl
   where
-    met : (b : Bool) → has_room z (count_of found) ≡ b → IsGivenBelow z (rows * z.cells) (change_of z (Activity.Put Put.Add) s choice l found g o)
-    met true e = rw e (place_within z.cells l.row (given_of (count_of found)) rows below (room_given z (count_of found) e))
-    met false e = rw e tt
+    saw : (b : Bool) → has_room z (count_of found) ≡ b → IsGivenBelow z (rows * z.cells) (change_of z (Activity.Put Put.Add) s choice l found g o)
+    saw true e = rw e (place_within z.cells l.row (given_of (count_of found)) rows below (room_given z (count_of found) e))
+    saw false e = rw e tt
 given_below z Activity.Idle s choice l found g o rows below = begins choice
   where
     begins : (x : Choice) → IsGivenBelow z (rows * z.cells) (beginning x s l)
@@ -92,7 +92,7 @@ given_below z Activity.Idle s choice l found g o rows below = begins choice
     begins Go = tt
     begins (Guess r) = tt
     begins Stop = tt
-given_below z (Activity.Look Look.Help) s choice l found g o rows below = none_below z (rows * z.cells) _ (none_of (found == pend_word (pend.Pending l.met)) (helping (o l.row l.met) l.helping g.loaded) Nothing (none_helping (o l.row l.met) l.helping g.loaded) tt)
+given_below z (Activity.Look Look.Help) s choice l found g o rows below = none_below z (rows * z.cells) _ (none_of (found == pend_word (pend.Pending l.saw)) (helping (o l.row l.saw) l.helping g.loaded) Nothing (none_helping (o l.row l.saw) l.helping g.loaded) tt)
 given_below z (Activity.Put Put.Announce) s choice l found g o rows below = none_below z (rows * z.cells) _ (none_of (found == pend_word pend.Idle) (Announces g.own) Nothing tt tt)
 given_below z (Activity.Put Put.Stamp) s choice l found g o rows below = none_below z (rows * z.cells) _ (none_of (found == pend_word (pend.Pending l.cell)) (Stamps g.own l.version g.loaded) Nothing tt tt)
 given_below z (Activity.Rebalance (Rebalance.Freeze (Freeze.Entry i))) s choice l found g o rows below = none_below z (rows * z.cells) _ (none_of (found == pend_word l.rebalance.entry) (freezing l.rebalance.entry l.row o) Nothing (none_freezing l.rebalance.entry l.row o) tt)
@@ -137,27 +137,27 @@ gathering_room z row _ l x k m w = absurd x
 
 -- only the load of a value gathers a cell
 room_for : (z : Sizes) (a : Activity) (choice : Choice) (l : Local) (found : ℕ) (o : Origins) (h : History) (settled : ℕ) (g : SeatLog) → (Gathering a → (length g.ids < z.cells) × (length l.gathered ≡ length g.ids)) → HasRoomFor z.cells (remark_of z a choice l found o h settled) g
-room_for z (Activity.Read Read.Value) choice l found o h settled g f = let x = f tt in (x.0, omega (arith, place_in-within (cell_in_hand (value_of_word found) l) l.gathered, x.1))
-room_for z (Activity.Read Read.LeftOverValue) choice l found o h settled g f = let x = f tt in (x.0, omega (arith, place_in-within (cell_in_hand (value_of_word found) l) l.gathered, x.1))
+room_for z (Activity.Read Read.Value) choice l found o h settled g f = let x = f tt in (x.0, omega (arith, index_in-within (cell_in_hand (value_of_word found) l) l.gathered, x.1))
+room_for z (Activity.Read Read.LeftOverValue) choice l found o h settled g f = let x = f tt in (x.0, omega (arith, index_in-within (cell_in_hand (value_of_word found) l) l.gathered, x.1))
 room_for z Activity.Idle (Begin call) l found o h settled g f = tt
 room_for z Activity.Idle Go l found o h settled g f = tt
 room_for z Activity.Idle (Guess r) l found o h settled g f = tt
 room_for z Activity.Idle Stop l found o h settled g f = tt
-room_for z (Activity.Draw Draw.Settle) choice l found o h settled g f = met (found == scan_word (Waiting l.waiting)) refl
+room_for z (Activity.Draw Draw.Settle) choice l found o h settled g f = saw (found == scan_word (Waiting l.waiting)) refl
   where
-    met : (b : Bool) → (found == scan_word (Waiting l.waiting)) ≡ b → HasRoomFor z.cells (remark_of z (Activity.Draw Draw.Settle) choice l found o h settled) g
-    met true e = rw e tt
-    met false e = rw e tt
-room_for z (Activity.Look (Look.Entry i)) choice l found o h settled g f = met (i == 0) refl
+    saw : (b : Bool) → (found == scan_word (Waiting l.waiting)) ≡ b → HasRoomFor z.cells (remark_of z (Activity.Draw Draw.Settle) choice l found o h settled) g
+    saw true e = rw e tt
+    saw false e = rw e tt
+room_for z (Activity.Look (Look.Entry i)) choice l found o h settled g f = saw (i == 0) refl
   where
-    met : (b : Bool) → (i == 0) ≡ b → HasRoomFor z.cells (remark_of z (Activity.Look (Look.Entry i)) choice l found o h settled) g
-    met true e = rw e tt
-    met false e = rw e tt
-room_for z (Activity.Put Put.Add) choice l found o h settled g f = met (has_room z (count_of found)) refl
+    saw : (b : Bool) → (i == 0) ≡ b → HasRoomFor z.cells (remark_of z (Activity.Look (Look.Entry i)) choice l found o h settled) g
+    saw true e = rw e tt
+    saw false e = rw e tt
+room_for z (Activity.Put Put.Add) choice l found o h settled g f = saw (has_room z (count_of found)) refl
   where
-    met : (b : Bool) → has_room z (count_of found) ≡ b → HasRoomFor z.cells (remark_of z (Activity.Put Put.Add) choice l found o h settled) g
-    met true e = rw e tt
-    met false e = rw e tt
+    saw : (b : Bool) → has_room z (count_of found) ≡ b → HasRoomFor z.cells (remark_of z (Activity.Put Put.Add) choice l found o h settled) g
+    saw true e = rw e tt
+    saw false e = rw e tt
 room_for z (Activity.Rebalance (Rebalance.Engage Engage.Clock)) choice l found o h settled g f = tt
 room_for z (Activity.Rebalance (Rebalance.Freeze Freeze.Count)) choice l found o h settled g f = tt
 room_for z _ choice l found o h settled g f = tt
@@ -204,11 +204,11 @@ can_offer rows choice l h = which l.activity choice h
     which : (a : Activity) (c : Choice) → CanBeginAt a c l → CanBeginAt a (offered rows c) l
     which Activity.Idle (Begin call) g = g
     which Activity.Idle Go g = tt
-    which Activity.Idle (Guess q) g = met (nat_lt q rows)
+    which Activity.Idle (Guess q) g = saw (nat_lt q rows)
       where
-        met : (b : Bool) → CanBeginAt Activity.Idle (if b then Guess q else Go) l
-        met true = tt
-        met false = tt
+        saw : (b : Bool) → CanBeginAt Activity.Idle (if b then Guess q else Go) l
+        saw true = tt
+        saw false = tt
     which Activity.Idle Stop g = tt
     which _ c g = tt
 

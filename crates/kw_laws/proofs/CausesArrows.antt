@@ -33,7 +33,7 @@ use Rattle.kw_world.specs.declared.rebalance.Afterwards.{Afterwards}
 use Rattle.kw_world.specs.declared.rebalance.Afterwards.TheVariants.{TryAgain, Refuse, MoveLeft}
 use Rattle.kw_world.specs.Answers.{answer_found}
 use Rattle.kw_world.specs.ScanTransitions.{answer_or_stopped}
-use Rattle.kw_world.specs.SeekTransitions.{at_infant, has_more, row_behind, given_back, give_back, pass_met, to_pass, to_seek, seek_met, seeking, seek_first_transition, with_row, take_row}
+use Rattle.kw_world.specs.SeekTransitions.{at_infant, has_more, row_behind, given_back, give_back, pass_seen, to_pass, to_seek, seek_seen, seeking, seek_first_transition, with_row, take_row}
 use Rattle.kw_world.specs.Sizes.{Sizes}
 use Rattle.kw_world.specs.Table.{transition}
 use Rattle.kw_world.specs.Transition.{Transition, Outcome, to, leave}
@@ -47,20 +47,20 @@ use Rattle.kw_core.specs.Events.{event, world}
 use Rattle.kw_core.specs.Run.{Run}
 use Rattle.kw_core.specs.Stages.{IsBusy}
 use Rattle.kw_core.specs.Words.{Words}
-use Rattle.kw_core.proofs.Arrows.{Arrow, NextLook, looks, lists, NextRest, rests, answers, ends_scan, scans_on, is_spent, meets_stamped, meets_neither, is_passed, helps, finds_stamped, finds_other, list_ends, key_above, rest_passed, gathers_rest, clears_scan, clock_is_spent, epoch_is_spent, takes_no_more, keeps_no_more, builds}
+use Rattle.kw_core.proofs.Arrows.{Arrow, NextLook, looks, lists, NextLeftOver, goes_to_left_over, answers, ends_scan, scans_on, is_spent, sees_stamped, sees_neither, is_gone_by, helps, finds_stamped, finds_other, list_ends, key_above, left_over_gone_by, gathers_left_over, clears_scan, clock_is_spent, epoch_is_spent, takes_no_more, keeps_no_more, builds}
 use Rattle.kw_core.proofs.Building.{Building, first_is_free, first_is_taken, first_is_retired, sought_is_free, sought_is_taken, sought_is_retired, pass_is_old, pass_is_young, frees_row, takes_row, loses_row, gives_one_back, gives_last_back, writes_first, writes_entry, writes_after, begins_before, takes_head_before, leads_on_marked, leads_nowhere, walks_past, is_marked_before, is_replaced}
 use Rattle.kw_core.proofs.NextBuilt.{tries_again, moves_left, NextBack, gives_back, has_none, NextNewRow, writes_row, has_written, NextNewCell, fills, empties, has_cells, NextNewEntry, writes_idle, has_entries, NextBefore, is_first, is_behind, was_done}
 use Rattle.kw_core.proofs.Happens.{Happens, found_at}
 use Rattle.kw_reads.specs.Inv.{Inv}
 use Rattle.kw_rows.specs.Events.{IsIn}
-use Rattle.kw_shape.specs.RowsIn.{state_met}
+use Rattle.kw_shape.specs.RowsIn.{state_seen}
 use Rattle.kw_shape.proofs.SoughtKeep.{retakes}
 use Rattle.kw_shape.specs.Shape.{IsKind, IsPutCall, IsScanCall, IsPairs}
-use Rattle.kw_laws.specs.Causes.{AskedAll, IsAsking, IsSpentBy, IsTrying, MayBeNamed, MetPass, FoundTaken, TookRow, asking, asking_pass, reclaiming, taking}
+use Rattle.kw_laws.specs.Causes.{AskedAll, IsAsking, IsSpentBy, IsTrying, MayBeNamed, SawPass, FoundTaken, TookRow, asking, asking_pass, reclaiming, taking}
 use Rattle.kw_laws.specs.Mirror.{Occurs, Acts}
 use Rattle.kw_laws.proofs.CausesLast.{IsSearching, asked_lasts, spent_lasts, trying_searches}
 use Rattle.kw_cells.proofs.Even.{starts_some}
-use Rattle.kw_laws.proofs.CausesSearch.{none_passed, in_front, in_last, in_was, IsBeforeSearch, Searching, searching_begun, searching_lasts, searching_number, AsksPasses, asks_lasts, asks_taken, asked_all, next_row}
+use Rattle.kw_laws.proofs.CausesSearch.{none_gone_by, in_front, in_last, in_was, IsBeforeSearch, Searching, searching_begun, searching_lasts, searching_number, AsksPassWords, asks_lasts, asks_taken, asked_all, next_row}
 use Rattle.kw_laws.proofs.Occurs.{occurs_now, occurs_was, occurs_within}
 
 -- what the events of the call, which began at this position, say of its seat
@@ -69,7 +69,7 @@ Since (Activity.Leave Spent) z o es s first call l = IsSpentBy z o es call s fir
 Since (Activity.Leave NoRows) z o es s first call l = AskedAll z o es s o.rows first (length es)
 Since (Activity.Rebalance (Rebalance.Seek Seek.GiveBack)) z o es s first call l = l.rebalance.afterwards ≡ Refuse → AskedAll z o es s o.rows first (length es)
 Since (Activity.Rebalance (Rebalance.Seek Seek.First)) z o es s first call l = IsBeforeSearch l.rebalance
-Since (Activity.Rebalance (Rebalance.Seek (Seek.Pass i))) z o es s first call l = (w : Searching z o es s first l.rebalance) × AsksPasses z o es s w.begun l.rebalance.sought l.rebalance.number
+Since (Activity.Rebalance (Rebalance.Seek (Seek.Pass i))) z o es s first call l = (w : Searching z o es s first l.rebalance) × AsksPassWords z o es s w.begun l.rebalance.sought l.rebalance.number
 Since (Activity.Rebalance (Rebalance.Seek _)) z o es s first call l = Searching z o es s first l.rebalance
 Since _ z o es s first call l = Unit {0}
 
@@ -87,17 +87,17 @@ since_lasts z o es e s first call l a w idle p = by a p
     search : Searching z o es s first l.rebalance → Searching z o (es ++ e ∷ []) s first l.rebalance
     search = searching_lasts z o es e s first l.rebalance w (λ u found op f g c. idle u found (Activity.Rebalance (Rebalance.Seek Seek.First)) op tt f g c) (λ q u found b op n f g d c. idle u found b op (trying_searches s q b op d) f g c)
 
-    passes : (t : Searching z o es s first l.rebalance) → AsksPasses z o es s t.begun l.rebalance.sought l.rebalance.number → AsksPasses z o (es ++ e ∷ []) s (search t).begun l.rebalance.sought l.rebalance.number
-    passes t q =
+    visits : (t : Searching z o es s first l.rebalance) → AsksPassWords z o es s t.begun l.rebalance.sought l.rebalance.number → AsksPassWords z o (es ++ e ∷ []) s (search t).begun l.rebalance.sought l.rebalance.number
+    visits t q =
         let same : (search t).begun ≡ t.begun = searching_begun z o es e s first l.rebalance w (λ u found op f g c. idle u found (Activity.Rebalance (Rebalance.Seek Seek.First)) op tt f g c) (λ d u found b op n f g x c. idle u found b op (trying_searches s d b op x) f g c) t in
-        subst (λ x. AsksPasses z o (es ++ e ∷ []) s x l.rebalance.sought l.rebalance.number) (sym same) (asks_lasts z o es e s t.begun l.rebalance.sought l.rebalance.number (λ u found b op f g d c. idle u found b op (trying_searches s l.rebalance.sought b op d) f g c) q)
+        subst (λ x. AsksPassWords z o (es ++ e ∷ []) s x l.rebalance.sought l.rebalance.number) (sym same) (asks_lasts z o es e s t.begun l.rebalance.sought l.rebalance.number (λ u found b op f g d c. idle u found b op (trying_searches s l.rebalance.sought b op d) f g c) q)
 
     by : (b : Activity) → Since b z o es s first call l → Since b z o (es ++ e ∷ []) s first call l
     by (Activity.Leave Spent) q = spent_lasts z o es e s (length es) (length (es ++ e ∷ [])) w call first q
     by (Activity.Leave NoRows) q = rows q
     by (Activity.Rebalance (Rebalance.Seek Seek.GiveBack)) q = λ x. rows (q x)
     by (Activity.Rebalance (Rebalance.Seek Seek.First)) q = q
-    by (Activity.Rebalance (Rebalance.Seek (Seek.Pass i))) q = (search q.0, passes q.0 q.1)
+    by (Activity.Rebalance (Rebalance.Seek (Seek.Pass i))) q = (search q.0, visits q.0 q.1)
     by (Activity.Rebalance (Rebalance.Seek _)) q = search q
     by _ q = tt
 
@@ -178,11 +178,11 @@ module _ (z : Sizes) (o : Opening) (es : List Event) (e : Event) (r r' : Run) (l
   found_leaves (Some value) k = tt
   found_leaves None k = tt
 
-  next_rest : (m k : Local) → NextRest m k → Then k
-  next_rest m k (rests x w) = tt
-  next_rest m k (answers w x) = found_leaves _ _
-  next_rest m k (ends_scan w x y) = tt
-  next_rest m k (scans_on q w x y n) = tt
+  next_left_over : (m k : Local) → NextLeftOver m k → Then k
+  next_left_over m k (goes_to_left_over x w) = tt
+  next_left_over m k (answers w x) = found_leaves _ _
+  next_left_over m k (ends_scan w x y) = tt
+  next_left_over m k (scans_on q w x y n) = tt
 
   cleared : (answer : Answer) (c : Choice) (k : Local) → IsPairs answer → Since (Activity.Leave (answer_or_stopped answer c)) z o (es ++ e ∷ []) e.seat first call k
   cleared Pairs (Begin x) k p = tt
@@ -251,16 +251,16 @@ module _ (z : Sizes) (o : Opening) (es : List Event) (e : Event) (r r' : Run) (l
   by_arrow b k is (is_spent w) x = spent_here (Activity.Draw Draw.Clock) _ is refl (asks_scan call (subst IsScanCall asked (kind_here (Activity.Draw Draw.Clock) is))) w
   by_arrow b k is (clock_is_spent w nd) x = spent_here (Activity.Rebalance (Rebalance.Engage Engage.Clock)) _ is refl (asks_clock call (subst IsPutCall asked (kind_here (Activity.Rebalance (Rebalance.Engage Engage.Clock)) is))) w
   by_arrow b k is (epoch_is_spent w nd) x = spent_here (Activity.Rebalance (Rebalance.Engage Engage.Epoch)) _ is refl (asks_epoch call (subst IsPutCall asked (kind_here (Activity.Rebalance (Rebalance.Engage Engage.Epoch)) is))) w
-  by_arrow b k is (meets_stamped j c version next f n) x = next_look _ next _ n
-  by_arrow b k is (meets_neither j next f n) x = next_look _ next _ n
-  by_arrow b k is (is_passed next f n) x = next_look _ next _ n
+  by_arrow b k is (sees_stamped j c version next f n) x = next_look _ next _ n
+  by_arrow b k is (sees_neither j next f n) x = next_look _ next _ n
+  by_arrow b k is (is_gone_by next f n) x = next_look _ next _ n
   by_arrow b k is (helps next f n) x = next_look _ next _ n
   by_arrow b k is (finds_stamped c version next f n) x = next_look _ next _ n
   by_arrow b k is (finds_other next f n) x = next_look _ next _ n
-  by_arrow b k is (list_ends next f n) x = next_rest _ k n
-  by_arrow b k is (key_above next f n) x = next_rest _ k n
-  by_arrow b k is (rest_passed next f n) x = next_rest _ k n
-  by_arrow b k is (gathers_rest next n) x = next_rest _ k n
+  by_arrow b k is (list_ends next f n) x = next_left_over _ k n
+  by_arrow b k is (key_above next f n) x = next_left_over _ k n
+  by_arrow b k is (left_over_gone_by next f n) x = next_left_over _ k n
+  by_arrow b k is (gathers_left_over next n) x = next_left_over _ k n
   by_arrow b k is (clears_scan answer) x = cleared answer choice _ (kind_here (Activity.EndScan answer) is).1
   by_arrow b k is (takes_no_more f n) x = record { sought = refl; asked = refl; taken = refl; some = starts_some z.built _ }
   by_arrow b k is (keeps_no_more n) x = record { sought = refl; asked = refl; taken = refl; some = starts_some z.built _ }
@@ -286,24 +286,24 @@ module _ (z : Sizes) (o : Opening) (es : List Event) (e : Event) (r r' : Run) (l
   abbrev IsTakenNow : ℕ → Type 0
   IsTakenNow q = (begun : ℕ) → begun ≤ length es → FoundTaken z o (es ++ e ∷ []) e.seat begun (length (es ++ e ∷ [])) q
 
-  -- one that is found in this state, and is retired, may be named in a pass that is on
-  abbrev IsPassedNow : Option State → Type 0
-  IsPassedNow x = (number : ℕ) → x ≡ Some (Retired number) → MayBeNamed z o (es ++ e ∷ []) e.seat (length es) (length (es ++ e ∷ [])) number l
+  -- one that is found in this state, and is retired, may be named in a visit that is on
+  abbrev IsGoneByNow : Option State → Type 0
+  IsGoneByNow x = (number : ℕ) → x ≡ Some (Retired number) → MayBeNamed z o (es ++ e ∷ []) e.seat (length es) (length (es ++ e ∷ [])) number l
 
-  taken_here : (b : Activity) (op : Operation) (q : ℕ) → a ≡ b → (transition z b e.seat (offered r.world.rows e.choice) l).operation ≡ op → IsTrying e.seat q b op → op.name ≡ name.State q → word z r.world (name.State q) ≢ state_word Free → IsPassedNow (state_of (word z r.world (name.State q))) → IsTakenNow q
-  taken_here b op q is f tries n free passed begun w = record { at = length es; after = w; before = longer; activity = b; op = op; tries = tries; found = word z r.world (name.State q); acts = acts_here b op (word z r.world (name.State q)) is f (ap (word z r.world) n); taken = free; passed = passed; final = λ u x c y g d t k. omega (arith, g, d, length-append es (e ∷ [])) }
+  taken_here : (b : Activity) (op : Operation) (q : ℕ) → a ≡ b → (transition z b e.seat (offered r.world.rows e.choice) l).operation ≡ op → IsTrying e.seat q b op → op.name ≡ name.State q → word z r.world (name.State q) ≢ state_word Free → IsGoneByNow (state_of (word z r.world (name.State q))) → IsTakenNow q
+  taken_here b op q is f tries n free gone_by begun w = record { at = length es; after = w; before = longer; activity = b; op = op; tries = tries; found = word z r.world (name.State q); acts = acts_here b op (word z r.world (name.State q)) is f (ap (word z r.world) n); taken = free; gone_by = gone_by; final = λ u x c y g d t k. omega (arith, g, d, length-append es (e ∷ [])) }
 
-  -- the row that it asks for is found retired, and the passes are looked at
-  asks_here : (b : Activity) (q number : ℕ) → a ≡ b → (transition z b e.seat (offered r.world.rows e.choice) l).operation ≡ asking q → IsTrying e.seat q b (asking q) → state_of (word z r.world (name.State q)) ≡ Some (Retired number) → (begun : ℕ) → begun ≤ length es → AsksPasses z o (es ++ e ∷ []) e.seat begun q number
+  -- the row that it asks for is found retired, and the visits are looked at
+  asks_here : (b : Activity) (q number : ℕ) → a ≡ b → (transition z b e.seat (offered r.world.rows e.choice) l).operation ≡ asking q → IsTrying e.seat q b (asking q) → state_of (word z r.world (name.State q)) ≡ Some (Retired number) → (begun : ℕ) → begun ≤ length es → AsksPassWords z o (es ++ e ∷ []) e.seat begun q number
   asks_here b q number is f tries retired begun w = record { at = length es; after = w; before = longer; activity = b; tries = tries; found = word z r.world (name.State q); retired = retired; acts = acts_here b (asking q) (word z r.world (name.State q)) is f refl; final = λ u x c y g d t k. omega (arith, g, d, length-append es (e ∷ [])) }
 
   -- rows that are given back for want of others
   gives_up : (k : Local) → AskedAll z o (es ++ e ∷ []) e.seat o.rows first (length (es ++ e ∷ [])) → Then (give_back Refuse k).local
-  gives_up k p = met (nat_lt 0 (length k.rebalance.taken))
+  gives_up k p = saw (nat_lt 0 (length k.rebalance.taken))
     where
-      met : (b : Bool) → Then (let x : Outcome = if b then to (Activity.Rebalance (Rebalance.Seek Seek.GiveBack)) (record k { rebalance = record k.rebalance { at = 0; afterwards = Refuse } }) else given_back Refuse k in x).local
-      met true = λ x. p
-      met false = no_rows_left k.tidies
+      saw : (b : Bool) → Then (let x : Outcome = if b then to (Activity.Rebalance (Rebalance.Seek Seek.GiveBack)) (record k { rebalance = record k.rebalance { at = 0; afterwards = Refuse } }) else given_back Refuse k in x).local
+      saw true = λ x. p
+      saw false = no_rows_left k.tidies
         where
           no_rows_left : (b : Bool) → Then (leave (if b then Done else NoRows) (without_rebalance k)).local
           no_rows_left true = tt
@@ -311,25 +311,25 @@ module _ (z : Sizes) (o : Opening) (es : List Event) (e : Event) (r r' : Run) (l
 
   -- the next row is asked, or all were
   goes_on : (k : Local) → (p : Searching z o (es ++ e ∷ []) e.seat first k.rebalance) → IsIn k.rebalance.taken k.rebalance.sought ⊎ FoundTaken z o (es ++ e ∷ []) e.seat p.begun (length (es ++ e ∷ [])) k.rebalance.sought → Then (to_seek o.rows k).local
-  goes_on k p here = met (nat_lt k.rebalance.asked o.rows) refl
+  goes_on k p here = saw (nat_lt k.rebalance.asked o.rows) refl
     where
-      met : (b : Bool) → nat_lt k.rebalance.asked o.rows ≡ b → Then (let x : Outcome = if b then to (Activity.Rebalance (Rebalance.Seek Seek.Next)) (record k { rebalance = record k.rebalance { sought = row_behind o.rows k.rebalance.sought; asked = k.rebalance.asked + 1 } }) else give_back Refuse k in x).local
-      met true y = let more : k.rebalance.asked < o.rows = grind (arith, nat_tests) in next_row z o (es ++ e ∷ []) e.seat first k.rebalance more p here
-      met false y = let all : o.rows ≤ k.rebalance.asked = grind (arith, nat_tests) in gives_up k (asked_all z o (es ++ e ∷ []) e.seat first k.rebalance all p here)
+      saw : (b : Bool) → nat_lt k.rebalance.asked o.rows ≡ b → Then (let x : Outcome = if b then to (Activity.Rebalance (Rebalance.Seek Seek.Next)) (record k { rebalance = record k.rebalance { sought = row_behind o.rows k.rebalance.sought; asked = k.rebalance.asked + 1 } }) else give_back Refuse k in x).local
+      saw true y = let more : k.rebalance.asked < o.rows = grind (arith, nat_tests) in next_row z o (es ++ e ∷ []) e.seat first k.rebalance more p here
+      saw false y = let all : o.rows ≤ k.rebalance.asked = grind (arith, nat_tests) in gives_up k (asked_all z o (es ++ e ∷ []) e.seat first k.rebalance all p here)
 
   -- the row was found taken now
   goes_past : (k : Local) → Searching z o (es ++ e ∷ []) e.seat first k.rebalance → IsTakenNow k.rebalance.sought → Then (to_seek o.rows k).local
   goes_past k p t = goes_on k p (inr (t p.begun (omega (arith, p.before, length-append es (e ∷ [])))))
 
-  -- a row whose state is met
-  meets : (k : Local) (x : Option State) → Searching z o (es ++ e ∷ []) e.seat first k.rebalance → (x ≢ Some Free → IsPassedNow x → IsTakenNow k.rebalance.sought) → ((number : ℕ) → x ≡ Some (Retired number) → (begun : ℕ) → begun ≤ length es → AsksPasses z o (es ++ e ∷ []) e.seat begun k.rebalance.sought number) → Then (seek_met o.rows x k).local
-  meets k (Some Free) p t asks = p
-  meets k (Some (Infant seat)) p t asks = goes_past k p (t (λ f. let y : Some (Infant seat) ≡ Some Free = f in cc) (λ n f. let y : Some (Infant seat) ≡ Some (Retired n) = f in absurd (cc)))
-  meets k (Some Normal) p t asks = goes_past k p (t (λ f. let y : Some Normal ≡ Some Free = f in cc) (λ n f. let y : Some Normal ≡ Some (Retired n) = f in absurd (cc)))
-  meets k (Some (Leader count)) p t asks = goes_past k p (t (λ f. let y : Some (Leader count) ≡ Some Free = f in cc) (λ n f. let y : Some (Leader count) ≡ Some (Retired n) = f in absurd (cc)))
-  meets k (Some (Follower leader)) p t asks = goes_past k p (t (λ f. let y : Some (Follower leader) ≡ Some Free = f in cc) (λ n f. let y : Some (Follower leader) ≡ Some (Retired n) = f in absurd (cc)))
-  meets k (Some (Retired number)) p t asks = (searching_number z o (es ++ e ∷ []) e.seat first number k.rebalance p, asks number refl p.begun (omega (arith, p.before, length-append es (e ∷ []))))
-  meets k None p t asks = goes_past k p (t (λ f. let y : None ≡ Some Free = f in cc) (λ n f. let y : None ≡ Some (Retired n) = f in absurd (cc)))
+  -- a row whose state is seen
+  reaches : (k : Local) (x : Option State) → Searching z o (es ++ e ∷ []) e.seat first k.rebalance → (x ≢ Some Free → IsGoneByNow x → IsTakenNow k.rebalance.sought) → ((number : ℕ) → x ≡ Some (Retired number) → (begun : ℕ) → begun ≤ length es → AsksPassWords z o (es ++ e ∷ []) e.seat begun k.rebalance.sought number) → Then (seek_seen o.rows x k).local
+  reaches k (Some Free) p t asks = p
+  reaches k (Some (Infant seat)) p t asks = goes_past k p (t (λ f. let y : Some (Infant seat) ≡ Some Free = f in cc) (λ n f. let y : Some (Infant seat) ≡ Some (Retired n) = f in absurd (cc)))
+  reaches k (Some Normal) p t asks = goes_past k p (t (λ f. let y : Some Normal ≡ Some Free = f in cc) (λ n f. let y : Some Normal ≡ Some (Retired n) = f in absurd (cc)))
+  reaches k (Some (Leader count)) p t asks = goes_past k p (t (λ f. let y : Some (Leader count) ≡ Some Free = f in cc) (λ n f. let y : Some (Leader count) ≡ Some (Retired n) = f in absurd (cc)))
+  reaches k (Some (Follower leader)) p t asks = goes_past k p (t (λ f. let y : Some (Follower leader) ≡ Some Free = f in cc) (λ n f. let y : Some (Follower leader) ≡ Some (Retired n) = f in absurd (cc)))
+  reaches k (Some (Retired number)) p t asks = (searching_number z o (es ++ e ∷ []) e.seat first number k.rebalance p, asks number refl p.begun (omega (arith, p.before, length-append es (e ∷ []))))
+  reaches k None p t asks = goes_past k p (t (λ f. let y : None ≡ Some Free = f in cc) (λ n f. let y : None ≡ Some (Retired n) = f in absurd (cc)))
 
   -- what the seat knows next, by its line
   next_is : (b : Activity) → a ≡ b → l' ≡ (followed o.rows (transition z b e.seat (offered r.world.rows e.choice) l) (found_at z (word z r.world) b e.seat (offered r.world.rows e.choice) l)).local
@@ -354,12 +354,12 @@ module _ (z : Sizes) (o : Opening) (es : List Event) (e : Event) (r r' : Run) (l
     alone = λ u found op x y t. omega (arith, x, y, length-append es (e ∷ []));
     took = λ d x. absurd (subst (λ xs. IsIn xs d) p.taken x);
     fewer = omega (arith, ap (λ (xs : List ℕ). length xs) p.taken, p.some);
-    passed = λ d x y. none_passed q d y;
+    gone_by = λ d x y. none_gone_by q d y;
   }
 
-  first_row : (q : ℕ) → a ≡ Activity.Rebalance (Rebalance.Seek Seek.First) → q < o.rows → (transition z (Activity.Rebalance (Rebalance.Seek Seek.First)) e.seat (offered r.world.rows e.choice) l).operation ≡ asking q → l' ≡ (seek_met o.rows (state_of (word z r.world (name.State q))) (seeking q l)).local → IsBeforeSearch l.rebalance → Then l'
+  first_row : (q : ℕ) → a ≡ Activity.Rebalance (Rebalance.Seek Seek.First) → q < o.rows → (transition z (Activity.Rebalance (Rebalance.Seek Seek.First)) e.seat (offered r.world.rows e.choice) l).operation ≡ asking q → l' ≡ (seek_seen o.rows (state_of (word z r.world (name.State q))) (seeking q l)).local → IsBeforeSearch l.rebalance → Then l'
   first_row q is w f n p =
-      then_so _ n (meets (seeking q l) (state_of (word z r.world (name.State q))) (begins_search q is w f p) (λ x. taken_here (Activity.Rebalance (Rebalance.Seek Seek.First)) (asking q) q is f refl refl (not_free _ _ refl x)) (λ number x. asks_here (Activity.Rebalance (Rebalance.Seek Seek.First)) q number is f refl x))
+      then_so _ n (reaches (seeking q l) (state_of (word z r.world (name.State q))) (begins_search q is w f p) (λ x. taken_here (Activity.Rebalance (Rebalance.Seek Seek.First)) (asking q) q is f refl refl (not_free _ _ refl x)) (λ number x. asks_here (Activity.Rebalance (Rebalance.Seek Seek.First)) q number is f refl x))
 
   at_first : a ≡ Activity.Rebalance (Rebalance.Seek Seek.First) → IsBeforeSearch l.rebalance → Then l'
   at_first is p = chosen (offered r.world.rows e.choice) refl h.offers
@@ -407,14 +407,14 @@ module _ (z : Sizes) (o : Opening) (es : List Event) (e : Event) (r r' : Run) (l
 
   at_seek : a ≡ Activity.Rebalance (Rebalance.Seek Seek.Next) → Searching z o es e.seat first l.rebalance → Then l'
   at_seek is p =
-      then_so _ (next_is (Activity.Rebalance (Rebalance.Seek Seek.Next)) is) (meets (seeking l.rebalance.sought l) (state_of (word z r.world (name.State l.rebalance.sought))) (still_asking is p)
+      then_so _ (next_is (Activity.Rebalance (Rebalance.Seek Seek.Next)) is) (reaches (seeking l.rebalance.sought l) (state_of (word z r.world (name.State l.rebalance.sought))) (still_asking is p)
       (λ x. taken_here (Activity.Rebalance (Rebalance.Seek Seek.Next)) (asking l.rebalance.sought) l.rebalance.sought is refl refl refl (not_free _ _ refl x)) (λ number x. asks_here (Activity.Rebalance (Rebalance.Seek Seek.Next)) l.rebalance.sought number is refl refl x))
 
-  -- The passes.
+  -- The visits.
 
-  -- a pass that is not younger than the number is met, and the row was found taken
-  meets_pass : (j epoch : ℕ) → a ≡ Activity.Rebalance (Rebalance.Seek (Seek.Pass j)) → pass_of_word (word z r.world (name.Pass j)) ≡ Some epoch → (at : ℕ) → at < length es → (number : ℕ) → epoch ≤ number → MetPass z o (es ++ e ∷ []) e.seat at (length (es ++ e ∷ [])) number
-  meets_pass j epoch is f at w number old = record {
+  -- a visit that is not younger than the number is seen, and the row was found taken
+  sees_pass : (j epoch : ℕ) → a ≡ Activity.Rebalance (Rebalance.Seek (Seek.Pass j)) → pass_of_word (word z r.world (name.Pass j)) ≡ Some epoch → (at : ℕ) → at < length es → (number : ℕ) → epoch ≤ number → SawPass z o (es ++ e ∷ []) e.seat at (length (es ++ e ∷ [])) number
+  sees_pass j epoch is f at w number old = record {
     at = length es;
     after = w;
     before = longer;
@@ -425,8 +425,8 @@ module _ (z : Sizes) (o : Opening) (es : List Event) (e : Event) (r r' : Run) (l
     old = old;
   }
 
-  at_pass : (j : ℕ) → a ≡ Activity.Rebalance (Rebalance.Seek (Seek.Pass j)) → (w : Searching z o es e.seat first l.rebalance) → AsksPasses z o es e.seat w.begun l.rebalance.sought l.rebalance.number → Then l'
-  at_pass j is w q = then_so _ (next_is (Activity.Rebalance (Rebalance.Seek (Seek.Pass j))) is) (passed (pass_of_word (word z r.world (name.Pass j))) refl)
+  at_pass : (j : ℕ) → a ≡ Activity.Rebalance (Rebalance.Seek (Seek.Pass j)) → (w : Searching z o es e.seat first l.rebalance) → AsksPassWords z o es e.seat w.begun l.rebalance.sought l.rebalance.number → Then l'
+  at_pass j is w q = then_so _ (next_is (Activity.Rebalance (Rebalance.Seek (Seek.Pass j))) is) (gone_by (pass_of_word (word z r.world (name.Pass j))) refl)
     where
       tries_none : (d : ℕ) → d ≢ l.rebalance.sought → IsTrying e.seat d (Activity.Rebalance (Rebalance.Seek (Seek.Pass j))) (asking_pass j) → ⊥
       tries_none d n f = f
@@ -440,23 +440,23 @@ module _ (z : Sizes) (o : Opening) (es : List Event) (e : Event) (r r' : Run) (l
       begun : search.begun ≡ w.begun
       begun = still_begun (Activity.Rebalance (Rebalance.Seek (Seek.Pass j))) (asking_pass j) is refl (λ x. cc) tries_none w
 
-      asks : AsksPasses z o (es ++ e ∷ []) e.seat search.begun l.rebalance.sought l.rebalance.number
-      asks = subst (λ x. AsksPasses z o (es ++ e ∷ []) e.seat x l.rebalance.sought l.rebalance.number) (sym begun) (asks_lasts z o es e e.seat w.begun l.rebalance.sought l.rebalance.number idle q)
+      asks : AsksPassWords z o (es ++ e ∷ []) e.seat search.begun l.rebalance.sought l.rebalance.number
+      asks = subst (λ x. AsksPassWords z o (es ++ e ∷ []) e.seat x l.rebalance.sought l.rebalance.number) (sym begun) (asks_lasts z o es e e.seat w.begun l.rebalance.sought l.rebalance.number idle q)
 
       looks_on : (b : Bool) → Then (let x : Outcome = if b then to (Activity.Rebalance (Rebalance.Seek (Seek.Pass (j + 1)))) l else to (Activity.Rebalance (Rebalance.Seek Seek.Reclaim)) l in x).local
       looks_on true = (search, asks)
       looks_on false = search
 
-      found : MetPass z o (es ++ e ∷ []) e.seat q.at (length (es ++ e ∷ [])) l.rebalance.number → FoundTaken z o (es ++ e ∷ []) e.seat search.begun (length (es ++ e ∷ [])) l.rebalance.sought
+      found : SawPass z o (es ++ e ∷ []) e.seat q.at (length (es ++ e ∷ [])) l.rebalance.number → FoundTaken z o (es ++ e ∷ []) e.seat search.begun (length (es ++ e ∷ [])) l.rebalance.sought
       found m = subst (λ x. FoundTaken z o (es ++ e ∷ []) e.seat x (length (es ++ e ∷ [])) l.rebalance.sought) (sym begun) (asks_taken z o es e e.seat w.begun l.rebalance.sought l.rebalance.number idle q m)
 
-      met : (epoch : ℕ) → pass_of_word (word z r.world (name.Pass j)) ≡ Some epoch → (b : Bool) → nat_le epoch l.rebalance.number ≡ b → Then (let x : Outcome = if b then to_seek o.rows l else to_pass z (j + 1) l in x).local
-      met epoch f true y = let old : epoch ≤ l.rebalance.number = grind (arith, nat_tests) in goes_on l search (inr (found (meets_pass j epoch is f q.at q.before l.rebalance.number old)))
-      met epoch f false y = looks_on (nat_lt (j + 1) z.seats)
+      saw : (epoch : ℕ) → pass_of_word (word z r.world (name.Pass j)) ≡ Some epoch → (b : Bool) → nat_le epoch l.rebalance.number ≡ b → Then (let x : Outcome = if b then to_seek o.rows l else to_pass z (j + 1) l in x).local
+      saw epoch f true y = let old : epoch ≤ l.rebalance.number = grind (arith, nat_tests) in goes_on l search (inr (found (sees_pass j epoch is f q.at q.before l.rebalance.number old)))
+      saw epoch f false y = looks_on (nat_lt (j + 1) z.seats)
 
-      passed : (x : Option ℕ) → pass_of_word (word z r.world (name.Pass j)) ≡ x → Then (pass_met z j o.rows x l).local
-      passed (Some epoch) f = met epoch f (nat_le epoch l.rebalance.number) refl
-      passed None f = looks_on (nat_lt (j + 1) z.seats)
+      gone_by : (x : Option ℕ) → pass_of_word (word z r.world (name.Pass j)) ≡ x → Then (pass_seen z j o.rows x l).local
+      gone_by (Some epoch) f = saw epoch f (nat_le epoch l.rebalance.number) refl
+      gone_by None f = looks_on (nat_lt (j + 1) z.seats)
 
   at_reclaim : a ≡ Activity.Rebalance (Rebalance.Seek Seek.Reclaim) → Searching z o es e.seat first l.rebalance → Then l'
   at_reclaim is p = then_so _ (next_is (Activity.Rebalance (Rebalance.Seek Seek.Reclaim)) is) (still (Activity.Rebalance (Rebalance.Seek Seek.Reclaim)) (reclaiming l.rebalance.sought l.rebalance.number) is refl (λ x. cc) (λ q n f. reclaims_one q n f) p)
@@ -480,7 +480,7 @@ module _ (z : Sizes) (o : Opening) (es : List Event) (e : Event) (r r' : Run) (l
     alone = same.alone;
     took = λ q x. took q (in_was l.rebalance.taken l.rebalance.sought q x);
     fewer = fewer;
-    passed = λ q w x. passed q (same.passed q w x);
+    gone_by = λ q w x. gone_by q (same.gone_by q w x);
   }
     where
       same : Searching z o (es ++ e ∷ []) e.seat first l.rebalance
@@ -493,30 +493,30 @@ module _ (z : Sizes) (o : Opening) (es : List Event) (e : Event) (r r' : Run) (l
       took q (inl x) = same.took q x
       took q (inr x) = subst (λ y. TookRow z o (es ++ e ∷ []) e.seat same.begun (length (es ++ e ∷ [])) y) (sym x) now
 
-      passed : (q : ℕ) → IsIn l.rebalance.taken q ⊎ FoundTaken z o (es ++ e ∷ []) e.seat same.begun (length (es ++ e ∷ [])) q → IsIn (with_row l).rebalance.taken q ⊎ FoundTaken z o (es ++ e ∷ []) e.seat same.begun (length (es ++ e ∷ [])) q
-      passed q (inl x) = inl (in_front l.rebalance.taken l.rebalance.sought q x)
-      passed q (inr x) = inr x
+      gone_by : (q : ℕ) → IsIn l.rebalance.taken q ⊎ FoundTaken z o (es ++ e ∷ []) e.seat same.begun (length (es ++ e ∷ [])) q → IsIn (with_row l).rebalance.taken q ⊎ FoundTaken z o (es ++ e ∷ []) e.seat same.begun (length (es ++ e ∷ [])) q
+      gone_by q (inl x) = inl (in_front l.rebalance.taken l.rebalance.sought q x)
+      gone_by q (inr x) = inr x
 
   at_take : a ≡ Activity.Rebalance (Rebalance.Seek Seek.Take) → Searching z o es e.seat first l.rebalance → Then l'
-  at_take is p = then_so _ (next_is (Activity.Rebalance (Rebalance.Seek Seek.Take)) is) (met (word z r.world (name.State l.rebalance.sought) == state_word Free) refl)
+  at_take is p = then_so _ (next_is (Activity.Rebalance (Rebalance.Seek Seek.Take)) is) (saw (word z r.world (name.State l.rebalance.sought) == state_word Free) refl)
     where
-      -- a row that is found retired there went in the pass of the seat
-      retaken : IsPassedNow (state_of (word z r.world (name.State l.rebalance.sought)))
-      retaken n f = inl (((i.shape.passes e.seat l h.knows).epoch (subst IsBusy (sym (h.activity ∙ is)) tt)).0, retakes z r i.shape e.seat n l h.knows (h.activity ∙ is) (ap state_met f))
+      -- a row that is found retired there went in the visit of the seat
+      retaken : IsGoneByNow (state_of (word z r.world (name.State l.rebalance.sought)))
+      retaken n f = inl (((i.shape.visits e.seat l h.knows).epoch (subst IsBusy (sym (h.activity ∙ is)) tt)).0, retakes z r i.shape e.seat n l h.knows (h.activity ∙ is) (ap state_seen f))
 
       more : word z r.world (name.State l.rebalance.sought) ≡ state_word Free → (b : Bool) → nat_lt (length (with_row l).rebalance.taken) (length l.rebalance.starts) ≡ b →
           Then (let x : Outcome = if b then to_seek o.rows (with_row l) else to (Activity.Rebalance (Rebalance.Write Write.Count)) (at_infant 0 (with_row l)) in x).local
       more won true y = let w : length (with_row l).rebalance.taken < length l.rebalance.starts = grind (arith, nat_tests) in goes_on (with_row l) (with_taken p is won w) (inl (in_last l.rebalance.taken l.rebalance.sought))
       more won false y = tt
 
-      met : (b : Bool) → (word z r.world (name.State l.rebalance.sought) == state_word Free) ≡ b → Then (take_row o.rows b l).local
-      met true y = let won : word z r.world (name.State l.rebalance.sought) ≡ state_word Free = grind (arith, nat_tests) in more won (nat_lt (length (with_row l).rebalance.taken) (length l.rebalance.starts)) refl
-      met false y =
+      saw : (b : Bool) → (word z r.world (name.State l.rebalance.sought) == state_word Free) ≡ b → Then (take_row o.rows b l).local
+      saw true y = let won : word z r.world (name.State l.rebalance.sought) ≡ state_word Free = grind (arith, nat_tests) in more won (nat_lt (length (with_row l).rebalance.taken) (length l.rebalance.starts)) refl
+      saw false y =
           let lost : word z r.world (name.State l.rebalance.sought) ≢ state_word Free = grind (arith, nat_tests) in
           goes_past l (still_taking is p) (taken_here (Activity.Rebalance (Rebalance.Seek Seek.Take)) (taking e.seat l.rebalance.sought) l.rebalance.sought is refl refl refl lost retaken)
 
   at_give_back : a ≡ Activity.Rebalance (Rebalance.Seek Seek.GiveBack) → (l.rebalance.afterwards ≡ Refuse → AskedAll z o es e.seat o.rows first (length es)) → Then l'
-  at_give_back is p = then_so _ (next_is (Activity.Rebalance (Rebalance.Seek Seek.GiveBack)) is) (met (has_more l))
+  at_give_back is p = then_so _ (next_is (Activity.Rebalance (Rebalance.Seek Seek.GiveBack)) is) (saw (has_more l))
     where
       later : l.rebalance.afterwards ≡ Refuse → AskedAll z o (es ++ e ∷ []) e.seat o.rows first (length (es ++ e ∷ []))
       later x =
@@ -537,9 +537,9 @@ module _ (z : Sizes) (o : Opening) (es : List Event) (e : Event) (r r' : Run) (l
           no_rows_left false = later x
       given MoveLeft x = tt
 
-      met : (b : Bool) → Then (let x : Outcome = if b then to (Activity.Rebalance (Rebalance.Seek Seek.GiveBack)) (at_infant (l.rebalance.at + 1) l) else given_back l.rebalance.afterwards l in x).local
-      met true = later
-      met false = given l.rebalance.afterwards refl
+      saw : (b : Bool) → Then (let x : Outcome = if b then to (Activity.Rebalance (Rebalance.Seek Seek.GiveBack)) (at_infant (l.rebalance.at + 1) l) else given_back l.rebalance.afterwards l in x).local
+      saw true = later
+      saw false = given l.rebalance.afterwards refl
 
   -- All of it.
 

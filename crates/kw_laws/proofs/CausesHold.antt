@@ -32,7 +32,7 @@ use Rattle.kw_core.specs.declared.history.End.{End}
 use Rattle.kw_core.specs.Run.{Run, goes_on, noted_by, start, history}
 use Rattle.kw_core.specs.Stages.{IsBusy, IsUnderway}
 use Rattle.kw_core.specs.Words.{Words}
-use Rattle.kw_core.proofs.Arrows.{Arrow, NextLook, looks, lists, NextRest, rests, answers, ends_scan, scans_on, begins, meets_stamped, meets_neither, is_passed, helps, finds_stamped, finds_other, list_ends, key_above, rest_passed, gathers_rest, leaves, builds}
+use Rattle.kw_core.proofs.Arrows.{Arrow, NextLook, looks, lists, NextLeftOver, goes_to_left_over, answers, ends_scan, scans_on, begins, sees_stamped, sees_neither, is_gone_by, helps, finds_stamped, finds_other, list_ends, key_above, left_over_gone_by, gathers_left_over, leaves, builds}
 use Rattle.kw_core.proofs.BuiltNext.{IsAfterBuilding, built_next}
 use Rattle.kw_core.proofs.Events.{may_come, valid-nil, valid-snoc}
 use Rattle.kw_core.proofs.Happens.{Happens, each_seat, found_at, happens, knows_next}
@@ -84,11 +84,11 @@ next_look_busy : (z : Sizes) (j : ℕ) (next : Activity) → NextLook z j next �
 next_look_busy z j next (looks w) = tt
 next_look_busy z j next (lists w) = tt
 
-next_rest_busy : (l k : Local) → NextRest l k → IsBusy k.activity
-next_rest_busy l k (rests m w) = tt
-next_rest_busy l k (answers w e) = tt
-next_rest_busy l k (ends_scan w e f) = tt
-next_rest_busy l k (scans_on q w e f g) = tt
+next_left_over_busy : (l k : Local) → NextLeftOver l k → IsBusy k.activity
+next_left_over_busy l k (goes_to_left_over m w) = tt
+next_left_over_busy l k (answers w e) = tt
+next_left_over_busy l k (ends_scan w e f) = tt
+next_left_over_busy l k (scans_on q w e f g) = tt
 
 after_busy : (b : Activity) → IsAfterBuilding b → IsBusy b
 after_busy Activity.Idle x = absurd x
@@ -98,16 +98,16 @@ arrow_busy : (z : Sizes) (v : Words) (s : ℕ) (choice : Choice) (l : Local) (a 
 arrow_busy z v s choice l a k (builds b next y t) u = after_busy k.activity (built_next z v choice l a k t)
 arrow_busy z v s choice l a k (begins call e b) u = absurd u
 arrow_busy z v s choice l a k (leaves answer) u = absurd u
-arrow_busy z v s choice l a k (meets_stamped j c version next f n) u = next_look_busy z _ next n
-arrow_busy z v s choice l a k (meets_neither j next f n) u = next_look_busy z _ next n
-arrow_busy z v s choice l a k (is_passed next f n) u = next_look_busy z _ next n
+arrow_busy z v s choice l a k (sees_stamped j c version next f n) u = next_look_busy z _ next n
+arrow_busy z v s choice l a k (sees_neither j next f n) u = next_look_busy z _ next n
+arrow_busy z v s choice l a k (is_gone_by next f n) u = next_look_busy z _ next n
 arrow_busy z v s choice l a k (helps next f n) u = next_look_busy z _ next n
 arrow_busy z v s choice l a k (finds_stamped c version next f n) u = next_look_busy z _ next n
 arrow_busy z v s choice l a k (finds_other next f n) u = next_look_busy z _ next n
-arrow_busy z v s choice l a k (list_ends next f n) u = next_rest_busy _ k n
-arrow_busy z v s choice l a k (key_above next f n) u = next_rest_busy _ k n
-arrow_busy z v s choice l a k (rest_passed next f n) u = next_rest_busy _ k n
-arrow_busy z v s choice l a k (gathers_rest next n) u = next_rest_busy _ k n
+arrow_busy z v s choice l a k (list_ends next f n) u = next_left_over_busy _ k n
+arrow_busy z v s choice l a k (key_above next f n) u = next_left_over_busy _ k n
+arrow_busy z v s choice l a k (left_over_gone_by next f n) u = next_left_over_busy _ k n
+arrow_busy z v s choice l a k (gathers_left_over next n) u = next_left_over_busy _ k n
 arrow_busy z v s choice l a k _ u = tt
 
 -- One more event.

@@ -72,7 +72,7 @@ module _ (z : Sizes) (o : Opening) (es : List Event) (e : Event) (s last last' :
     found = t.found;
     acts = acts_on z o es e t.at s t.activity t.op t.found t.acts;
     taken = t.taken;
-    passed = λ n f. named n (t.passed n f);
+    gone_by = λ n f. named n (t.gone_by n f);
     final = not_tried_lasts inside t.at q untried t.final;
   }
     where

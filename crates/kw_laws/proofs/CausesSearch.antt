@@ -15,7 +15,7 @@ use Rattle.kw_world.specs.declared.rebalance.Rebalancing.{Rebalancing}
 use Rattle.kw_world.specs.SeekTransitions.{row_behind}
 use Rattle.kw_world.specs.Sizes.{Sizes}
 use Rattle.kw_rows.specs.Events.{IsIn}
-use Rattle.kw_laws.specs.Causes.{IsTrying, NotTried, MetPass, FoundTaken, TookRow, NoSearch, AskedAll, asking}
+use Rattle.kw_laws.specs.Causes.{IsTrying, NotTried, SawPass, FoundTaken, TookRow, NoSearch, AskedAll, asking}
 use Rattle.kw_laws.specs.Mirror.{Acts}
 use Rattle.kw_laws.proofs.CausesLast.{acts_on, not_tried_lasts, taken_lasts, took_lasts, search_lasts}
 
@@ -26,16 +26,16 @@ abbrev pub IsTurn : ℕ → ℕ → ℕ → ℕ → Type 0
 IsTurn first sought asked rows = ((first ≤ sought) × (sought + 1 ≡ asked + first)) ⊎ ((sought < first) × (asked + first ≡ rows + sought + 1))
 
 -- the row was asked before the one that is sought
-abbrev pub IsPassed : ℕ → ℕ → ℕ → Type 0
-IsPassed first sought q = ((first ≤ q) × (q < sought)) ⊎ ((sought < first) × ((first ≤ q) ⊎ (q < sought)))
+abbrev pub IsGoneBy : ℕ → ℕ → ℕ → Type 0
+IsGoneBy first sought q = ((first ≤ q) × (q < sought)) ⊎ ((sought < first) × ((first ≤ q) ⊎ (q < sought)))
 
 -- where the row behind stands
 pub row_behind_is : (rows r : ℕ) → ((r + 1 < rows) × (row_behind rows r ≡ r + 1)) ⊎ ((rows ≤ r + 1) × (row_behind rows r ≡ 0))
-row_behind_is rows r = met (nat_lt (r + 1) rows) refl
+row_behind_is rows r = saw (nat_lt (r + 1) rows) refl
   where
-    met : (b : Bool) → nat_lt (r + 1) rows ≡ b → ((r + 1 < rows) × ((if b then r + 1 else 0) ≡ r + 1)) ⊎ ((rows ≤ r + 1) × ((if b then r + 1 else 0) ≡ 0))
-    met true e = inl (grind (arith, nat_tests), refl)
-    met false e = inr (grind (arith, nat_tests), refl)
+    saw : (b : Bool) → nat_lt (r + 1) rows ≡ b → ((r + 1 < rows) × ((if b then r + 1 else 0) ≡ r + 1)) ⊎ ((rows ≤ r + 1) × ((if b then r + 1 else 0) ≡ 0))
+    saw true e = inl (grind (arith, nat_tests), refl)
+    saw false e = inr (grind (arith, nat_tests), refl)
 
 module _ (first sought asked rows : ℕ) where
   -- the next row is asked, and is one of the table
@@ -49,10 +49,10 @@ module _ (first sought asked rows : ℕ) where
       which (inr x) (inr y) = absurd (omega (arith, x.0, y.0, f))
 
   -- the rows that were asked before it were so before, or the row that was sought is the one
-  pub passed_next : first < rows → sought < rows → asked < rows → IsTurn first sought asked rows → (q : ℕ) → q < rows → IsPassed first (row_behind rows sought) q → IsPassed first sought q ⊎ (q ≡ sought)
-  passed_next f g h t q w p = which t (row_behind_is rows sought) p (cases_lt q sought)
+  pub gone_by_next : first < rows → sought < rows → asked < rows → IsTurn first sought asked rows → (q : ℕ) → q < rows → IsGoneBy first (row_behind rows sought) q → IsGoneBy first sought q ⊎ (q ≡ sought)
+  gone_by_next f g h t q w p = which t (row_behind_is rows sought) p (cases_lt q sought)
     where
-      which : IsTurn first sought asked rows → ((sought + 1 < rows) × (row_behind rows sought ≡ sought + 1)) ⊎ ((rows ≤ sought + 1) × (row_behind rows sought ≡ 0)) → IsPassed first (row_behind rows sought) q → (q < sought) ⊎ (sought ≤ q) → IsPassed first sought q ⊎ (q ≡ sought)
+      which : IsTurn first sought asked rows → ((sought + 1 < rows) × (row_behind rows sought ≡ sought + 1)) ⊎ ((rows ≤ sought + 1) × (row_behind rows sought ≡ 0)) → IsGoneBy first (row_behind rows sought) q → (q < sought) ⊎ (sought ≤ q) → IsGoneBy first sought q ⊎ (q ≡ sought)
       which (inl x) (inl y) (inl c) (inl d) = inl (inl (c.0, d))
       which (inl x) (inl y) (inl c) (inr d) = inr (omega (arith, c.1, y.1, d))
       which (inl x) (inl y) (inr c) d = absurd (omega (arith, c.0, y.1, x.0))
@@ -67,10 +67,10 @@ module _ (first sought asked rows : ℕ) where
       which (inr x) (inr y) c d = absurd (omega (arith, x.0, y.0, f))
 
   -- once all are asked, each row was asked before the row that is sought, or is that one
-  pub passed_all : sought < rows → rows ≤ asked → IsTurn first sought asked rows → (q : ℕ) → q < rows → IsPassed first sought q ⊎ (q ≡ sought)
-  passed_all g h t q w = which t (cases_lt q sought) (cases_lt q first)
+  pub gone_by_all : sought < rows → rows ≤ asked → IsTurn first sought asked rows → (q : ℕ) → q < rows → IsGoneBy first sought q ⊎ (q ≡ sought)
+  gone_by_all g h t q w = which t (cases_lt q sought) (cases_lt q first)
     where
-      which : IsTurn first sought asked rows → (q < sought) ⊎ (sought ≤ q) → (q < first) ⊎ (first ≤ q) → IsPassed first sought q ⊎ (q ≡ sought)
+      which : IsTurn first sought asked rows → (q < sought) ⊎ (sought ≤ q) → (q < first) ⊎ (first ≤ q) → IsGoneBy first sought q ⊎ (q ≡ sought)
       which (inl x) (inl d) k = inl (inl (omega (arith, x.1, h, g), d))
       which (inl x) (inr d) k = inr (omega (arith, x.1, h, g, w, d))
       which (inr x) (inl d) k = inl (inr (x.0, inr d))
@@ -78,15 +78,15 @@ module _ (first sought asked rows : ℕ) where
       which (inr x) (inr d) (inr k) = inl (inr (x.0, inl k))
 
 -- the row that is sought was not asked before
-pub passed_other : (first sought q : ℕ) → IsPassed first sought q → q ≢ sought
-passed_other first sought q (inl x) e = omega (arith, x.1, e)
-passed_other first sought q (inr (x, inl y)) e = omega (arith, x, y, e)
-passed_other first sought q (inr (x, inr y)) e = omega (arith, y, e)
+pub gone_by_other : (first sought q : ℕ) → IsGoneBy first sought q → q ≢ sought
+gone_by_other first sought q (inl x) e = omega (arith, x.1, e)
+gone_by_other first sought q (inr (x, inl y)) e = omega (arith, x, y, e)
+gone_by_other first sought q (inr (x, inr y)) e = omega (arith, y, e)
 
 -- no row was asked before the first one
-pub none_passed : {A : Type 0} (first q : ℕ) → IsPassed first first q → A
-none_passed first q (inl x) = absurd (omega (arith, x.0, x.1))
-none_passed first q (inr x) = absurd (omega (arith, x.0))
+pub none_gone_by : {A : Type 0} (first q : ℕ) → IsGoneBy first first q → A
+none_gone_by first q (inl x) = absurd (omega (arith, x.0, x.1))
+none_gone_by first q (inr x) = absurd (omega (arith, x.0))
 
 -- Lists of rows.
 
@@ -134,7 +134,7 @@ pub record Searching (z : Sizes) (o : Opening) (es : List Event) (s first : ℕ)
   pub alone : NoSearch z o es s begun (length es)
   pub took : (q : ℕ) → IsIn b.taken q → TookRow z o es s begun (length es) q
   pub fewer : length b.taken < length b.starts
-  pub passed : (q : ℕ) → q < o.rows → IsPassed row b.sought q → IsIn b.taken q ⊎ FoundTaken z o es s begun (length es) q
+  pub gone_by : (q : ℕ) → q < o.rows → IsGoneBy row b.sought q → IsIn b.taken q ⊎ FoundTaken z o es s begun (length es) q
 
 -- one more event, by which the seat begins no search, and asks for no row but the one that is
 -- sought
@@ -154,7 +154,7 @@ searching_lasts z o es e s first b longer quiet untried t = record {
   alone = search_lasts z o es e s (length es) (length (es ++ e ∷ [])) longer inside t.begun quiet t.alone;
   took = λ q x. took_lasts z o es e s (length es) (length (es ++ e ∷ [])) longer t.begun q (t.took q x);
   fewer = t.fewer;
-  passed = λ q w x. either q (passed_other t.row b.sought q x) (t.passed q w x);
+  gone_by = λ q w x. either q (gone_by_other t.row b.sought q x) (t.gone_by q w x);
 }
   where
     inside : length es ≤ length es
@@ -172,13 +172,13 @@ searching_begun z o es e s first b w quiet untried t = refl
 
 -- the number of a retired row that is asked for says nothing of the search
 abbrev pub searching_number : (z : Sizes) (o : Opening) (es : List Event) (s first number : ℕ) (b : Rebalancing) → Searching z o es s first b → Searching z o es s first (record b { number = number })
-searching_number z o es s first number b t = record { begun = t.begun; after = t.after; before = t.before; row = t.row; found = t.found; begins = t.begins; starts = t.starts; within = t.within; sought = t.sought; turn = t.turn; alone = t.alone; took = t.took; fewer = t.fewer; passed = t.passed }
+searching_number z o es s first number b t = record { begun = t.begun; after = t.after; before = t.before; row = t.row; found = t.found; begins = t.begins; starts = t.starts; within = t.within; sought = t.sought; turn = t.turn; alone = t.alone; took = t.took; fewer = t.fewer; gone_by = t.gone_by }
 
--- The passes.
+-- The visits.
 
 -- the seat found the row that it asks for retired with this number, since its search began, and has
--- asked for it no more: it looks at the passes
-pub record AsksPasses (z : Sizes) (o : Opening) (es : List Event) (s begun row number : ℕ) : Type 0 where
+-- asked for it no more: it looks at the visits
+pub record AsksPassWords (z : Sizes) (o : Opening) (es : List Event) (s begun row number : ℕ) : Type 0 where
   pub at : ℕ
   pub after : begun ≤ at
   pub before : at < length es
@@ -190,19 +190,19 @@ pub record AsksPasses (z : Sizes) (o : Opening) (es : List Event) (s begun row n
   pub final : NotTried z o es s at (length es) row
 
 -- one more event, by which the seat does not ask for the row
-module _ (z : Sizes) (o : Opening) (es : List Event) (e : Event) (s begun row number : ℕ) (untried : (u found : ℕ) (a : Activity) (op : Operation) → length es ≤ u → u < length (es ++ e ∷ []) → IsTrying s row a op → Acts z o (es ++ e ∷ []) u s a op found → ⊥) (t : AsksPasses z o es s begun row number) where
+module _ (z : Sizes) (o : Opening) (es : List Event) (e : Event) (s begun row number : ℕ) (untried : (u found : ℕ) (a : Activity) (op : Operation) → length es ≤ u → u < length (es ++ e ∷ []) → IsTrying s row a op → Acts z o (es ++ e ∷ []) u s a op found → ⊥) (t : AsksPassWords z o es s begun row number) where
   longer : length es ≤ length (es ++ e ∷ [])
   longer = omega (arith, length-append es (e ∷ []))
 
   final : NotTried z o (es ++ e ∷ []) s t.at (length (es ++ e ∷ [])) row
   final = let inside : length es ≤ length es = omega arith in not_tried_lasts z o es e s (length es) (length (es ++ e ∷ [])) longer inside t.at row untried t.final
 
-  -- the passes are looked at still
-  pub asks_lasts : AsksPasses z o (es ++ e ∷ []) s begun row number
+  -- the visits are looked at still
+  pub asks_lasts : AsksPassWords z o (es ++ e ∷ []) s begun row number
   asks_lasts = record { at = t.at; after = t.after; before = omega (arith, t.before, longer); activity = t.activity; tries = t.tries; found = t.found; retired = t.retired; acts = acts_on z o es e t.at s _ _ t.found t.acts; final = final }
 
-  -- or a pass is met that is not younger than the number: so the row was found taken
-  pub asks_taken : MetPass z o (es ++ e ∷ []) s t.at (length (es ++ e ∷ [])) number → FoundTaken z o (es ++ e ∷ []) s begun (length (es ++ e ∷ [])) row
+  -- or a visit is seen that is not younger than the number: so the row was found taken
+  pub asks_taken : SawPass z o (es ++ e ∷ []) s t.at (length (es ++ e ∷ [])) number → FoundTaken z o (es ++ e ∷ []) s begun (length (es ++ e ∷ [])) row
   asks_taken m = record {
     at = t.at;
     after = t.after;
@@ -213,7 +213,7 @@ module _ (z : Sizes) (o : Opening) (es : List Event) (e : Event) (s begun row nu
     found = t.found;
     acts = acts_on z o es e t.at s _ _ t.found t.acts;
     taken = not_free;
-    passed = λ n f. inr (subst (MetPass z o (es ++ e ∷ []) s t.at (length (es ++ e ∷ []))) (same_number n f) m);
+    gone_by = λ n f. inr (subst (SawPass z o (es ++ e ∷ []) s t.at (length (es ++ e ∷ []))) (same_number n f) m);
     final = final;
   }
     where
@@ -236,11 +236,11 @@ asked_all z o es s first b all t here = record {
   taken = b.taken;
   took = t.took;
   fewer = omega (arith, t.fewer, ap (λ xs. length xs) t.starts);
-  asked = λ q w. which q w (passed_all t.row b.sought b.asked o.rows t.sought all t.turn q w);
+  asked = λ q w. which q w (gone_by_all t.row b.sought b.asked o.rows t.sought all t.turn q w);
 }
   where
-    which : (q : ℕ) → q < o.rows → IsPassed t.row b.sought q ⊎ (q ≡ b.sought) → IsIn b.taken q ⊎ FoundTaken z o es s t.begun (length es) q
-    which q w (inl x) = t.passed q w x
+    which : (q : ℕ) → q < o.rows → IsGoneBy t.row b.sought q ⊎ (q ≡ b.sought) → IsIn b.taken q ⊎ FoundTaken z o es s t.begun (length es) q
+    which q w (inl x) = t.gone_by q w x
     which q w (inr x) = subst (λ y. IsIn b.taken y ⊎ FoundTaken z o es s t.begun (length es) y) (sym x) here
 
 -- and one that has not goes on to the next row
@@ -261,9 +261,9 @@ next_row z o es s first b more t here =
       alone = t.alone;
       took = t.took;
       fewer = t.fewer;
-      passed = λ q w x. which q w (passed_next t.row b.sought b.asked o.rows t.within t.sought more t.turn q w x);
+      gone_by = λ q w x. which q w (gone_by_next t.row b.sought b.asked o.rows t.within t.sought more t.turn q w x);
     }
   where
-    which : (q : ℕ) → q < o.rows → IsPassed t.row b.sought q ⊎ (q ≡ b.sought) → IsIn b.taken q ⊎ FoundTaken z o es s t.begun (length es) q
-    which q w (inl x) = t.passed q w x
+    which : (q : ℕ) → q < o.rows → IsGoneBy t.row b.sought q ⊎ (q ≡ b.sought) → IsIn b.taken q ⊎ FoundTaken z o es s t.begun (length es) q
+    which q w (inl x) = t.gone_by q w x
     which q w (inr x) = subst (λ y. IsIn b.taken y ⊎ FoundTaken z o es s t.begun (length es) y) (sym x) here

@@ -1,4 +1,4 @@
--- The example keeps the laws: they can be met.
+-- The example keeps the laws: they can be kept.
 use Rattle.std.proofs.Common.{ℕ, zero, suc, ◌≡◌, ◌+◌, ◌<◌, ◌≤◌, ◌⊎◌, inl, inr, List, [], ◌∷◌, Option, Some, None, true, false, arith, sym, ap, subst, slice_get, refl}
 use Rattle.std.proofs.lemmas.Option.{same_Some}
 use Rattle.std.proofs.lemmas.Bool.{cases_eq, ne_eqb}

@@ -31,17 +31,17 @@ version_in_range z r i p s =
 
 -- the entry of an attempt has its cell, or is frozen
 entry_has_cell : (e : Attempt) (cell w : ℕ) → e.cell ≡ cell → cell < MOST_CELLS → (e.is_stamped ≡ true → IsVersion e.version) → w ≡ entry_of e → HasCellOrFrozen cell (pend_of w)
-entry_has_cell e cell w c o f h = met e.is_lost refl e.is_stamped refl
+entry_has_cell e cell w c o f h = saw e.is_lost refl e.is_stamped refl
   where
-    met : (b : Bool) → e.is_lost ≡ b → (d : Bool) → e.is_stamped ≡ d → HasCellOrFrozen cell (pend_of w)
-    met true u d y =
+    saw : (b : Bool) → e.is_lost ≡ b → (d : Bool) → e.is_stamped ≡ d → HasCellOrFrozen cell (pend_of w)
+    saw true u d y =
         let x : w ≡ pend_word Frozen = rw u at h in
         rw (x, pend_of-Frozen) tt
-    met false u true y =
+    saw false u true y =
         let x : w ≡ pend_word (Stamped e.cell e.version) = rw (u, y) at h in
         let g = f y in
         rw (x, pend_of-Stamped e.cell e.version (omega (arith, c, o)) g.0 g.1) c
-    met false u false y =
+    saw false u false y =
         let x : w ≡ pend_word (Pending e.cell) = rw (u, y) at h in
         rw (x, pend_of-Pending e.cell (omega (arith, c, o))) c
 

@@ -23,7 +23,7 @@ use Rattle.kw_core.specs.Run.{Origins, Run, history}
 use Rattle.kw_core.specs.Words.{least_in}
 use Rattle.kw_rows.specs.Ledger.{IsFresh}
 use Rattle.kw_rows.proofs.Named.{above_least, held_by}
-use Rattle.kw_shape.specs.RowsIn.{rows_in, state_met}
+use Rattle.kw_shape.specs.RowsIn.{rows_in, state_seen}
 use Rattle.kw_shape.specs.Shape.{Walks}
 use Rattle.kw_shape.proofs.LinkedRows.{fresh_linked, holds_wanted}
 use Rattle.kw_core.specs.Stages.{IsAtRow, IsAtListed, IsKeeping, IsWaiting, IsInserting, IsUnlisted, IsMeeting}
@@ -36,7 +36,7 @@ use Rattle.kw_puts.specs.Lists.{list_in, Inserts, WalksList}
 use Rattle.kw_puts.specs.Positions.{IsHelped}
 use Rattle.kw_puts.proofs.ListWords.{link_is}
 use Rattle.kw_reads.specs.Readers.{IsDue, ReadsList, IsCopyOf, AreCopies}
-use Rattle.kw_reads.proofs.WalksKeep.{has_met}
+use Rattle.kw_reads.proofs.WalksKeep.{has_reached}
 use Rattle.kw_reads.specs.Replies.{RisesBelow}
 use Rattle.kw_reads.specs.Inv.{Inv}
 use Rattle.kw_laws.specs.Laws.{IsWaitingOrDrawn, IsGathered, KeepsLaws}
@@ -45,7 +45,7 @@ use Rattle.kw_reads.proofs.Keeps.{inv_holds}
 use Rattle.kw_shape.proofs.Walking.{past}
 use Rattle.kw_shape.proofs.SoughtKeep.{retakes}
 use Rattle.kw_laws.proofs.FoundEntries.{finds_idle, finds_own}
-use Rattle.kw_laws.proofs.BeforeRows.{EndsBefore, PassesFull, ends_before_holds, passes_full_holds}
+use Rattle.kw_laws.proofs.BeforeRows.{EndsBefore, GoesByFull, ends_before_holds, goes_by_full_holds}
 use Rattle.kw_laws.proofs.ShownRows.{kept_shown, of_puts, shown}
 use Rattle.kw_laws.proofs.SoloStates.{AreStated, stated_holds}
 use Rattle.kw_laws.proofs.TakenRows.{is_taken}
@@ -77,45 +77,45 @@ beside h o q l (c ∷ cells) (x ∷ ids) p a n = which (λ m. beside h o q l cel
     which f zero w e = (c, (0, omega arith, refl), subst (IsCopyOf h o q l.call c) e a.0)
     which f (suc k) w e = further (f (k, omega (arith, w), e))
 
--- a put that has met a cell stands at a link before it
+-- a put that has reached a cell stands at a link before it
 meets_behind : (z : Sizes) (row : Row) (a : Activity) (l : Local) → IsMeeting a → WalksList z.cells row a l → IsBehind row l.link l.place
 meets_behind z row (Activity.Insert Insert.Key) l m w = w.0
 meets_behind z row (Activity.Insert Insert.Version) l m w = w.0
 meets_behind z row _ l m w = absurd m
 
--- a put whose own cell is not listed has met fewer cells than there are
+-- a put whose own cell is not listed has reached fewer cells than there are
 walked_less : (z : Sizes) (row : Row) (l : Local) → row.listed l.cell ≡ false → l.cell < z.cells → IsWalking z.cells row l.link l.walked → l.walked < z.cells
 walked_less z row l u o w = walked_fewer z.cells row l.link l.walked l.cell o u w
 
 -- and has lost fewer exchanges
 lost_less : (z : Sizes) (row : Row) (a : Activity) (l : Local) → IsInserting a → l.cell < z.cells → Inserts z.cells row a l → l.lost < z.cells
 lost_less z row (Activity.Insert Insert.Link) l m o i = put_lost z.cells row l.cell l.lost l.link o i
-lost_less z row (Activity.Insert Insert.Exchange) l m o i = put_lost z.cells row l.cell l.lost l.link o i.met.from
+lost_less z row (Activity.Insert Insert.Exchange) l m o i = put_lost z.cells row l.cell l.lost l.link o i.saw.from
 lost_less z row (Activity.Insert _) l m o i = put_lost z.cells row l.cell l.lost l.link o i.0.from
 lost_less z row _ l m o i = absurd m
 
--- a reader that has met a cell stands at a link before it
+-- a reader that has reached a cell stands at a link before it
 reader_behind : (z : Sizes) (row : Row) (a : Activity) (l : Local) → IsAtListed a → ReadsList z.cells row a l → IsBehind row l.link l.place
-reader_behind z row a l m w = (has_met z.cells row a l m w).behind
+reader_behind z row a l m w = (has_reached z.cells row a l m w).behind
 
--- a reader at a link that leads to a cell has met fewer cells than there are
+-- a reader at a link that leads to a cell has reached fewer cells than there are
 reader_less : (z : Sizes) (row : Row) (l : Local) (c : ℕ) → IsSound z.cells row → row.link l.link ≡ Some c → IsWalking z.cells row l.link l.walked → l.walked < z.cells
 reader_less z row l c s e w =
     let next = at_next row l.link (row.link l.link) c (s.list l.link w.on) e in
     omega (arith, walked_most z.cells row (Some c) (l.walked + 1) (walk_goes_on z.cells row l.link l.walked c (s.below c next.listed) next.listed next.behind w))
 
 -- the laws of a run in which all of it holds
-laws_from : (z : Sizes) (r : Run) → Inv z r → AreStated z r → EndsBefore z r → PassesFull z r → KeepsLaws z r
-laws_from z r i stated ends passes = record {
+laws_from : (z : Sizes) (r : Run) → Inv z r → AreStated z r → EndsBefore z r → GoesByFull z r → KeepsLaws z r
+laws_from z r i stated ends visits = record {
   sane = i.shape.sane;
   rows = i.shape.rows;
   beyond = i.shape.beyond;
-  passes = i.shape.passes;
+  visits = i.shape.visits;
   numbers = i.shape.numbers;
-  retakes = λ t l g a n e. retakes z r i.shape t n l g a (ap state_met e);
+  retakes = λ t l g a n e. retakes z r i.shape t n l g a (ap state_seen e);
   stated = stated;
   ends_before = ends;
-  passes_full = passes;
+  goes_by_full = visits;
   links = λ q n. i.shape.rows.closed.rises q n;
   walks = i.shape.walks;
   climbs = λ t l g a. let x = subst (λ q. Walks (word z r.world) r.ledger.rows t q l) a (i.shape.walks t l g) in omega (arith, x.lower tt, above l.row (least_in (word z r.world) l.candidate) t x.on.0 x.on.3);
@@ -131,10 +131,10 @@ laws_from z r i stated ends passes = record {
   announces = finds_idle z r i;
   stamps = λ t l g a. finds_own z r i t l g (subst IsPublished (sym a) tt);
   settles = settles;
-  meets = λ t l g m. meets_behind z _ l.activity l m (i.lists.walks t l g);
+  reaches = λ t l g m. meets_behind z _ l.activity l m (i.lists.walks t l g);
   walked = λ t l g a. walked_less z _ l ((i.lists.own t l g).unlisted (subst IsUnlisted (sym a) tt)) (i.shape.sane.locals t l g).ranges.cell (subst (λ q. WalksList z.cells (list_in (word z r.world) r.listed l.row) q l) a (i.lists.walks t l g));
   lost = λ t l g a. lost_less z _ l.activity l a (i.shape.sane.locals t l g).ranges.cell (i.lists.inserts t l g);
-  reader_meets = λ t l g m. reader_behind z _ l.activity l m (i.readers.walks t l g);
+  reader_reaches = λ t l g m. reader_behind z _ l.activity l m (i.readers.walks t l g);
   reads_on = λ t l g a c e. reader_less z _ l c (i.lists.leads l.row (fresh_linked r.ledger.rows t l.row ((i.shape.walks t l g).at (subst IsAtRow (sym a) tt)).fresh)) (link_is (word z r.world) l.row l.link ∙ e) (subst (λ q. ReadsList z.cells (list_in (word z r.world) r.listed l.row) q l) a (i.readers.walks t l g));
   stamped = λ p h. let a = i.history.laws.attempted p (in_range r.history p h) in record { announced = a.load h; load = a.at h; found = i.history.laws.loaded p h };
   given = λ p w n. (i.puts.given p w n).origin;
@@ -169,4 +169,4 @@ laws_from z r i stated ends passes = record {
 pub laws_hold : (z : Sizes) (o : Opening) → IsOpening z o → (es : List Event) → is_valid z o es ≡ true → KeepsLaws z (history z o es)
 laws_hold z o i es v =
     let all = inv_holds z o i es v in
-    laws_from z (history z o es) all (stated_holds z o i es v) (ends_before_holds z o i es v) (passes_full_holds z o i es v)
+    laws_from z (history z o es) all (stated_holds z o i es v) (ends_before_holds z o i es v) (goes_by_full_holds z o i es v)

@@ -32,6 +32,6 @@ pub mod CausesArrows
 pub mod CausesHold
 pub mod Acting
 pub mod NamedRows
-pub mod PassesOver
-pub mod PassesAlong
+pub mod VisitsOver
+pub mod VisitsAlong
 pub mod ReachHolds

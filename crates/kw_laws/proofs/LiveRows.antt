@@ -1,6 +1,6 @@
--- The row at which a seat has arrived was met from Head along links at some position since it began
--- its pass, or drew: it is so now, or was so where the row went out of the list, which was no
--- sooner.
+-- The row at which a seat has arrived was reached from Head along links at some position since it
+-- began its visit, or drew: it is so now, or was so where the row went out of the list, which was
+-- no sooner.
 use Rattle.std.proofs.Common.{ℕ, zero, suc, ◌≡◌, ◌≢◌, ◌⊎◌, inl, inr, ◌<◌, ◌≤◌, true, false, Option, Some, None, List, [], ◌∷◌, ◌++◌, arith, refl, sym, ◌∙◌, ap, subst, length, slice_get, length-append}
 use Rattle.std.specs.Prelude.{take}
 use Rattle.std.proofs.lemmas.List.{take-append-le, take_all}
@@ -32,14 +32,14 @@ use Rattle.kw_core.proofs.Events.{may_come, world-nil, world-snoc}
 use Rattle.kw_core.proofs.Happens.{Happens, each_seat, happens, knows_next, knows_other}
 use Rattle.kw_core.proofs.Runs.{goes_on-moved, goes_on-world}
 use Rattle.kw_rows.specs.Ledger.{Dead, Fate, Free, IsDead, Live}
-use Rattle.kw_shape.proofs.LinkedRows.{live_met, GoesNow, dead_before}
-use Rattle.kw_shape.specs.MetRows.{IsMet}
+use Rattle.kw_shape.proofs.LinkedRows.{live_reached, GoesNow, dead_before}
+use Rattle.kw_shape.specs.ReachedRows.{IsReached}
 use Rattle.kw_shape.specs.Shape.{IsKind, IsPutCall, Walks}
 use Rattle.kw_reads.specs.Contents.{IsLater, IsSince}
 use Rattle.kw_reads.specs.Inv.{Inv}
 use Rattle.kw_reads.proofs.Keeps.{inv_goes_on}
 use Rattle.kw_reads.proofs.Opens.{inv_start}
-use Rattle.kw_laws.specs.Live.{AreLive, WasMet}
+use Rattle.kw_laws.specs.Live.{AreLive, WasReached}
 use Rattle.kw_laws.specs.Mirror.{Occurs}
 use Rattle.kw_laws.specs.MirrorReads.{HasSettled, WasHelped}
 use Rattle.kw_laws.proofs.Along.{holds_along}
@@ -49,10 +49,10 @@ use Rattle.kw_reads.proofs.LaterKeeps.{later_if, later_lasts, named_linked}
 use Rattle.kw_laws.proofs.MirrorKeeps.{scans_settled}
 use Rattle.kw_laws.proofs.Occurs.{occurs_now, occurs_was, occurs_within}
 
--- a row that went at this position of the list was met where it went
-record DiedMet (z : Sizes) (o : Opening) (es : List Event) (q gone : ℕ) : Type 0 where
+-- a row that went at this position of the list was reached where it went
+record DiedReached (z : Sizes) (o : Opening) (es : List Event) (q gone : ℕ) : Type 0 where
   within : gone ≤ length es
-  met : IsMet (word z (world z o (take gone es))) q
+  saw : IsReached (word z (world z o (take gone es))) q
 
 -- at position u the seat makes an event, and is not on its way
 record IsOff (z : Sizes) (o : Opening) (es : List Event) (u t : ℕ) : Type 0 where
@@ -63,42 +63,42 @@ record IsOff (z : Sizes) (o : Opening) (es : List Event) (u t : ℕ) : Type 0 wh
   knows : slice_get before.locals t ≡ Some local
   off : IsOnWay local.activity → ⊥
 
--- what is kept along a list: dead rows were met where they went, and none of the rows that a walk
--- names went before the walk began
+-- what is kept along a list: dead rows were reached where they went, and none of the rows that a
+-- walk names went before the walk began
 record Follows (z : Sizes) (o : Opening) (es : List Event) (r : Run) : Type 0 where
   inv : Inv z r
   world : world z o es ≡ r.world
   now : length r.history.log ≡ length es
-  died : (q : ℕ) → IsDead r.ledger.rows q → DiedMet z o es q (r.ledger.rows.fates q).gone
+  died : (q : ℕ) → IsDead r.ledger.rows q → DiedReached z o es q (r.ledger.rows.fates q).gone
   later : (t u : ℕ) (l : Local) → slice_get r.world.locals t ≡ Some l → IsOff z o es u t → IsLater r.ledger.rows u l.activity l
 
 -- One more event.
 
 module _ (z : Sizes) (o : Opening) (es : List Event) (e : Event) where
-  -- what was met at a position of the shorter list
-  met_lasts : (q gone : ℕ) → DiedMet z o es q gone → DiedMet z o (es ++ e ∷ []) q gone
-  met_lasts q gone d = record {
+  -- what was reached at a position of the shorter list
+  reach_lasts : (q gone : ℕ) → DiedReached z o es q gone → DiedReached z o (es ++ e ∷ []) q gone
+  reach_lasts q gone d = record {
     within = omega (arith, d.within, length-append es (e ∷ []));
-    met = subst (λ xs. IsMet (word z (world z o xs)) q) (sym (take-append-le gone es (e ∷ []) d.within)) d.met;
+    saw = subst (λ xs. IsReached (word z (world z o xs)) q) (sym (take-append-le gone es (e ∷ []) d.within)) d.saw;
   }
 
 module _ (z : Sizes) (o : Opening) (es : List Event) (e : Event) (r r' : Run) (l l' : Local) (a : Activity) (h : Happens z r r' e.seat (offered r.world.rows e.choice) l l' a) (k : Follows z o es r) where
-  -- a row that goes now is met now
-  met_now : (q gone : ℕ) → gone ≡ length r.history.log → IsMet (word z r.world) q → DiedMet z o (es ++ e ∷ []) q gone
-  met_now q gone n m =
+  -- a row that goes now is reached now
+  reached_now : (q gone : ℕ) → gone ≡ length r.history.log → IsReached (word z r.world) q → DiedReached z o (es ++ e ∷ []) q gone
+  reached_now q gone n m =
       let f : gone ≡ length es = n ∙ k.now in
       record {
         within = omega (arith, f, length-append es (e ∷ []));
-        met = subst (λ w. IsMet (word z w) q) (sym (ap (λ x. world z o (take x (es ++ e ∷ []))) f ∙ (occurs_now z o es e).before ∙ k.world)) m;
+        saw = subst (λ w. IsReached (word z w) q) (sym (ap (λ x. world z o (take x (es ++ e ∷ []))) f ∙ (occurs_now z o es e).before ∙ k.world)) m;
       }
 
   -- a dead row was so before, or goes now
-  died_keeps : (q : ℕ) → IsDead r'.ledger.rows q → DiedMet z o (es ++ e ∷ []) q (r'.ledger.rows.fates q).gone
+  died_keeps : (q : ℕ) → IsDead r'.ledger.rows q → DiedReached z o (es ++ e ∷ []) q (r'.ledger.rows.fates q).gone
   died_keeps q d = which (dead_before a h k.inv.shape q d)
     where
-      which : IsDead r.ledger.rows q × (r'.ledger.rows.fates q ≡ r.ledger.rows.fates q) ⊎ GoesNow r.ledger.rows r'.ledger.rows e.seat (length r.history.log) q → DiedMet z o (es ++ e ∷ []) q (r'.ledger.rows.fates q).gone
-      which (inl f) = subst (λ (x : Fate). DiedMet z o (es ++ e ∷ []) q x.gone) (sym f.1) (met_lasts z o es e q (r.ledger.rows.fates q).gone (k.died q f.0))
-      which (inr n) = met_now q (r'.ledger.rows.fates q).gone (ap (λ (x : Fate). x.gone) n.fate) (live_met (word z r.world) r.ledger.rows k.inv.shape.rows.chain q n.live)
+      which : IsDead r.ledger.rows q × (r'.ledger.rows.fates q ≡ r.ledger.rows.fates q) ⊎ GoesNow r.ledger.rows r'.ledger.rows e.seat (length r.history.log) q → DiedReached z o (es ++ e ∷ []) q (r'.ledger.rows.fates q).gone
+      which (inl f) = subst (λ (x : Fate). DiedReached z o (es ++ e ∷ []) q x.gone) (sym f.1) (reach_lasts z o es e q (r.ledger.rows.fates q).gone (k.died q f.0))
+      which (inr n) = reached_now q (r'.ledger.rows.fates q).gone (ap (λ (x : Fate). x.gone) n.fate) (live_reached (word z r.world) r.ledger.rows k.inv.shape.rows.chain q n.live)
 
   -- the rows that the walk of a seat names after it
   later_on : Inv z r' → (t u : ℕ) (m : Local) → slice_get r'.world.locals t ≡ Some m → IsOff z o (es ++ e ∷ []) u t → IsLater r'.ledger.rows u m.activity m
@@ -169,7 +169,7 @@ follows_start z o opening = record {
     nothing : (e : Event) → None ≡ Some e → ⊥
     nothing e g = cc
 
-    none_dead : (q : ℕ) → IsDead (start z o).ledger.rows q → DiedMet z o [] q ((start z o).ledger.rows.fates q).gone
+    none_dead : (q : ℕ) → IsDead (start z o).ledger.rows q → DiedReached z o [] q ((start z o).ledger.rows.fates q).gone
     none_dead zero d = let x : Live ≡ Dead = d in absurd (cc)
     none_dead (suc q) d = let x : Free ≡ Dead = d in absurd (cc)
 
@@ -194,13 +194,13 @@ row_drawn _ l k x e = absurd x
 -- the row of each seat that has arrived
 pub lives : (z : Sizes) (o : Opening) → IsOpening z o → (es : List Event) → is_valid z o es ≡ true → AreLive z o es
 lives z o i es v t l g a = record {
-  passed = λ c u p. met u (known u (record { before = p.acts.before; choice = p.acts.choice; local = p.acts.local; occurs = p.acts.occurs; knows = p.acts.knows; off = λ y. subst IsOnWay p.acts.activity y })) (occurs_within z o es u p.acts.before (event t p.acts.choice) p.acts.occurs);
+  visited = λ c u p. saw u (known u (record { before = p.acts.before; choice = p.acts.choice; local = p.acts.local; occurs = p.acts.occurs; knows = p.acts.knows; off = λ y. subst IsOnWay p.acts.activity y })) (occurs_within z o es u p.acts.before (event t p.acts.choice) p.acts.occurs);
   settled = λ c. (((history z o es).seats t).drawn, (scans_settled z o i es v).settled t l knows c (row_drawn l.activity l (k.inv.shape.kinds t l knows).kind a c));
   drew = λ c x u d.
       let s = d.settles in
-      let w = met d.settle (known d.settle (record { before = s.before; choice = s.choice; local = s.local; occurs = s.occurs; knows = s.knows; off = λ y. subst IsOnWay s.activity y })) (occurs_within z o es d.settle s.before (event t s.choice) s.occurs) in
-      record { at = w.at; not_before = omega (arith, w.not_before, drawn_before t x u d); within = w.within; met = w.met };
-  drew_itself = λ c u d. met u (known u (record { before = d.acts.before; choice = d.acts.choice; local = d.acts.local; occurs = d.acts.occurs; knows = d.acts.knows; off = λ y. subst IsOnWay d.acts.activity y })) (occurs_within z o es u d.acts.before (event t d.acts.choice) d.acts.occurs);
+      let w = saw d.settle (known d.settle (record { before = s.before; choice = s.choice; local = s.local; occurs = s.occurs; knows = s.knows; off = λ y. subst IsOnWay s.activity y })) (occurs_within z o es d.settle s.before (event t s.choice) s.occurs) in
+      record { at = w.at; not_before = omega (arith, w.not_before, drawn_before t x u d); within = w.within; saw = w.saw };
+  drew_itself = λ c u d. saw u (known u (record { before = d.acts.before; choice = d.acts.choice; local = d.acts.local; occurs = d.acts.occurs; knows = d.acts.knows; off = λ y. subst IsOnWay d.acts.activity y })) (occurs_within z o es u d.acts.before (event t d.acts.choice) d.acts.occurs);
 }
   where
     k : Follows z o es (history z o es)
@@ -220,13 +220,13 @@ lives z o i es v t l g a = record {
         which (inl y) = omega (arith, y.0, d.after)
         which (inr y) = omega (arith, y.1.after, y.1.before)
 
-    met : (u : ℕ) → IsSince (history z o es).ledger.rows u l.row → u < length es → WasMet z o es l.row u
-    met u (inl y) w =
+    saw : (u : ℕ) → IsSince (history z o es).ledger.rows u l.row → u < length es → WasReached z o es l.row u
+    saw u (inl y) w =
         let n : length es ≤ length es = omega arith in
         record {
           at = length es;
           not_before = omega (arith, w);
           within = n;
-          met = subst (λ x. IsMet (word z x) l.row) (sym (ap (world z o) (take_all (length es) es n) ∙ k.world)) (live_met (word z (history z o es).world) (history z o es).ledger.rows k.inv.shape.rows.chain l.row y);
+          saw = subst (λ x. IsReached (word z x) l.row) (sym (ap (world z o) (take_all (length es) es n) ∙ k.world)) (live_reached (word z (history z o es).world) (history z o es).ledger.rows k.inv.shape.rows.chain l.row y);
         }
-    met u (inr y) w = let d = k.died l.row y.0 in record { at = ((history z o es).ledger.rows.fates l.row).gone; not_before = omega (arith, y.1); within = d.within; met = d.met }
+    saw u (inr y) w = let d = k.died l.row y.0 in record { at = ((history z o es).ledger.rows.fates l.row).gone; not_before = omega (arith, y.1); within = d.within; saw = d.saw }

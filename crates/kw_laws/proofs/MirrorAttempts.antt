@@ -93,17 +93,17 @@ module _ (z : Sizes) (o : Opening) (es : List Event) (e : Event) (r r' : Run) (l
       }
   stamped_so p w (is_helped is origin pending f) =
       let known = i.shape.sane.locals e.seat l h.knows in
-      let t = entry_owner i.puts l.row l.looked l.met known.below.row known.ranges.looked pending in
+      let t = entry_owner i.puts l.row l.looked l.saw known.below.row known.ranges.looked pending in
       let q : OwnsAttempt (word z r.world) r.history l.looked t.local.activity t.local (r.seats l.looked) = i.puts.owns l.looked t.local t.knows (published_puts t.local.activity t.published) in
       let row : (attempt r.history (r.seats l.looked).own).row ≡ l.row = q.row ∙ t.row in
       let same : (r.seats l.looked).own ≡ p = same_Some _ p (sym (i.puts.given (r.seats l.looked).own q.within (i.puts.present l.looked t.local t.knows (published_puts t.local.activity t.published))).origin ∙ ap (λ x. r.origin x (attempt r.history (r.seats l.looked).own).cell) row ∙ ap (r.origin l.row) t.cell ∙ origin) in
       let at = λ (P : ℕ → Type 0) (x : P (r.seats l.looked).own). subst P same x in
-      subst StampedSo (sym f) (λ x. inr (e.seat, by_helper p (at (λ y. (attempt r.history y).row ≡ l.row) row) (at (λ y. (attempt r.history y).cell ≡ l.met) t.cell) (at (λ y. (attempt r.history y).seat ≡ l.looked) q.seat) is pending))
+      subst StampedSo (sym f) (λ x. inr (e.seat, by_helper p (at (λ y. (attempt r.history y).row ≡ l.row) row) (at (λ y. (attempt r.history y).cell ≡ l.saw) t.cell) (at (λ y. (attempt r.history y).seat ≡ l.looked) q.seat) is pending))
     where
-      by_helper : (p : ℕ) → (attempt r.history p).row ≡ l.row → (attempt r.history p).cell ≡ l.met → (attempt r.history p).seat ≡ l.looked → a ≡ Activity.Look Look.Help → word z r.world (name.Pend l.row l.looked) ≡ pend_word (pend.Pending l.met) →
+      by_helper : (p : ℕ) → (attempt r.history p).row ≡ l.row → (attempt r.history p).cell ≡ l.saw → (attempt r.history p).seat ≡ l.looked → a ≡ Activity.Look Look.Help → word z r.world (name.Pend l.row l.looked) ≡ pend_word (pend.Pending l.saw) →
           StampedBy z o (es ++ e ∷ []) (record (attempt r.history p) { is_stamped = true; version = l.helping; load = (r.seats e.seat).loaded; at = length r.history.log }) e.seat (Activity.Look Look.Help) (Activity.Look Look.Clock) kind.HelpStamp
       by_helper p row cell seat is pending = record {
-        stamps = rw (row, cell, seat) (acts_here z o es e r r' l l' a h k (Activity.Look Look.Help) (stamping kind.HelpStamp l.row l.looked l.met l.helping) _ is refl pending);
+        stamps = rw (row, cell, seat) (acts_here z o es e r r' l l' a h k (Activity.Look Look.Help) (stamping kind.HelpStamp l.row l.looked l.saw l.helping) _ is refl pending);
         loads = acts_lasts z o es e _ _ (Activity.Look Look.Clock) _ _ (k.help e.seat l h.knows (subst IsHelp (sym (h.activity ∙ is)) tt));
         last = no_load_lasts z o es e e.seat (r.seats e.seat).loaded (length r.history.log) (omega (arith, k.mirrors.events)) (subst (NoLoad z o es e.seat (r.seats e.seat).loaded) (sym k.mirrors.events) (k.loads e.seat));
       }

@@ -247,9 +247,9 @@ module _ (z : Sizes) (o : Opening) (es : List Event) (e : Event) (r r' : Run) (l
     own_noted =
         let it = logged e.seat (transition z a e.seat (offered r.world.rows e.choice) l).operation.kind (word z r.world name.Clock) in
         let at_freeze : r'.history ≡ noted r.history it (change_of z (Activity.Rebalance (Rebalance.Freeze (Freeze.Entry j))) e.seat (offered r.world.rows e.choice) l (found_at z (word z r.world) (Activity.Rebalance (Rebalance.Freeze (Freeze.Entry j))) e.seat (offered r.world.rows e.choice) l) (r.seats e.seat) r.origin) = h.history ∙ ap (λ b. noted r.history it (change_of z b e.seat (offered r.world.rows e.choice) l (found_at z (word z r.world) b e.seat (offered r.world.rows e.choice) l) (r.seats e.seat) r.origin)) is in
-        let met : word z r.world (name.Pend l.row j) ≡ pend_word l.rebalance.entry = pending ∙ ap pend_word (sym entry) in
+        let saw : word z r.world (name.Pend l.row j) ≡ pend_word l.rebalance.entry = pending ∙ ap pend_word (sym entry) in
         let loses : led.freezing l.rebalance.entry l.row r.origin ≡ Loses (r.seats j).own = ap (λ y. led.freezing y l.row r.origin) entry ∙ ap losing own_cell in
-        let f : r'.history ≡ noted r.history it (Loses (r.seats j).own) = at_freeze ∙ ap (noted r.history it) (chosen (word z r.world (name.Pend l.row j)) (pend_word l.rebalance.entry) (led.freezing l.rebalance.entry l.row r.origin) Nothing met ∙ loses) in
+        let f : r'.history ≡ noted r.history it (Loses (r.seats j).own) = at_freeze ∙ ap (noted r.history it) (chosen (word z r.world (name.Pend l.row j)) (pend_word l.rebalance.entry) (led.freezing l.rebalance.entry l.row r.origin) Nothing saw ∙ loses) in
         attempt_set_same r.history r'.history (r.seats j).own _ (ap (λ (q : History). q.attempts) f) own.within
 
   -- Attempts that are lost.

@@ -47,7 +47,7 @@ use Rattle.kw_core.specs.declared.history.CallLog.{CallLog}
 use Rattle.kw_core.specs.declared.history.Drawn as drawn
 use Rattle.kw_core.specs.declared.seat_log.SeatLog.{SeatLog}
 use Rattle.kw_core.specs.History.{History, attempt, called}
-use Rattle.kw_core.specs.Run.{Run, Origins, seat_after, is_at_cell, log_gathered, place_gathered, id_at, id_of, answering, drawing}
+use Rattle.kw_core.specs.Run.{Run, Origins, seat_after, is_at_cell, log_gathered, index_gathered, id_at, id_of, answering, drawing}
 use Rattle.kw_core.specs.Stages.{IsBusy, IsUnderway, IsTaking, HasDrawn, HasPlace}
 use Rattle.kw_core.proofs.Changes.{made}
 use Rattle.kw_core.proofs.Happens.{Happens, each_seat}
@@ -153,26 +153,26 @@ module _ (z : Sizes) (choice : Choice) (l : Local) (found : ℕ) (next : Activit
   after a = seat_after z a choice l found next g o h settled
 
   abbrev Ids : Activity → Type 0
-  Ids a = ((after a).ids ≡ []) ⊎ (IsBusy a × ((after a).ids ≡ g.ids)) ⊎ IsLoadingValue a × ((after a).ids ≡ insert g.ids (place_gathered l found) (unwrap_or (o l.row l.place) 0))
+  Ids a = ((after a).ids ≡ []) ⊎ (IsBusy a × ((after a).ids ≡ g.ids)) ⊎ IsLoadingValue a × ((after a).ids ≡ insert g.ids (index_gathered l found) (unwrap_or (o l.row l.place) 0))
 
   ids_after : (a : Activity) → is_skipped a choice ≡ false → Ids a
   ids_after Activity.Idle m = begun choice m
     where
-      begun : (c : Choice) → is_skipped Activity.Idle c ≡ false → ((seat_after z Activity.Idle c l found next g o h settled).ids ≡ []) ⊎ (⊥ × ((seat_after z Activity.Idle c l found next g o h settled).ids ≡ g.ids)) ⊎ ⊥ × ((seat_after z Activity.Idle c l found next g o h settled).ids ≡ insert g.ids (place_gathered l found) (unwrap_or (o l.row l.place) 0))
+      begun : (c : Choice) → is_skipped Activity.Idle c ≡ false → ((seat_after z Activity.Idle c l found next g o h settled).ids ≡ []) ⊎ (⊥ × ((seat_after z Activity.Idle c l found next g o h settled).ids ≡ g.ids)) ⊎ ⊥ × ((seat_after z Activity.Idle c l found next g o h settled).ids ≡ insert g.ids (index_gathered l found) (unwrap_or (o l.row l.place) 0))
       begun (Begin call) n = inl refl
       begun Go n = let x : true ≡ false = n in absurd (cc)
       begun (Guess q) n = let x : true ≡ false = n in absurd (cc)
       begun Stop n = let x : true ≡ false = n in absurd (cc)
   ids_after (Activity.Look (Look.Entry i)) m = looked (i == 0)
     where
-      looked : (b : Bool) → ((let k : SeatLog = if b then record g { looked = length h.log; ids = []; read = None } else g in k).ids ≡ []) ⊎ (Unit {0} × ((let k : SeatLog = if b then record g { looked = length h.log; ids = []; read = None } else g in k).ids ≡ g.ids)) ⊎ ⊥ × ((let k : SeatLog = if b then record g { looked = length h.log; ids = []; read = None } else g in k).ids ≡ insert g.ids (place_gathered l found) (unwrap_or (o l.row l.place) 0))
+      looked : (b : Bool) → ((let k : SeatLog = if b then record g { looked = length h.log; ids = []; read = None } else g in k).ids ≡ []) ⊎ (Unit {0} × ((let k : SeatLog = if b then record g { looked = length h.log; ids = []; read = None } else g in k).ids ≡ g.ids)) ⊎ ⊥ × ((let k : SeatLog = if b then record g { looked = length h.log; ids = []; read = None } else g in k).ids ≡ insert g.ids (index_gathered l found) (unwrap_or (o l.row l.place) 0))
       looked true = inl refl
       looked false = inr (inl (tt, refl))
   ids_after (Activity.Read Read.Link) m = inr (inl (tt, left g.ids (is_at_cell next) g (record g { read = Some l.row }) refl refl))
   ids_after (Activity.Read Read.Key) m = inr (inl (tt, left g.ids (is_at_cell next) g (record g { read = Some l.row }) refl refl))
   ids_after (Activity.Read Read.Value) m = inr (inr (tt, refl))
   ids_after (Activity.Read Read.LeftOverKey) m = inr (inl (tt, left g.ids (is_at_cell next) g (record g { read = Some l.row }) refl refl))
-  ids_after (Activity.Read Read.LeftOverValue) m = let k = log_gathered (o l.row l.place) (place_gathered l found) g in inr (inr (tt, left k.ids (is_at_cell next) k (record k { read = Some l.row }) refl refl))
+  ids_after (Activity.Read Read.LeftOverValue) m = let k = log_gathered (o l.row l.place) (index_gathered l found) g in inr (inr (tt, left k.ids (is_at_cell next) k (record k { read = Some l.row }) refl refl))
   ids_after (Activity.Draw Draw.Settle) m = inr (inl (tt, settled_same (λ (q : SeatLog). q.ids) l.waiting found settled g refl))
   ids_after (Activity.Put Put.Add) m = inr (inl (tt, left g.ids (has_room z (count_of found)) (record g { own = length h.attempts }) g refl refl))
   ids_after (Activity.Enter Enter.Announce) m = inr (inl (tt, refl))

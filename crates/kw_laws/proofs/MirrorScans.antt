@@ -30,7 +30,7 @@ use Rattle.kw_core.specs.Run.{Run, start, with_settled}
 use Rattle.kw_core.specs.Stages.{IsUnderway, IsSettling, IsWaiting, HasDrawn}
 use Rattle.kw_core.specs.Step.{Step}
 use Rattle.kw_core.specs.Words.{Words}
-use Rattle.kw_core.proofs.Arrows.{builds, Arrow, NextLook, looks, lists, NextRest, rests, answers, ends_scan, scans_on, meets_stamped, meets_neither, is_passed, helps, finds_stamped, finds_other, list_ends, key_above, rest_passed, gathers_rest, settles_empty, settles, draws_for}
+use Rattle.kw_core.proofs.Arrows.{builds, Arrow, NextLook, looks, lists, NextLeftOver, goes_to_left_over, answers, ends_scan, scans_on, sees_stamped, sees_neither, is_gone_by, helps, finds_stamped, finds_other, list_ends, key_above, left_over_gone_by, gathers_left_over, settles_empty, settles, draws_for}
 use Rattle.kw_core.proofs.Building.{IsBuilding}
 use Rattle.kw_core.proofs.BuiltNext.{IsAfterBuilding, built_next}
 use Rattle.kw_core.proofs.Frame.{unwritten}
@@ -121,11 +121,11 @@ look_helps_none : (v : Words) (a : Activity) (k : Local) (z : Sizes) (j : ℕ) (
 look_helps_none v a k z j next (looks w) = tt
 look_helps_none v a k z j next (lists w) = tt
 
-rest_helps_none : (v : Words) (a : Activity) (l k : Local) → NextRest l k → DrewFor v a k k.activity
-rest_helps_none v a l k (rests m w) = tt
-rest_helps_none v a l k (answers w e) = tt
-rest_helps_none v a l k (ends_scan w e f) = tt
-rest_helps_none v a l k (scans_on q w e f g) = tt
+left_over_helps_none : (v : Words) (a : Activity) (l k : Local) → NextLeftOver l k → DrewFor v a k k.activity
+left_over_helps_none v a l k (goes_to_left_over m w) = tt
+left_over_helps_none v a l k (answers w e) = tt
+left_over_helps_none v a l k (ends_scan w e f) = tt
+left_over_helps_none v a l k (scans_on q w e f g) = tt
 
 -- what follows the building of rows settles no scan
 after_helps_none : (v : Words) (a : Activity) (k : Local) (b : Activity) → IsAfterBuilding b → DrewFor v a k b
@@ -135,16 +135,16 @@ after_helps_none v a k _ x = tt
 helper_drew : (z : Sizes) (v : Words) (s : ℕ) (choice : Choice) (l : Local) (a : Activity) (k : Local) → Arrow z v s choice l a k → DrewFor v a k k.activity
 helper_drew z v s choice l a k (builds b next y t) = after_helps_none v a k k.activity (built_next z v choice l b k t)
 helper_drew z v s choice l a k (draws_for j) = (refl, refl)
-helper_drew z v s choice l a k (meets_stamped i c version next e n) = look_helps_none v a k z _ next n
-helper_drew z v s choice l a k (meets_neither i next e n) = look_helps_none v a k z _ next n
-helper_drew z v s choice l a k (is_passed next e n) = look_helps_none v a k z _ next n
+helper_drew z v s choice l a k (sees_stamped i c version next e n) = look_helps_none v a k z _ next n
+helper_drew z v s choice l a k (sees_neither i next e n) = look_helps_none v a k z _ next n
+helper_drew z v s choice l a k (is_gone_by next e n) = look_helps_none v a k z _ next n
 helper_drew z v s choice l a k (helps next e n) = look_helps_none v a k z _ next n
 helper_drew z v s choice l a k (finds_stamped c version next e n) = look_helps_none v a k z _ next n
 helper_drew z v s choice l a k (finds_other next e n) = look_helps_none v a k z _ next n
-helper_drew z v s choice l a k (list_ends next e n) = rest_helps_none v a _ _ n
-helper_drew z v s choice l a k (key_above next e n) = rest_helps_none v a _ _ n
-helper_drew z v s choice l a k (rest_passed next e n) = rest_helps_none v a _ _ n
-helper_drew z v s choice l a k (gathers_rest next n) = rest_helps_none v a _ _ n
+helper_drew z v s choice l a k (list_ends next e n) = left_over_helps_none v a _ _ n
+helper_drew z v s choice l a k (key_above next e n) = left_over_helps_none v a _ _ n
+helper_drew z v s choice l a k (left_over_gone_by next e n) = left_over_helps_none v a _ _ n
+helper_drew z v s choice l a k (gathers_left_over next n) = left_over_helps_none v a _ _ n
 helper_drew z v s choice l a k _ = tt
 
 -- the activity of a scan that settles
@@ -199,7 +199,7 @@ module _ (z : Sizes) (o : Opening) (es : List Event) (e : Event) (r r' : Run) (l
           (waits_lasts z o es e (word z r.world) (word z r'.world) e.seat l.waiting (r.settled e.seat) (r'.settled e.seat) same kept (n.waits e.seat l h.knows (subst IsWaiting (sym (h.activity ∙ y.0)) tt)))
 
   -- that of a scan which the event may settle: it is helped where it waits with the clock that the
-  -- helper met
+  -- helper saw
   waits_helped : (t clock : ℕ) → a ≡ Activity.Rebalance (Rebalance.Freeze (Freeze.Settle t)) → Happens z r r' e.seat (offered r.world.rows e.choice) l l' (Activity.Rebalance (Rebalance.Freeze (Freeze.Settle t))) → WaitsOrHelped z o es (word z r.world) t clock (r.settled t) → WaitsOrHelped z o (es ++ e ∷ []) (word z r'.world) t clock (r'.settled t)
   waits_helped t clock is g w = which (cases_eq (word z r.world (name.Scan t)) (scan_word (Waiting l.rebalance.waiting)))
     where

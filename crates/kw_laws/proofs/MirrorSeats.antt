@@ -41,7 +41,7 @@ use Rattle.kw_world.specs.Step.{word, step, kind_of}
 use Rattle.kw_core.specs.Events.{world, walked, event}
 use Rattle.kw_core.specs.History.{History, called}
 use Rattle.kw_core.specs.declared.history.CallLog.{CallLog}
-use Rattle.kw_core.specs.Run.{Run, Origins, seat_after, log_begun, log_gathered, place_gathered, is_at_cell}
+use Rattle.kw_core.specs.Run.{Run, Origins, seat_after, log_begun, log_gathered, index_gathered, is_at_cell}
 use Rattle.kw_core.specs.declared.seat_log.SeatLog.{SeatLog}
 use Rattle.kw_core.specs.Stages.{IsBusy, IsStamp, IsHelp, IsUnderway, IsStaying}
 use Rattle.kw_core.specs.Words.{Words}
@@ -50,8 +50,8 @@ use Rattle.kw_core.proofs.Happens.{Happens, each_seat, found_at, knows_next, kno
 use Rattle.kw_core.proofs.Changes.{made}
 use Rattle.kw_core.proofs.Building.{IsBuilding}
 use Rattle.kw_core.proofs.BuiltNext.{IsAfterBuilding, built_goes, built_next}
-use Rattle.kw_core.proofs.Arrows.{builds, Arrow, NextLook, looks, lists, NextRest, rests, answers, ends_scan, scans_on}
-use Rattle.kw_core.proofs.Arrows.{begins, loads_to_help, loads_clock, meets_stamped, meets_neither, is_passed, helps, finds_stamped, finds_other, list_ends, key_above, rest_passed, gathers_rest, leaves}
+use Rattle.kw_core.proofs.Arrows.{builds, Arrow, NextLook, looks, lists, NextLeftOver, goes_to_left_over, answers, ends_scan, scans_on}
+use Rattle.kw_core.proofs.Arrows.{begins, loads_to_help, loads_clock, sees_stamped, sees_neither, is_gone_by, helps, finds_stamped, finds_other, list_ends, key_above, left_over_gone_by, gathers_left_over, leaves}
 use Rattle.kw_shape.proofs.NextCalls.{cell_call}
 use Rattle.kw_core.proofs.Steps.{none_some}
 use Rattle.kw_core.proofs.SeatLogs.{either, call_kept, settled_same}
@@ -80,11 +80,11 @@ begun-nil z o s = refl
 begun_offered : (a : Activity) (rows : ℕ) (choice : Choice) → is_begun a (offered rows choice) ≡ is_begun a choice
 begun_offered Activity.Idle rows (Begin call) = refl
 begun_offered Activity.Idle rows Go = refl
-begun_offered Activity.Idle rows (Guess q) = met (nat_lt q rows)
+begun_offered Activity.Idle rows (Guess q) = saw (nat_lt q rows)
   where
-    met : (b : Bool) → is_begun Activity.Idle (if b then Guess q else Go) ≡ false
-    met true = refl
-    met false = refl
+    saw : (b : Bool) → is_begun Activity.Idle (if b then Guess q else Go) ≡ false
+    saw true = refl
+    saw false = refl
 begun_offered Activity.Idle rows Stop = refl
 begun_offered _ rows choice = refl
 
@@ -99,8 +99,8 @@ arrow_counts z v s choice l a k (builds b next y t) = let x = (built_goes z v ch
 arrow_counts z v s choice l a k (begins call e b) = rw e refl
 arrow_counts z v s choice l a k (list_ends next e n) = let x = cell_call _ _ n in omega (arith, x.1)
 arrow_counts z v s choice l a k (key_above next e n) = let x = cell_call _ _ n in omega (arith, x.1)
-arrow_counts z v s choice l a k (rest_passed next e n) = let x = cell_call _ _ n in omega (arith, x.1)
-arrow_counts z v s choice l a k (gathers_rest next n) = let x = cell_call _ _ n in omega (arith, x.1)
+arrow_counts z v s choice l a k (left_over_gone_by next e n) = let x = cell_call _ _ n in omega (arith, x.1)
+arrow_counts z v s choice l a k (gathers_left_over next n) = let x = cell_call _ _ n in omega (arith, x.1)
 arrow_counts z v s choice l a k _ = omega arith
 
 -- What an arrow leads to.
@@ -109,11 +109,11 @@ next_look : {A : Type 0} (P : Activity → Type 0) (z : Sizes) (j : ℕ) (next :
 next_look P z j next (looks w) f g p = f p
 next_look P z j next (lists w) f g p = g p
 
-next_rest_busy : (l k : Local) → NextRest l k → IsBusy k.activity
-next_rest_busy l k (rests m w) = tt
-next_rest_busy l k (answers w e) = tt
-next_rest_busy l k (ends_scan w e f) = tt
-next_rest_busy l k (scans_on q w e f g) = tt
+next_left_over_busy : (l k : Local) → NextLeftOver l k → IsBusy k.activity
+next_left_over_busy l k (goes_to_left_over m w) = tt
+next_left_over_busy l k (answers w e) = tt
+next_left_over_busy l k (ends_scan w e f) = tt
+next_left_over_busy l k (scans_on q w e f g) = tt
 
 next_look_busy : (z : Sizes) (j : ℕ) (next : Activity) → NextLook z j next → IsBusy next
 next_look_busy z j next (looks w) = tt
@@ -134,16 +134,16 @@ after_stamp _ x (inr u) = absurd u
 pub arrow_busy : (z : Sizes) (v : Words) (s : ℕ) (choice : Choice) (l : Local) (a : Activity) (k : Local) → Arrow z v s choice l a k → IsStaying a → IsBusy k.activity
 arrow_busy z v s choice l a k (builds b next y t) u = after_busy k.activity (built_next z v choice l b k t)
 arrow_busy z v s choice l a k (leaves answer) u = absurd u
-arrow_busy z v s choice l a k (meets_stamped i c version next e n) u = next_look_busy z _ next n
-arrow_busy z v s choice l a k (meets_neither i next e n) u = next_look_busy z _ next n
-arrow_busy z v s choice l a k (is_passed next e n) u = next_look_busy z _ next n
+arrow_busy z v s choice l a k (sees_stamped i c version next e n) u = next_look_busy z _ next n
+arrow_busy z v s choice l a k (sees_neither i next e n) u = next_look_busy z _ next n
+arrow_busy z v s choice l a k (is_gone_by next e n) u = next_look_busy z _ next n
 arrow_busy z v s choice l a k (helps next e n) u = next_look_busy z _ next n
 arrow_busy z v s choice l a k (finds_stamped c version next e n) u = next_look_busy z _ next n
 arrow_busy z v s choice l a k (finds_other next e n) u = next_look_busy z _ next n
-arrow_busy z v s choice l a k (list_ends next e n) u = next_rest_busy _ _ n
-arrow_busy z v s choice l a k (key_above next e n) u = next_rest_busy _ _ n
-arrow_busy z v s choice l a k (rest_passed next e n) u = next_rest_busy _ _ n
-arrow_busy z v s choice l a k (gathers_rest next n) u = next_rest_busy _ _ n
+arrow_busy z v s choice l a k (list_ends next e n) u = next_left_over_busy _ _ n
+arrow_busy z v s choice l a k (key_above next e n) u = next_left_over_busy _ _ n
+arrow_busy z v s choice l a k (left_over_gone_by next e n) u = next_left_over_busy _ _ n
+arrow_busy z v s choice l a k (gathers_left_over next n) u = next_left_over_busy _ _ n
 arrow_busy z v s choice l a k _ u = tt
 
 look_stamp : {A : Type 0} (z : Sizes) (j : ℕ) (next : Activity) → NextLook z j next → IsStamp next ⊎ IsHelp next → A
@@ -152,46 +152,46 @@ look_stamp z j next (looks w) (inr x) = absurd x
 look_stamp z j next (lists w) (inl x) = absurd x
 look_stamp z j next (lists w) (inr x) = absurd x
 
-rest_stamp : {A : Type 0} (l k : Local) → NextRest l k → IsStamp k.activity ⊎ IsHelp k.activity → A
-rest_stamp l k (rests m w) (inl x) = absurd x
-rest_stamp l k (rests m w) (inr x) = absurd x
-rest_stamp l k (answers w e) (inl x) = absurd x
-rest_stamp l k (answers w e) (inr x) = absurd x
-rest_stamp l k (ends_scan w e f) (inl x) = absurd x
-rest_stamp l k (ends_scan w e f) (inr x) = absurd x
-rest_stamp l k (scans_on q w e f g) (inl x) = absurd x
-rest_stamp l k (scans_on q w e f g) (inr x) = absurd x
+left_over_stamp : {A : Type 0} (l k : Local) → NextLeftOver l k → IsStamp k.activity ⊎ IsHelp k.activity → A
+left_over_stamp l k (goes_to_left_over m w) (inl x) = absurd x
+left_over_stamp l k (goes_to_left_over m w) (inr x) = absurd x
+left_over_stamp l k (answers w e) (inl x) = absurd x
+left_over_stamp l k (answers w e) (inr x) = absurd x
+left_over_stamp l k (ends_scan w e f) (inl x) = absurd x
+left_over_stamp l k (ends_scan w e f) (inr x) = absurd x
+left_over_stamp l k (scans_on q w e f g) (inl x) = absurd x
+left_over_stamp l k (scans_on q w e f g) (inr x) = absurd x
 
 -- a seat that is to stamp has just loaded its version
 arrow_stamp : (z : Sizes) (v : Words) (s : ℕ) (choice : Choice) (l : Local) (a : Activity) (k : Local) → Arrow z v s choice l a k → IsStamp k.activity → (a ≡ Activity.Put Put.Clock) × (k.version ≡ v name.Clock)
 arrow_stamp z v s choice l a k (builds b next y t) u = after_stamp k.activity (built_next z v choice l b k t) (inl u)
 arrow_stamp z v s choice l a k loads_clock u = (refl, refl)
-arrow_stamp z v s choice l a k (meets_stamped i c version next e n) u = look_stamp z _ next n (inl u)
-arrow_stamp z v s choice l a k (meets_neither i next e n) u = look_stamp z _ next n (inl u)
-arrow_stamp z v s choice l a k (is_passed next e n) u = look_stamp z _ next n (inl u)
+arrow_stamp z v s choice l a k (sees_stamped i c version next e n) u = look_stamp z _ next n (inl u)
+arrow_stamp z v s choice l a k (sees_neither i next e n) u = look_stamp z _ next n (inl u)
+arrow_stamp z v s choice l a k (is_gone_by next e n) u = look_stamp z _ next n (inl u)
 arrow_stamp z v s choice l a k (helps next e n) u = look_stamp z _ next n (inl u)
 arrow_stamp z v s choice l a k (finds_stamped c version next e n) u = look_stamp z _ next n (inl u)
 arrow_stamp z v s choice l a k (finds_other next e n) u = look_stamp z _ next n (inl u)
-arrow_stamp z v s choice l a k (list_ends next e n) u = rest_stamp _ _ n (inl u)
-arrow_stamp z v s choice l a k (key_above next e n) u = rest_stamp _ _ n (inl u)
-arrow_stamp z v s choice l a k (rest_passed next e n) u = rest_stamp _ _ n (inl u)
-arrow_stamp z v s choice l a k (gathers_rest next n) u = rest_stamp _ _ n (inl u)
+arrow_stamp z v s choice l a k (list_ends next e n) u = left_over_stamp _ _ n (inl u)
+arrow_stamp z v s choice l a k (key_above next e n) u = left_over_stamp _ _ n (inl u)
+arrow_stamp z v s choice l a k (left_over_gone_by next e n) u = left_over_stamp _ _ n (inl u)
+arrow_stamp z v s choice l a k (gathers_left_over next n) u = left_over_stamp _ _ n (inl u)
 arrow_stamp z v s choice l a k _ u = absurd u
 
 -- so has a seat that is to help
 arrow_help : (z : Sizes) (v : Words) (s : ℕ) (choice : Choice) (l : Local) (a : Activity) (k : Local) → Arrow z v s choice l a k → IsHelp k.activity → (a ≡ Activity.Look Look.Clock) × (k.helping ≡ v name.Clock)
 arrow_help z v s choice l a k (builds b next y t) u = after_stamp k.activity (built_next z v choice l b k t) (inr u)
 arrow_help z v s choice l a k loads_to_help u = (refl, refl)
-arrow_help z v s choice l a k (meets_stamped i c version next e n) u = look_stamp z _ next n (inr u)
-arrow_help z v s choice l a k (meets_neither i next e n) u = look_stamp z _ next n (inr u)
-arrow_help z v s choice l a k (is_passed next e n) u = look_stamp z _ next n (inr u)
+arrow_help z v s choice l a k (sees_stamped i c version next e n) u = look_stamp z _ next n (inr u)
+arrow_help z v s choice l a k (sees_neither i next e n) u = look_stamp z _ next n (inr u)
+arrow_help z v s choice l a k (is_gone_by next e n) u = look_stamp z _ next n (inr u)
 arrow_help z v s choice l a k (helps next e n) u = look_stamp z _ next n (inr u)
 arrow_help z v s choice l a k (finds_stamped c version next e n) u = look_stamp z _ next n (inr u)
 arrow_help z v s choice l a k (finds_other next e n) u = look_stamp z _ next n (inr u)
-arrow_help z v s choice l a k (list_ends next e n) u = rest_stamp _ _ n (inr u)
-arrow_help z v s choice l a k (key_above next e n) u = rest_stamp _ _ n (inr u)
-arrow_help z v s choice l a k (rest_passed next e n) u = rest_stamp _ _ n (inr u)
-arrow_help z v s choice l a k (gathers_rest next n) u = rest_stamp _ _ n (inr u)
+arrow_help z v s choice l a k (list_ends next e n) u = left_over_stamp _ _ n (inr u)
+arrow_help z v s choice l a k (key_above next e n) u = left_over_stamp _ _ n (inr u)
+arrow_help z v s choice l a k (left_over_gone_by next e n) u = left_over_stamp _ _ n (inr u)
+arrow_help z v s choice l a k (gathers_left_over next n) u = left_over_stamp _ _ n (inr u)
 arrow_help z v s choice l a k _ u = absurd u
 
 -- Where a seat loaded the clock last.
@@ -227,7 +227,7 @@ loaded_over z s choice l found next g o h settled (Activity.Look (Look.Entry i))
 loaded_over z s choice l found next g o h settled (Activity.Read Read.Link) = inl (either (λ (q : SeatLog). q.loaded) (is_at_cell next) g (record g { read = Some l.row }) g.loaded refl refl, λ e. cc)
 loaded_over z s choice l found next g o h settled (Activity.Read Read.Key) = inl (either (λ (q : SeatLog). q.loaded) (is_at_cell next) g (record g { read = Some l.row }) g.loaded refl refl, λ e. cc)
 loaded_over z s choice l found next g o h settled (Activity.Read Read.LeftOverKey) = inl (either (λ (q : SeatLog). q.loaded) (is_at_cell next) g (record g { read = Some l.row }) g.loaded refl refl, λ e. cc)
-loaded_over z s choice l found next g o h settled (Activity.Read Read.LeftOverValue) = let k = log_gathered (o l.row l.place) (place_gathered l found) g in inl (either (λ (q : SeatLog). q.loaded) (is_at_cell next) k (record k { read = Some l.row }) g.loaded refl refl, λ e. cc)
+loaded_over z s choice l found next g o h settled (Activity.Read Read.LeftOverValue) = let k = log_gathered (o l.row l.place) (index_gathered l found) g in inl (either (λ (q : SeatLog). q.loaded) (is_at_cell next) k (record k { read = Some l.row }) g.loaded refl refl, λ e. cc)
 loaded_over z s choice l found next g o h settled (Activity.Put Put.Add) = inl (either (λ (q : SeatLog). q.loaded) (has_room z (count_of found)) (record g { own = length h.attempts }) g g.loaded refl refl, λ e. cc)
 loaded_over z s choice l found next g o h settled (Activity.Draw Draw.Settle) = inl (settled_same (λ (q : SeatLog). q.loaded) l.waiting found settled g refl, λ e. cc)
 loaded_over z s choice l found next g o h settled (Activity.Rebalance (Rebalance.Engage Engage.Clock)) = inr refl
@@ -352,7 +352,7 @@ module _ (z : Sizes) (o : Opening) (es : List Event) (e : Event) (r r' : Run) (l
       which b i = (tt, tt)
 
   pub running_keeps : (x t : ℕ) (m : Local) → x < length r'.history.calls → (called r'.history x).end ≡ None → (called r'.history x).seat ≡ t → slice_get r'.world.locals t ≡ Some m → IsBusy m.activity × ((r'.seats t).call ≡ x)
-  running_keeps x t m w n s g = met (call_was r.history r'.history _ z (word z r.world) e.seat (offered r.world.rows e.choice) l (r.seats e.seat) r.origin a _ (made z (word z r.world) e.seat (offered r.world.rows e.choice) l (r.seats e.seat) r.origin a) h.history x w)
+  running_keeps x t m w n s g = saw (call_was r.history r'.history _ z (word z r.world) e.seat (offered r.world.rows e.choice) l (r.seats e.seat) r.origin a _ (made z (word z r.world) e.seat (offered r.world.rows e.choice) l (r.seats e.seat) r.origin a) h.history x w)
     where
       own : (x : ℕ) → IsBusy l'.activity → (r'.seats e.seat).call ≡ x → t ≡ e.seat → IsBusy m.activity × ((r'.seats t).call ≡ x)
       own x b c i =
@@ -381,6 +381,6 @@ module _ (z : Sizes) (o : Opening) (es : List Event) (e : Event) (r r' : Run) (l
           let c = subst (λ b. r'.seats e.seat ≡ log_begun b (length r.history.calls) (r.seats e.seat)) y.begins f in
           own x (arrow_busy z (word z r.world) e.seat (offered r.world.rows e.choice) l a l' h.arrow (subst IsStaying (sym y.idle) tt)) (ap (λ (q : SeatLog). q.call) c ∙ sym y.place) (sym s ∙ ap (λ (q : CallLog). q.seat) y.is)
 
-      met : (x < length r.history.calls) ⊎ IsCallNow r.history r'.history e.seat (offered r.world.rows e.choice) l a x → IsBusy m.activity × ((r'.seats t).call ≡ x)
-      met (inl v) = old v (call_over r.history r'.history _ z (word z r.world) e.seat (offered r.world.rows e.choice) l (r.seats e.seat) r.origin a _ (made z (word z r.world) e.seat (offered r.world.rows e.choice) l (r.seats e.seat) r.origin a) h.history x v)
-      met (inr y) = begun_now y
+      saw : (x < length r.history.calls) ⊎ IsCallNow r.history r'.history e.seat (offered r.world.rows e.choice) l a x → IsBusy m.activity × ((r'.seats t).call ≡ x)
+      saw (inl v) = old v (call_over r.history r'.history _ z (word z r.world) e.seat (offered r.world.rows e.choice) l (r.seats e.seat) r.origin a _ (made z (word z r.world) e.seat (offered r.world.rows e.choice) l (r.seats e.seat) r.origin a) h.history x v)
+      saw (inr y) = begun_now y

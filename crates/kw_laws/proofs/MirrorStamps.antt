@@ -42,7 +42,7 @@ use Rattle.kw_core.specs.declared.history.Attempt.{Attempt}
 use Rattle.kw_core.specs.declared.history.Change.TheVariants.{Nothing, Announces, Stamps}
 use Rattle.kw_core.specs.Noted.{noted}
 use Rattle.kw_core.specs.Run.{Run, change_of, helping, logged}
-use Rattle.kw_core.specs.Stages.{IsPutting, HasMet}
+use Rattle.kw_core.specs.Stages.{IsPutting, HasSeenPending}
 use Rattle.kw_core.specs.Words.{Words}
 use Rattle.kw_reads.specs.Inv.{Inv}
 use Rattle.kw_laws.specs.Mirror.{Occurs, Acts, IsAnnouncementOf, IsStampOf, announcing, stamping}
@@ -83,7 +83,7 @@ no_replaced None q t e = cc
 -- only a put that stamps its cell, or a reader that helps, exchanges a pending entry for a stamped
 -- one
 stamp_line : (z : Sizes) (v : Words) (s : ℕ) (choice : Choice) (l : Local) (a : Activity) (q t c version : ℕ) → (transition z a s choice l).operation.name ≡ name.Pend q t → (transition z a s choice l).operation.action ≡ Exchange (pend_word (pend.Pending c)) (pend_word (pend.Stamped c version)) → v (name.Pend q t) ≡ pend_word (pend.Pending c) →
-    (a ≡ Activity.Put Put.Stamp) × (v (name.Pend l.row s) ≡ pend_word (pend.Pending l.cell)) ⊎ (a ≡ Activity.Look Look.Help) × (v (name.Pend l.row l.looked) ≡ pend_word (pend.Pending l.met))
+    (a ≡ Activity.Put Put.Stamp) × (v (name.Pend l.row s) ≡ pend_word (pend.Pending l.cell)) ⊎ (a ≡ Activity.Look Look.Help) × (v (name.Pend l.row l.looked) ≡ pend_word (pend.Pending l.saw))
 stamp_line z v s choice l (Activity.Put Put.Stamp) q t c u n x f = inl (refl, ap v n ∙ f ∙ sym (same_exchange _ _ _ _ x))
 stamp_line z v s choice l (Activity.Look Look.Help) q t c u n x f = inr (refl, ap v n ∙ f ∙ sym (same_exchange _ _ _ _ x))
 stamp_line z v s choice l (Activity.Put Put.Announce) q t c u n x f = absurd (pending_apart c (same_exchange _ _ _ _ x))
@@ -135,7 +135,7 @@ announce_line : (z : Sizes) (v : Words) (s : ℕ) (choice : Choice) (l : Local) 
     (a ≡ Activity.Put Put.Announce) × (v (name.Pend l.row s) ≡ pend_word pend.Idle)
 announce_line z v s choice l (Activity.Put Put.Announce) q t c n x f = (refl, ap v n ∙ f)
 announce_line z v s choice l (Activity.Put Put.Stamp) q t c n x f = absurd (pending_apart l.cell (sym (same_exchange _ _ _ _ x)))
-announce_line z v s choice l (Activity.Look Look.Help) q t c n x f = absurd (pending_apart l.met (sym (same_exchange _ _ _ _ x)))
+announce_line z v s choice l (Activity.Look Look.Help) q t c n x f = absurd (pending_apart l.saw (sym (same_exchange _ _ _ _ x)))
 announce_line z v s choice l (Activity.Draw Draw.Settle) q t c n x f = let y : name.Scan s ≡ name.Pend q t = n in absurd (cc)
 announce_line z v s choice l (Activity.Walk Walk.Start) q t c n x f = absurd (starts choice x)
   where
@@ -218,15 +218,15 @@ module _ (z : Sizes) (o : Opening) (es : List Event) (e : Event) (r r' : Run) (l
       }
 
   -- by its own seat, or by a reader that helps
-  stamps_now : (x : ℕ) → x ≡ length r.history.log → (a ≡ Activity.Put Put.Stamp) × (word z r.world (name.Pend l.row e.seat) ≡ pend_word (pend.Pending l.cell)) ⊎ (a ≡ Activity.Look Look.Help) × (word z r.world (name.Pend l.row l.looked) ≡ pend_word (pend.Pending l.met)) → IsStampOf r'.history x
+  stamps_now : (x : ℕ) → x ≡ length r.history.log → (a ≡ Activity.Put Put.Stamp) × (word z r.world (name.Pend l.row e.seat) ≡ pend_word (pend.Pending l.cell)) ⊎ (a ≡ Activity.Look Look.Help) × (word z r.world (name.Pend l.row l.looked) ≡ pend_word (pend.Pending l.saw)) → IsStampOf r'.history x
   stamps_now x at (inl f) =
       let own = i.puts.owns e.seat l h.knows (subst IsPutting (sym (h.activity ∙ f.0)) tt) in
       stamped_now x (r.seats e.seat).own l.version (r.seats e.seat).loaded at own.within
       (noted_here (Activity.Put Put.Stamp) f.0 ∙ ap (noted r.history it) (chosen (word z r.world (name.Pend l.row e.seat)) (pend_word (pend.Pending l.cell)) (Stamps (r.seats e.seat).own l.version (r.seats e.seat).loaded) Nothing f.1))
   stamps_now x at (inr f) =
-      let helped = i.puts.helps e.seat l h.knows (subst HasMet (sym (h.activity ∙ f.0)) tt) in
+      let helped = i.puts.helps e.seat l h.knows (subst HasSeenPending (sym (h.activity ∙ f.0)) tt) in
       stamped_now x helped.put l.helping (r.seats e.seat).loaded at (announced_within r.history helped.put helped.announced)
-      (noted_here (Activity.Look Look.Help) f.0 ∙ ap (noted r.history it) (chosen (word z r.world (name.Pend l.row l.looked)) (pend_word (pend.Pending l.met)) (helping (r.origin l.row l.met) l.helping (r.seats e.seat).loaded) Nothing f.1 ∙ ap (λ (p : Option ℕ). helping p l.helping (r.seats e.seat).loaded) helped.origin))
+      (noted_here (Activity.Look Look.Help) f.0 ∙ ap (noted r.history it) (chosen (word z r.world (name.Pend l.row l.looked)) (pend_word (pend.Pending l.saw)) (helping (r.origin l.row l.saw) l.helping (r.seats e.seat).loaded) Nothing f.1 ∙ ap (λ (p : Option ℕ). helping p l.helping (r.seats e.seat).loaded) helped.origin))
 
   -- an operation that stands at the end is that of the event's line, and the word is the one that
   -- it found

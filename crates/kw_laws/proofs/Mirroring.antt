@@ -58,11 +58,11 @@ pub record Kept (z : Sizes) (o : Opening) (es : List Event) (r : Run) : Type 0 w
 pub chosen_call : (rows : ℕ) (choice : Choice) (call : Call) → offered rows choice ≡ Begin call → choice ≡ Begin call
 chosen_call rows (Begin other) call e = e
 chosen_call rows Go call e = let x : Go ≡ Begin call = e in absurd (cc)
-chosen_call rows (Guess q) call e = met (nat_lt q rows) e
+chosen_call rows (Guess q) call e = saw (nat_lt q rows) e
   where
-    met : (b : Bool) → (if b then Guess q else Go) ≡ Begin call → Guess q ≡ Begin call
-    met true x = let y : Guess q ≡ Begin call = x in absurd (cc)
-    met false x = let y : Go ≡ Begin call = x in absurd (cc)
+    saw : (b : Bool) → (if b then Guess q else Go) ≡ Begin call → Guess q ≡ Begin call
+    saw true x = let y : Guess q ≡ Begin call = x in absurd (cc)
+    saw false x = let y : Go ≡ Begin call = x in absurd (cc)
 chosen_call rows Stop call e = let x : Stop ≡ Begin call = e in absurd (cc)
 
 -- One more event of a list, of a seat that knows l and is at the activity a.
@@ -104,11 +104,11 @@ module _ (z : Sizes) (o : Opening) (es : List Event) (e : Event) (r r' : Run) (l
       moved : (b : Activity) (choice : Choice) → is_skipped b (offered r.world.rows choice) ≡ false → is_skipped b choice ≡ false
       moved b (Begin call) g = g
       moved b Go g = g
-      moved b (Guess q) g = met b (nat_lt q r.world.rows) g
+      moved b (Guess q) g = saw b (nat_lt q r.world.rows) g
         where
-          met : (b : Activity) (c : Bool) → is_skipped b (if c then Guess q else Go) ≡ false → is_skipped b (Guess q) ≡ false
-          met b true x = x
-          met b false x = other b x
+          saw : (b : Activity) (c : Bool) → is_skipped b (if c then Guess q else Go) ≡ false → is_skipped b (Guess q) ≡ false
+          saw b true x = x
+          saw b false x = other b x
             where
               other : (b : Activity) → is_skipped b Go ≡ false → is_skipped b (Guess q) ≡ false
               other Activity.Idle x = x

@@ -1,4 +1,4 @@
--- The rows that a seat names. It is in a pass then, and may name them; a row that it may name is
+-- The rows that a seat names. It is in a visit then, and may name them; a row that it may name is
 -- there for it; and whatever word of a row an event touches, but for its state, is one of a row
 -- that its seat names, or of an infant of it.
 use Rattle.std.proofs.Common.{ℕ, ◌≡◌, ◌⊎◌, inl, inr, ◌<◌, Bool, true, false, Option, Some, None, sym, ◌∙◌, ap, subst, length}
@@ -35,38 +35,38 @@ use Rattle.kw_world.specs.Sizes.{Sizes}
 use Rattle.kw_world.specs.Table.{transition}
 use Rattle.kw_world.specs.Transition.{row_or_first}
 use Rattle.kw_world.specs.WalkTransitions.{is_stopped, start_transition, walk_transition}
-use Rattle.kw_core.specs.Stages.{IsAtRow, IsBalancing, IsPassing}
+use Rattle.kw_core.specs.Stages.{IsAtRow, IsBalancing, IsVisiting}
 use Rattle.kw_core.specs.Words.{Words}
 use Rattle.kw_reads.specs.Contents.{HasRow, HasCandidate}
-use Rattle.kw_shape.proofs.LinkedRows.{live_met}
+use Rattle.kw_shape.proofs.LinkedRows.{live_reached}
 use Rattle.kw_shape.proofs.InfantsStay.{infant_at}
 use Rattle.kw_shape.specs.Balances.{Balances}
 use Rattle.kw_shape.specs.Infants.{HasAtHand, IsNursedRow, nursing_of}
-use Rattle.kw_shape.specs.MetRows.{IsMet}
-use Rattle.kw_shape.specs.RowsIn.{rows_in, state_met}
-use Rattle.kw_shape.specs.Search.{HasBefore, HasMetNext, IsSearching, Search}
+use Rattle.kw_shape.specs.ReachedRows.{IsReached}
+use Rattle.kw_shape.specs.RowsIn.{rows_in, state_seen}
+use Rattle.kw_shape.specs.Search.{HasBefore, HasReachedNext, IsSearching, Search}
 use Rattle.kw_shape.specs.Shape.{Walks}
 use Rattle.kw_shape.specs.Won.{IsNormalising, Won}
-use Rattle.kw_laws.specs.Reach.{IsNamed, IsRowWord, names_row, names_candidate, names_next, names_full, names_before, names_met, names_new}
+use Rattle.kw_laws.specs.Reach.{IsNamed, IsRowWord, names_row, names_candidate, names_next, names_full, names_before, names_reached, names_new}
 
 -- Which rows a seat names.
 
--- an activity of a family that has none out of a pass is in one
-passing_by : (P : Activity → Type 0) → (P Activity.Idle → ⊥) → (P (Activity.Enter Enter.Announce) → ⊥) → (P (Activity.Enter Enter.LoadEpoch) → ⊥) → (a : Activity) → P a → IsPassing a
-passing_by P idle enter again Activity.Idle x = absurd (idle x)
-passing_by P idle enter again (Activity.Enter Enter.Announce) x = absurd (enter x)
-passing_by P idle enter again (Activity.Enter Enter.LoadEpoch) x = absurd (again x)
-passing_by P idle enter again _ x = tt
+-- an activity of a family that has none out of a visit is in one
+visiting_by : (P : Activity → Type 0) → (P Activity.Idle → ⊥) → (P (Activity.Enter Enter.Announce) → ⊥) → (P (Activity.Enter Enter.LoadEpoch) → ⊥) → (a : Activity) → P a → IsVisiting a
+visiting_by P idle enter again Activity.Idle x = absurd (idle x)
+visiting_by P idle enter again (Activity.Enter Enter.Announce) x = absurd (enter x)
+visiting_by P idle enter again (Activity.Enter Enter.LoadEpoch) x = absurd (again x)
+visiting_by P idle enter again _ x = tt
 
--- a seat that names a row is in a pass
-pub named_passes : (a : Activity) (l : Local) (q : ℕ) → IsNamed a l q → IsPassing a
-named_passes a l q (names_row x e) = passing_by HasRow (λ y. y) (λ y. y) (λ y. y) a x
-named_passes a l q (names_candidate x e) = passing_by HasCandidate (λ y. y) (λ y. y) (λ y. y) a x
-named_passes a l q (names_next x e) = passing_by IsAtRow (λ y. y) (λ y. y) (λ y. y) a x
-named_passes a l q (names_full x e) = passing_by IsBalancing (λ y. y) (λ y. y) (λ y. y) a x
-named_passes a l q (names_before x e) = passing_by (λ b. IsSearching b l) (λ y. y) (λ y. y) (λ y. y) a x
-named_passes a l q (names_met x e) = passing_by HasMetNext (λ y. y) (λ y. y) (λ y. y) a x
-named_passes a l q (names_new x i e) = passing_by IsNormalising (λ y. y) (λ y. y) (λ y. y) a x
+-- a seat that names a row is in a visit
+pub named_visits : (a : Activity) (l : Local) (q : ℕ) → IsNamed a l q → IsVisiting a
+named_visits a l q (names_row x e) = visiting_by HasRow (λ y. y) (λ y. y) (λ y. y) a x
+named_visits a l q (names_candidate x e) = visiting_by HasCandidate (λ y. y) (λ y. y) (λ y. y) a x
+named_visits a l q (names_next x e) = visiting_by IsAtRow (λ y. y) (λ y. y) (λ y. y) a x
+named_visits a l q (names_full x e) = visiting_by IsBalancing (λ y. y) (λ y. y) (λ y. y) a x
+named_visits a l q (names_before x e) = visiting_by (λ b. IsSearching b l) (λ y. y) (λ y. y) (λ y. y) a x
+named_visits a l q (names_reached x e) = visiting_by HasReachedNext (λ y. y) (λ y. y) (λ y. y) a x
+named_visits a l q (names_new x i e) = visiting_by IsNormalising (λ y. y) (λ y. y) (λ y. y) a x
 
 -- it may name the row of its walk, or at which it is
 row_fresh : (v : Words) (g : Ledger) (t : ℕ) (a : Activity) (l : Local) → Walks v g t a l → HasRow a → IsFresh g t l.row
@@ -76,7 +76,7 @@ row_fresh v g t (Activity.Walk Walk.NextLeast) l w x = w.on.0
 row_fresh v g t (Activity.Put Put.Count) l w x = (w.at x).fresh
 row_fresh v g t _ l w x = (w.at x).fresh
 
--- and the one that it has met next
+-- and the one that it has reached next
 candidate_fresh : (v : Words) (g : Ledger) (t : ℕ) (a : Activity) (l : Local) → Walks v g t a l → HasCandidate a → IsFresh g t l.candidate
 candidate_fresh v g t (Activity.Walk Walk.NextLeast) l w x = w.on.2
 candidate_fresh v g t _ l w x = absurd x
@@ -88,7 +88,7 @@ named_fresh v g t a l w b s n q (names_candidate x e) = subst (IsFresh g t) (sym
 named_fresh v g t a l w b s n q (names_next x e) = ((w.at x).next q e).fresh
 named_fresh v g t a l w b s n q (names_full x e) = subst (IsFresh g t) (sym e) (b.fresh x)
 named_fresh v g t a l w b s n q (names_before x e) = s.fresh q x e
-named_fresh v g t a l w b s n q (names_met x e) = subst (IsFresh g t) (sym e) (s.met x)
+named_fresh v g t a l w b s n q (names_reached x e) = subst (IsFresh g t) (sym e) (s.saw x)
 named_fresh v g t a l w b s n q (names_new x i e) = n.fresh x i q e
 
 -- What is there for a seat.
@@ -103,13 +103,13 @@ module _ (v : Words) (g : Ledger) (states : States (rows_in v) g) (q : ℕ) wher
 
   -- a row that a seat may name is not free
   pub fresh_taken : (t : ℕ) → IsFresh g t q → state_of (v (name.State q)) ≡ Some state.Free → ⊥
-  fresh_taken t (inl a) e = live_state _ a (ap state_met e)
-  fresh_taken t (inr a) e = gone_state _ a.dead (ap state_met e)
+  fresh_taken t (inl a) e = live_state _ a (ap state_seen e)
+  fresh_taken t (inr a) e = gone_state _ a.dead (ap state_seen e)
 
   -- where it is an infant it is in the list
-  pub fresh_met : (t s : ℕ) → Chain (rows_in v) g → IsFresh g t q → state_of (v (name.State q)) ≡ Some (state.Infant s) → IsMet v q
-  fresh_met t s chain (inl a) e = live_met v g chain q a
-  fresh_met t s chain (inr a) e = absurd (gone_state _ a.dead (ap state_met e))
+  pub fresh_reached : (t s : ℕ) → Chain (rows_in v) g → IsFresh g t q → state_of (v (name.State q)) ≡ Some (state.Infant s) → IsReached v q
+  fresh_reached t s chain (inl a) e = live_reached v g chain q a
+  fresh_reached t s chain (inr a) e = absurd (gone_state _ a.dead (ap state_seen e))
 
 -- Which words an event touches.
 
@@ -196,7 +196,7 @@ touched z s choice l (Activity.Rebalance (Rebalance.Replace Replace.Start)) q so
     begins Stop x = absurd x
 touched z s choice l (Activity.Rebalance (Rebalance.Replace Replace.GuessedLeast)) q some hand w = inl (names_before tt (before_row l.rebalance.before q (some tt) w))
 touched z s choice l (Activity.Rebalance (Rebalance.Replace Replace.Next)) q some hand w = inl (names_before tt (before_row l.rebalance.before q (some tt) w))
-touched z s choice l (Activity.Rebalance (Rebalance.Replace Replace.NextLeast)) q some hand w = inl (names_met tt w)
+touched z s choice l (Activity.Rebalance (Rebalance.Replace Replace.NextLeast)) q some hand w = inl (names_reached tt w)
 touched z s choice l (Activity.Rebalance (Rebalance.Replace Replace.Exchange)) q some hand w = inl (names_before tt (replaced_row l.rebalance.before q w))
 touched z s choice l (Activity.Enter Enter.Announce) q some hand w = absurd w
 touched z s choice l (Activity.Draw Draw.Clock) q some hand w = absurd w

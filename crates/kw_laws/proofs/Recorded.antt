@@ -68,21 +68,21 @@ remarked_after z Activity.Idle (Begin call) l found next g o h settled = refl
 remarked_after z Activity.Idle Go l found next g o h settled = refl
 remarked_after z Activity.Idle (Guess r) l found next g o h settled = refl
 remarked_after z Activity.Idle Stop l found next g o h settled = refl
-remarked_after z (Activity.Draw Draw.Settle) choice l found next g o h settled = met (found == scan_word (Waiting l.waiting)) refl
+remarked_after z (Activity.Draw Draw.Settle) choice l found next g o h settled = saw (found == scan_word (Waiting l.waiting)) refl
   where
-    met : (b : Bool) → (found == scan_word (Waiting l.waiting)) ≡ b → remarked (remark_of z (Activity.Draw Draw.Settle) choice l found o h settled) next g ≡ seat_after z (Activity.Draw Draw.Settle) choice l found next g o h settled
-    met true e = rw e refl
-    met false e = rw e refl
-remarked_after z (Activity.Look (Look.Entry i)) choice l found next g o h settled = met (i == 0) refl
+    saw : (b : Bool) → (found == scan_word (Waiting l.waiting)) ≡ b → remarked (remark_of z (Activity.Draw Draw.Settle) choice l found o h settled) next g ≡ seat_after z (Activity.Draw Draw.Settle) choice l found next g o h settled
+    saw true e = rw e refl
+    saw false e = rw e refl
+remarked_after z (Activity.Look (Look.Entry i)) choice l found next g o h settled = saw (i == 0) refl
   where
-    met : (b : Bool) → (i == 0) ≡ b → remarked (remark_of z (Activity.Look (Look.Entry i)) choice l found o h settled) next g ≡ seat_after z (Activity.Look (Look.Entry i)) choice l found next g o h settled
-    met true e = rw e refl
-    met false e = rw e refl
-remarked_after z (Activity.Put Put.Add) choice l found next g o h settled = met (has_room z (count_of found)) refl
+    saw : (b : Bool) → (i == 0) ≡ b → remarked (remark_of z (Activity.Look (Look.Entry i)) choice l found o h settled) next g ≡ seat_after z (Activity.Look (Look.Entry i)) choice l found next g o h settled
+    saw true e = rw e refl
+    saw false e = rw e refl
+remarked_after z (Activity.Put Put.Add) choice l found next g o h settled = saw (has_room z (count_of found)) refl
   where
-    met : (b : Bool) → has_room z (count_of found) ≡ b → remarked (remark_of z (Activity.Put Put.Add) choice l found o h settled) next g ≡ seat_after z (Activity.Put Put.Add) choice l found next g o h settled
-    met true e = rw e refl
-    met false e = rw e refl
+    saw : (b : Bool) → has_room z (count_of found) ≡ b → remarked (remark_of z (Activity.Put Put.Add) choice l found o h settled) next g ≡ seat_after z (Activity.Put Put.Add) choice l found next g o h settled
+    saw true e = rw e refl
+    saw false e = rw e refl
 remarked_after z (Activity.Enter Enter.Announce) choice l found next g o h settled = refl
 remarked_after z (Activity.Walk Walk.First) choice l found next g o h settled = refl
 remarked_after z (Activity.Read Read.Link) choice l found next g o h settled = refl
@@ -122,8 +122,9 @@ freezing_same (pend.Pending c) row o p e = ap losing (e c refl)
 freezing_same (pend.Stamped c version) row o p e = refl
 freezing_same pend.Frozen row o p e = refl
 
--- the change depends on the origins of the cell that was met and of that of the entry at hand alone
-change_same : (z : Sizes) (a : Activity) (s : ℕ) (choice : Choice) (l : Local) (found : ℕ) (g : SeatLog) (o p : Origins) → o l.row l.met ≡ p l.row l.met → ((c : ℕ) → l.rebalance.entry ≡ pend.Pending c → o l.row c ≡ p l.row c) → change_of z a s choice l found g o ≡ change_of z a s choice l found g p
+-- the change depends on the origins of the cell that was seen and of that of the entry at hand
+-- alone
+change_same : (z : Sizes) (a : Activity) (s : ℕ) (choice : Choice) (l : Local) (found : ℕ) (g : SeatLog) (o p : Origins) → o l.row l.saw ≡ p l.row l.saw → ((c : ℕ) → l.rebalance.entry ≡ pend.Pending c → o l.row c ≡ p l.row c) → change_of z a s choice l found g o ≡ change_of z a s choice l found g p
 change_same z (Activity.Look Look.Help) s choice l found g o p e f = rw e refl
 change_same z (Activity.Rebalance (Rebalance.Freeze (Freeze.Entry i))) s choice l found g o p e f = rw (freezing_same l.rebalance.entry l.row o p f) refl
 change_same z (Activity.Put Put.Count) s choice l found g o p e f = refl
@@ -145,11 +146,11 @@ place_within n q c rows v w =
 -- a row with room has given fewer cells than it has
 pub room_given : (z : Sizes) (count : Option Count) → has_room z count ≡ true → given_of count < z.cells
 room_given z None e = let x : false ≡ true = e in absurd (cc)
-room_given z (Some count) e = met count.frozen refl
+room_given z (Some count) e = saw count.frozen refl
   where
-    met : (b : Bool) → count.frozen ≡ b → count.given < z.cells
-    met true f = let x : false ≡ true = rw f at e in absurd (cc)
-    met false f = ltb-true count.given z.cells (rw f at e)
+    saw : (b : Bool) → count.frozen ≡ b → count.given < z.cells
+    saw true f = let x : false ≡ true = rw f at e in absurd (cc)
+    saw false f = ltb-true count.given z.cells (rw f at e)
 
 -- the change is one that gives no cell
 abbrev pub GivesNone : Change → Type 0
@@ -212,11 +213,11 @@ copied_same o p row None e = refl
 origins_noted : (z : Sizes) (a : Activity) (s : ℕ) (choice : Choice) (l : Local) (found : ℕ) (g : SeatLog) (o p : Origins) (h : History) (n : ℕ) (xs : List (Option ℕ)) (rows : ℕ) → n ≡ length h.attempts → length xs ≡ rows * z.cells → l.row < rows → infant l < rows → IsActivity z a →
     ((j : ℕ) (c : kw_cell.Cell) → slice_get (infant_cells l) j ≡ Some c → o l.row c.place ≡ p l.row c.place) → ((q c : ℕ) → q < rows → c < z.cells → origin_in z xs q c ≡ p q c) →
     (q c : ℕ) → q < rows → c < z.cells → origin_in z (copies_with z (copied_cell a l o) (origins_with z (change_of z a s choice l found g o) n xs)) q c ≡ origins_after z a l found p h q c
-origins_noted z (Activity.Put Put.Add) s choice l found g o p h n xs rows is len below new y kept same q c v w = met (has_room z (count_of found)) refl
+origins_noted z (Activity.Put Put.Add) s choice l found g o p h n xs rows is len below new y kept same q c v w = saw (has_room z (count_of found)) refl
   where
-    met : (b : Bool) → has_room z (count_of found) ≡ b → origin_in z (origins_with z (change_of z (Activity.Put Put.Add) s choice l found g o) n xs) q c ≡ origins_after z (Activity.Put Put.Add) l found p h q c
-    met true e = rw (e, sym is) (origin_set z xs rows l.row (given_of (count_of found)) (Some n) p len below (room_given z (count_of found) e) same q c v w)
-    met false e = rw e (same q c v w)
+    saw : (b : Bool) → has_room z (count_of found) ≡ b → origin_in z (origins_with z (change_of z (Activity.Put Put.Add) s choice l found g o) n xs) q c ≡ origins_after z (Activity.Put Put.Add) l found p h q c
+    saw true e = rw (e, sym is) (origin_set z xs rows l.row (given_of (count_of found)) (Some n) p len below (room_given z (count_of found) e) same q c v w)
+    saw false e = rw e (same q c v w)
 origins_noted z Activity.Idle s choice l found g o p h n xs rows is len below new y kept same q c v w = begins choice
   where
     begins : (x : Choice) → origin_in z (origins_with z (beginning x s l) n xs) q c ≡ p q c
@@ -225,7 +226,7 @@ origins_noted z Activity.Idle s choice l found g o p h n xs rows is len below ne
     begins (Guess r) = same q c v w
     begins Stop = same q c v w
 origins_noted z (Activity.Look Look.Help) s choice l found g o p h n xs rows is len below new y kept same q c v w =
-    rw (none_given z (if found == pend_word (pend.Pending l.met) then helping (o l.row l.met) l.helping g.loaded else Nothing) n xs (none_of (found == pend_word (pend.Pending l.met)) _ Nothing (none_helping (o l.row l.met) l.helping g.loaded) tt)) (same q c v w)
+    rw (none_given z (if found == pend_word (pend.Pending l.saw) then helping (o l.row l.saw) l.helping g.loaded else Nothing) n xs (none_of (found == pend_word (pend.Pending l.saw)) _ Nothing (none_helping (o l.row l.saw) l.helping g.loaded) tt)) (same q c v w)
 origins_noted z (Activity.Put Put.Announce) s choice l found g o p h n xs rows is len below new y kept same q c v w =
     rw (none_given z (if found == pend_word pend.Idle then Announces g.own else Nothing) n xs (none_of (found == pend_word pend.Idle) (Announces g.own) Nothing tt tt)) (same q c v w)
 origins_noted z (Activity.Put Put.Stamp) s choice l found g o p h n xs rows is len below new y kept same q c v w =
@@ -320,7 +321,7 @@ pub change_recorded : (z : Sizes) (k : Recording) (r : Run) (e : Event) (l : Loc
 change_recorded z k r e l i sane knows =
     let known = sane.locals e.seat l knows in
     ap (λ (g : SeatLog). change_of z l.activity e.seat (offered r.world.rows e.choice) l (found_by z r.world e l) g (origin_in z k.origins)) (i.logs e.seat (slice_get_within r.world.locals e.seat l knows)) ∙
-    change_same z l.activity e.seat (offered r.world.rows e.choice) l (found_by z r.world e l) (r.seats e.seat) (origin_in z k.origins) r.origin (i.origins l.row l.met known.below.row known.ranges.met)
+    change_same z l.activity e.seat (offered r.world.rows e.choice) l (found_by z r.world e l) (r.seats e.seat) (origin_in z k.origins) r.origin (i.origins l.row l.saw known.below.row known.ranges.saw)
     (λ c x. i.origins l.row c known.below.row (subst (λ y. IsEntry z (Some y)) x known.ranges.rebalance.entry))
 
 -- the record with what the event adds is that of the run with the event

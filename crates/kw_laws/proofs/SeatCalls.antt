@@ -117,11 +117,11 @@ valid_last z o w e ok = (and_parts (may_step o w e) true ok).0
 seen_offered : (a : Activity) (rows : ℕ) (choice : Choice) (l : Local) (n : ℕ) (cs : List CallSeen) → seen_after a (offered rows choice) l n cs ≡ seen_after a choice l n cs
 seen_offered Activity.Idle rows (Begin call) l n cs = refl
 seen_offered Activity.Idle rows Go l n cs = refl
-seen_offered Activity.Idle rows (Guess q) l n cs = met (nat_lt q rows)
+seen_offered Activity.Idle rows (Guess q) l n cs = saw (nat_lt q rows)
   where
-    met : (b : Bool) → seen_after Activity.Idle (if b then Guess q else Go) l n cs ≡ cs
-    met true = refl
-    met false = refl
+    saw : (b : Bool) → seen_after Activity.Idle (if b then Guess q else Go) l n cs ≡ cs
+    saw true = refl
+    saw false = refl
 seen_offered Activity.Idle rows Stop l n cs = refl
 seen_offered _ rows choice l n cs = refl
 

@@ -1,6 +1,6 @@
 -- The rows as their words show them: what stands in the cells of a row is what was put by the
--- stamped puts for which the cells stand, and the rows that are met from Head, with their ranges,
--- are the live ones.
+-- stamped puts for which the cells stand, and the rows that are reached from Head, with their
+-- ranges, are the live ones.
 use Rattle.std.proofs.Common.{ℕ, ◌≡◌, ◌≢◌, ◌⊎◌, inl, inr, ◌<◌, ◌≤◌, Bool, true, false, Option, Some, None, arith, refl, sym, ◌∙◌, ap, subst, slice_get}
 use Rattle.std.proofs.lemmas.Bool.{cases_eq, cases_lt}
 use Rattle.std.proofs.lemmas.Option.{same_Some}
@@ -18,7 +18,7 @@ use Rattle.kw_core.specs.Words.{given_in, least_in, next_in}
 use Rattle.kw_rows.specs.Ledger.{Dead, Free, IsLive, Live, Status}
 use Rattle.kw_rows.specs.Rows.{WasLinked, bound}
 use Rattle.kw_shape.specs.RowsIn.{rows_in}
-use Rattle.kw_shape.proofs.LinkedRows.{met_live}
+use Rattle.kw_shape.proofs.LinkedRows.{reached_live}
 use Rattle.kw_kept.specs.Kept.{Kept}
 use Rattle.kw_kept.proofs.GreatestPut.{greatest_of_same}
 use Rattle.kw_puts.specs.Puts.{HasCell, IsCopyAt, IsCurrent, IsOld, IsOver, IsPublishedAt, OwnsAttempt, entry_of, key_in, value_in}
@@ -197,12 +197,12 @@ module _ (z : Sizes) (r : Run) (i : Inv z r) where
 
   -- What rows show.
 
-  -- a row that is met is live, and the keys of its range are those that it holds
+  -- a row that is reached is live, and the keys of its range are those that it holds
   is_holding : (q k : ℕ) → IsRowOf (word z r.world) q k → IsHolding z r q k
   is_holding q k x = record { live = live; holds = record { from = x.from; below = λ u e. which u (next_in (word z r.world) q) refl (sym (i.shape.rows.closed.upper q (inl live)) ∙ e) } }
     where
       live : IsLive r.ledger.rows q
-      live = met_live (word z r.world) r.ledger.rows i.shape.rows.chain q x.met
+      live = reached_live (word z r.world) r.ledger.rows i.shape.rows.chain q x.saw
 
       which : (u : ℕ) (n : Option ℕ) → next_in (word z r.world) q ≡ n → bound (rows_in (word z r.world)) (next_in (word z r.world) q) ≡ Some u → k < u
       which u None f e = let y : None ≡ Some u = ap (bound (rows_in (word z r.world))) (sym f) ∙ e in absurd (cc)

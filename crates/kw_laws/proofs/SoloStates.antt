@@ -1,6 +1,6 @@
 -- The state of the row that a seat is about to rebalance. A rebalance replaces one row alone, so no
 -- row leads more than one, and none follows another: each event keeps that. Then what the invariant
--- says of a row that a seat may name leaves the states of `IsMetState`.
+-- says of a row that a seat may name leaves the states of `IsReachedState`.
 use Rattle.std.proofs.Common.{ℕ, zero, suc, ◌≡◌, ◌⊎◌, inl, inr, ◌<◌, ◌≤◌, true, Option, Some, None, List, arith, sym, subst, slice_get}
 use Rattle.std.proofs.lemmas.Bool.{cases_eq}
 use Rattle.kw_words.specs.declared.layout.Name.TheVariants as name
@@ -35,13 +35,13 @@ use Rattle.kw_core.proofs.Happens.{Happens, exchanged, happens, not_exchanged}
 use Rattle.kw_core.proofs.InfantFrames.{state_stays}
 use Rattle.kw_core.proofs.Runs.{goes_on-moved, holds_of_history}
 use Rattle.kw_shape.specs.Balances.{Balances}
-use Rattle.kw_shape.specs.RowsIn.{rows_in, state_met}
+use Rattle.kw_shape.specs.RowsIn.{rows_in, state_seen}
 use Rattle.kw_shape.specs.Shape.{Shape}
 use Rattle.kw_shape.proofs.RowsKeep.{kinds_at}
 use Rattle.kw_reads.specs.Inv.{Inv}
 use Rattle.kw_reads.proofs.Keeps.{inv_goes_on}
 use Rattle.kw_reads.proofs.Opens.{inv_start}
-use Rattle.kw_laws.specs.Laws.{IsStated, IsMetState}
+use Rattle.kw_laws.specs.Laws.{IsStated, IsReachedState}
 
 -- No row goes along with another.
 
@@ -136,7 +136,7 @@ solo_holds z o i es v = holds_of_history z o (Solo z) (solo_goes_on z o) starts 
 
 module _ (z : Sizes) (r : Run) (q : ℕ) where
   -- the state of a row of the list that goes alone
-  live_state : (c : Option State) → IsLiveState (rows_in (word z r.world)) r.ledger.rows q (state_met c) → IsSolo c → IsMetState (Activity.Rebalance (Rebalance.Engage Engage.State)) c
+  live_state : (c : Option State) → IsLiveState (rows_in (word z r.world)) r.ledger.rows q (state_seen c) → IsSolo c → IsReachedState (Activity.Rebalance (Rebalance.Engage Engage.State)) c
   live_state (Some Free) h x = absurd h
   live_state (Some (Infant seat)) h x = tt
   live_state (Some Normal) h x = tt
@@ -146,7 +146,7 @@ module _ (z : Sizes) (r : Run) (q : ℕ) where
   live_state None h x = absurd h
 
   -- that of a row that was in it
-  dead_state : (c : Option State) → IsDeadState r.ledger.rows q (state_met c) → IsSolo c → IsMetState (Activity.Rebalance (Rebalance.Engage Engage.State)) c
+  dead_state : (c : Option State) → IsDeadState r.ledger.rows q (state_seen c) → IsSolo c → IsReachedState (Activity.Rebalance (Rebalance.Engage Engage.State)) c
   dead_state (Some Free) h x = absurd h
   dead_state (Some (Infant seat)) h x = tt
   dead_state (Some Normal) h x = tt
@@ -156,12 +156,12 @@ module _ (z : Sizes) (r : Run) (q : ℕ) where
   dead_state None h x = absurd h
 
   -- so that of a row that a seat may name
-  fresh_state : Shape z r → (t : ℕ) → rows.IsFresh r.ledger.rows t q → IsSolo (state_of (word z r.world (name.State q))) → IsMetState (Activity.Rebalance (Rebalance.Engage Engage.State)) (state_of (word z r.world (name.State q)))
+  fresh_state : Shape z r → (t : ℕ) → rows.IsFresh r.ledger.rows t q → IsSolo (state_of (word z r.world (name.State q))) → IsReachedState (Activity.Rebalance (Rebalance.Engage Engage.State)) (state_of (word z r.world (name.State q)))
   fresh_state i t (inl a) x = live_state _ (subst (HasState (rows_in (word z r.world)) r.ledger.rows q) a (i.rows.states q)) x
   fresh_state i t (inr a) x = dead_state _ (subst (HasState (rows_in (word z r.world)) r.ledger.rows q) a.dead (i.rows.states q)) x
 
 -- the state of a row that is led
-led_state : (count : ℕ) (c : Option State) → IsLed 0 (state_met c) → IsSolo c → IsMetState (Activity.Rebalance (Rebalance.Engage (Engage.Decide count))) c
+led_state : (count : ℕ) (c : Option State) → IsLed 0 (state_seen c) → IsSolo c → IsReachedState (Activity.Rebalance (Rebalance.Engage (Engage.Decide count))) c
 led_state count (Some Free) h x = absurd h
 led_state count (Some (Infant seat)) h x = absurd h
 led_state count (Some Normal) h x = absurd h
@@ -172,7 +172,7 @@ led_state count None h x = absurd h
 
 -- a seat that is to rebalance a row finds it in such a state
 abbrev pub AreStated : Sizes → Run → Type 0
-AreStated z r = (t : ℕ) (l : Local) → slice_get r.world.locals t ≡ Some l → IsStated l.activity → IsMetState l.activity (state_of (word z r.world (name.State l.row)))
+AreStated z r = (t : ℕ) (l : Local) → slice_get r.world.locals t ≡ Some l → IsStated l.activity → IsReachedState l.activity (state_of (word z r.world (name.State l.row)))
 
 stated_by : (z : Sizes) (r : Run) → Solo z r → AreStated z r
 stated_by z r k t l g x = by l.activity x (k.inv.shape.balances t l g)
@@ -180,7 +180,7 @@ stated_by z r k t l g x = by l.activity x (k.inv.shape.balances t l g)
     solo : IsSolo (state_of (word z r.world (name.State l.row)))
     solo = k.solo l.row (k.inv.shape.sane.locals t l g).below.row
 
-    by : (a : Activity) → IsStated a → Balances (word z r.world) r.ledger.rows t a l → IsMetState a (state_of (word z r.world (name.State l.row)))
+    by : (a : Activity) → IsStated a → Balances (word z r.world) r.ledger.rows t a l → IsReachedState a (state_of (word z r.world (name.State l.row)))
     by (Activity.Rebalance (Rebalance.Engage Engage.State)) y b = fresh_state z r l.row k.inv.shape t (b.fresh tt) solo
     by (Activity.Rebalance (Rebalance.Engage (Engage.Decide count))) y b = led_state count _ b.group.1 solo
     by _ y b = absurd y

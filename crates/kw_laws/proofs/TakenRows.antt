@@ -28,13 +28,13 @@ use Rattle.kw_reads.specs.Inv.{Inv, lower}
 use Rattle.kw_reads.proofs.ShownCells.{cell_of}
 use Rattle.kw_laws.specs.Laws.{IsTaken}
 
--- a seat that has its plan rebalances, and has frozen its row: each entry is passed
-pub record HasPassedAll (z : Sizes) (a : Activity) : Type 0 where
+-- a seat that has its plan rebalances, and has frozen its row: each entry is gone by
+pub record HasGoneByAll (z : Sizes) (a : Activity) : Type 0 where
   pub balancing : IsBalancing a
   pub frozen : HasFrozen a
   pub all : frozen_by z a ≡ z.seats
 
-planned : (z : Sizes) (a : Activity) → HasPlanned (nursing_of a) → HasPassedAll z a
+planned : (z : Sizes) (a : Activity) → HasPlanned (nursing_of a) → HasGoneByAll z a
 planned z (Activity.Rebalance (Rebalance.Seek _)) p = record { balancing = tt; frozen = tt; all = refl }
 planned z (Activity.Rebalance (Rebalance.Write _)) p = record { balancing = tt; frozen = tt; all = refl }
 planned z (Activity.Rebalance (Rebalance.Replace Replace.Start)) p = record { balancing = tt; frozen = tt; all = refl }
@@ -55,15 +55,15 @@ place_has (d ∷ cells) n e = which (cases_eq d.place n) (place_has cells n)
     which (inr f) g = let x = g (sym (not_chosen d.place n true (has_place n cells) f) ∙ e) in (x.0, (suc x.1.0, omega (arith, x.1.1), x.1.2), x.2)
 
 module _ (z : Sizes) (r : Run) (i : Inv z r) (t : ℕ) (l : Local) (knows : slice_get r.world.locals t ≡ Some l) (plan : HasPlanned (nursing_of l.activity)) where
-  passed : HasPassedAll z l.activity
-  passed = planned z l.activity plan
+  gone_by : HasGoneByAll z l.activity
+  gone_by = planned z l.activity plan
 
   linked : WasLinked r.ledger.rows l.row
-  linked = full_linked z r i.shape t l knows passed.balancing
+  linked = full_linked z r i.shape t l knows gone_by.balancing
 
   -- the entry of each seat is settled
   settled : (j : ℕ) → j < z.seats → IsSettled (word z r.world) (slice_get r.world.locals) l.row j
-  settled j w = (i.puts.freezes t l knows).settled passed.frozen j w (omega (arith, w, passed.all))
+  settled j w = (i.puts.freezes t l knows).settled gone_by.frozen j w (omega (arith, w, gone_by.all))
 
   -- what was announced there and is not lost is stamped: its entry is not pending any more
   stamped : (c p : ℕ) → r.origin l.row c ≡ Some p → (attempt r.history p).is_announced ≡ true → (attempt r.history p).is_lost ≡ false → (attempt r.history p).is_stamped ≡ true

@@ -3,8 +3,8 @@
 -- A scan loads the clock before it waits, and a put or a delete loads the clock and the epoch
 -- before it rebalances a row: each is refused as spent where it finds one of them at its bound. For
 -- want of rows a put or a delete is refused as it has asked each row of the table in one search,
--- and was left without as many as it needs. A row that was retired is such a one only if a pass was
--- on in which it may be named.
+-- and was left without as many as it needs. A row that was retired is such a one only if a visit
+-- was on in which it may be named.
 use Rattle.std.specs.Prelude.{ℕ, ◌≡◌, ◌≢◌, ◌⊎◌, ◌<◌, ◌≤◌, Some, List, length, slice_get}
 use Rattle.kw_words.specs.declared.kind.Kind.TheVariants as kind
 use Rattle.kw_words.specs.declared.layout.Name.TheVariants as name
@@ -62,7 +62,7 @@ pub record IsSpentBy (z : Sizes) (o : Opening) (es : List Event) (call : Call) (
 abbrev pub asking : ℕ → Operation
 asking row = operation kind.LoadState (name.State row) Load
 
--- the load by which a search asks for the pass of a seat
+-- the load by which a search asks for the visit of a seat
 abbrev pub asking_pass : ℕ → Operation
 asking_pass seat = operation kind.LoadPass (name.Pass seat) Load
 
@@ -86,9 +86,9 @@ IsTrying s row _ op = ⊥
 abbrev pub NotTried : Sizes → Opening → List Event → ℕ → ℕ → ℕ → ℕ → Type 0
 NotTried z o es s first last row = (u found : ℕ) (a : Activity) (op : Operation) → first < u → u < last → IsTrying s row a op → Acts z o es u s a op found → ⊥
 
--- after the first position and before the last the search met the pass of a seat with an epoch that
--- is not above this number
-pub record MetPass (z : Sizes) (o : Opening) (es : List Event) (s first last number : ℕ) : Type 0 where
+-- after the first position and before the last the search saw the visit of a seat with an epoch
+-- that is not above this number
+pub record SawPass (z : Sizes) (o : Opening) (es : List Event) (s first last number : ℕ) : Type 0 where
   pub at : ℕ
   pub after : first < at
   pub before : at < last
@@ -98,13 +98,13 @@ pub record MetPass (z : Sizes) (o : Opening) (es : List Event) (s first last num
   pub some : 1 ≤ epoch
   pub old : epoch ≤ number
 
--- a row that was found retired with this number, by a seat that knew l, may be named in a pass that
--- is on: that of the seat itself, or one that the search met after it
+-- a row that was found retired with this number, by a seat that knew l, may be named in a visit
+-- that is on: that of the seat itself, or one that the search saw after it
 abbrev pub MayBeNamed : Sizes → Opening → List Event → ℕ → ℕ → ℕ → ℕ → Local → Type 0
-MayBeNamed z o es s at last number l = (1 ≤ l.epoch) × (l.epoch ≤ number) ⊎ MetPass z o es s at last number
+MayBeNamed z o es s at last number l = (1 ≤ l.epoch) × (l.epoch ≤ number) ⊎ SawPass z o es s at last number
 
 -- from the first position on and before the last the seat asked for the row, or tried to take it,
--- and did not find it free; it found it retired only if the row may be named in a pass that is on;
+-- and did not find it free; it found it retired only if the row may be named in a visit that is on;
 -- and it asked for the row no more
 pub record FoundTaken (z : Sizes) (o : Opening) (es : List Event) (s first last row : ℕ) : Type 0 where
   pub at : ℕ
@@ -116,7 +116,7 @@ pub record FoundTaken (z : Sizes) (o : Opening) (es : List Event) (s first last 
   pub found : ℕ
   pub acts : Acts z o es at s activity op found
   pub taken : found ≢ state_word state.Free
-  pub passed : (number : ℕ) → state_of found ≡ Some (state.Retired number) → MayBeNamed z o es s at last number acts.local
+  pub gone_by : (number : ℕ) → state_of found ≡ Some (state.Retired number) → MayBeNamed z o es s at last number acts.local
   pub final : NotTried z o es s at last row
 
 -- from the first position on and before the last the seat took the row

@@ -11,7 +11,7 @@ use Rattle.kw_core.specs.Run.{Run}
 use Rattle.kw_core.specs.Words.{Words, given_in, least_in, next_in}
 use Rattle.kw_kept.specs.Kept.{Rows}
 use Rattle.kw_puts.specs.Puts.{key_in, value_in}
-use Rattle.kw_shape.specs.MetRows.{IsMet}
+use Rattle.kw_shape.specs.ReachedRows.{IsReached}
 
 -- the version of a cell: that in its word, or, where this is 0, the one with which an entry of the
 -- row is stamped for the cell
@@ -44,10 +44,10 @@ pub record IsOfPut (r : Run) (q c k u : ℕ) (x : Option ℕ) : Type 0 where
   pub version : (attempt r.history put).version ≡ u
   pub value : (attempt r.history put).value ≡ x
 
--- the row is met from Head along links, and the key is of its range: from its least key on, and
+-- the row is reached from Head along links, and the key is of its range: from its least key on, and
 -- below that of the row after it
 pub record IsRowOf (v : Words) (q key : ℕ) : Type 0 where
-  pub met : IsMet v q
+  pub saw : IsReached v q
   pub from : least_in v q ≤ key
   pub below : (n : ℕ) → next_in v q ≡ Some n → key < least_in v n
 

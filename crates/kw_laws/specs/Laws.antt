@@ -42,8 +42,8 @@ use Rattle.kw_rows.specs.Ledger.{Free, IsFresh, IsHeld}
 use Rattle.kw_rows.specs.Rows.{WasLinked}
 use Rattle.kw_rows.specs.Structure.{Structure}
 use Rattle.kw_shape.specs.Infants.{nursing_of}
-use Rattle.kw_shape.specs.MetRows.{IsMet}
-use Rattle.kw_shape.specs.Passes.{Numbers, Passes}
+use Rattle.kw_shape.specs.ReachedRows.{IsReached}
+use Rattle.kw_shape.specs.Visits.{Numbers, Visits}
 use Rattle.kw_shape.specs.RowsIn.{rows_in}
 use Rattle.kw_shape.specs.Shape.{HoldsKey, Walks}
 use Rattle.kw_puts.specs.Positions.{IsDrawnAt}
@@ -122,14 +122,14 @@ IsStated _ = ⊥
 
 -- the states that it may find: at first the row is one that a seat has built, or normal, or led
 -- alone, or retired; once its link is marked, it is led alone, or retired
-abbrev pub IsMetState : Activity → Option State → Type 0
-IsMetState (Activity.Rebalance (Rebalance.Engage Engage.State)) (Some (state.Infant seat)) = Unit {0}
-IsMetState (Activity.Rebalance (Rebalance.Engage Engage.State)) (Some state.Normal) = Unit {0}
-IsMetState (Activity.Rebalance (Rebalance.Engage Engage.State)) (Some (state.Leader count)) = count ≤ 1
-IsMetState (Activity.Rebalance (Rebalance.Engage Engage.State)) (Some (state.Retired number)) = Unit {0}
-IsMetState (Activity.Rebalance (Rebalance.Engage (Engage.Decide c))) (Some (state.Leader count)) = count ≤ 1
-IsMetState (Activity.Rebalance (Rebalance.Engage (Engage.Decide c))) (Some (state.Retired number)) = Unit {0}
-IsMetState _ _ = ⊥
+abbrev pub IsReachedState : Activity → Option State → Type 0
+IsReachedState (Activity.Rebalance (Rebalance.Engage Engage.State)) (Some (state.Infant seat)) = Unit {0}
+IsReachedState (Activity.Rebalance (Rebalance.Engage Engage.State)) (Some state.Normal) = Unit {0}
+IsReachedState (Activity.Rebalance (Rebalance.Engage Engage.State)) (Some (state.Leader count)) = count ≤ 1
+IsReachedState (Activity.Rebalance (Rebalance.Engage Engage.State)) (Some (state.Retired number)) = Unit {0}
+IsReachedState (Activity.Rebalance (Rebalance.Engage (Engage.Decide c))) (Some (state.Leader count)) = count ≤ 1
+IsReachedState (Activity.Rebalance (Rebalance.Engage (Engage.Decide c))) (Some (state.Retired number)) = Unit {0}
+IsReachedState _ _ = ⊥
 
 -- what every valid list keeps
 pub record KeepsLaws (z : Sizes) (r : Run) : Type 0 where
@@ -140,28 +140,28 @@ pub record KeepsLaws (z : Sizes) (r : Run) : Type 0 where
   -- row. A row that the table does not have is free
   pub rows : Structure (rows_in (word z r.world)) r.ledger.rows (length r.history.log)
   pub beyond : (q : ℕ) → r.world.rows ≤ q → (r.ledger.rows.fates q).status ≡ Free
-  -- a seat is in a pass as long as its word says so, of an epoch that is not above the present one;
-  -- numbers are drawn in order
-  pub passes : (t : ℕ) (l : Local) → slice_get r.world.locals t ≡ Some l → Passes (word z r.world) r.ledger.rows t l.activity l
+  -- a seat is in a visit as long as its word says so, of an epoch that is not above the present
+  -- one; numbers are drawn in order
+  pub visits : (t : ℕ) (l : Local) → slice_get r.world.locals t ≡ Some l → Visits (word z r.world) r.ledger.rows t l.activity l
   pub numbers : Numbers (word z r.world) r.ledger.rows
-  -- a row that a seat tries to take, and that is retired, was retired in its pass: its number is
-  -- not below the epoch of the pass
+  -- a row that a seat tries to take, and that is retired, was retired in its visit: its number is
+  -- not below the epoch of the visit
   pub retakes : (t : ℕ) (l : Local) → slice_get r.world.locals t ≡ Some l → l.activity ≡ Activity.Rebalance (Rebalance.Seek Seek.Take) → (n : ℕ) → state_of (word z r.world (name.State l.rebalance.sought)) ≡ Some (state.Retired n) → l.epoch ≤ n
   -- a seat that is to rebalance a row finds it in one of few states: no row goes along with another
-  pub stated : (t : ℕ) (l : Local) → slice_get r.world.locals t ≡ Some l → IsStated l.activity → IsMetState l.activity (state_of (word z r.world (name.State l.row)))
-  -- where the walk to the row before a full one meets the end of the list, the full row is in the
+  pub stated : (t : ℕ) (l : Local) → slice_get r.world.locals t ≡ Some l → IsStated l.activity → IsReachedState l.activity (state_of (word z r.world (name.State l.row)))
+  -- where the walk to the row before a full one reaches the end of the list, the full row is in the
   -- list no more
-  pub ends_before : (t : ℕ) (l : Local) → slice_get r.world.locals t ≡ Some l → l.activity ≡ Activity.Rebalance (Rebalance.Replace Replace.Next) → next_in (word z r.world) (row_or_first l.rebalance.before) ≡ None → IsMet (word z r.world) l.row → ⊥
-  -- nor is it where that walk meets a row whose least key is not below that of the full one
-  pub passes_full : (t : ℕ) (l : Local) → slice_get r.world.locals t ≡ Some l → l.activity ≡ Activity.Rebalance (Rebalance.Replace Replace.NextLeast) → l.lower ≤ least_in (word z r.world) l.candidate → IsMet (word z r.world) l.row → ⊥
-  -- a row that is met along the link of one that a seat may name has a greater minimum than that
-  -- one
+  pub ends_before : (t : ℕ) (l : Local) → slice_get r.world.locals t ≡ Some l → l.activity ≡ Activity.Rebalance (Rebalance.Replace Replace.Next) → next_in (word z r.world) (row_or_first l.rebalance.before) ≡ None → IsReached (word z r.world) l.row → ⊥
+  -- nor is it where that walk reaches a row whose least key is not below that of the full one
+  pub goes_by_full : (t : ℕ) (l : Local) → slice_get r.world.locals t ≡ Some l → l.activity ≡ Activity.Rebalance (Rebalance.Replace Replace.NextLeast) → l.lower ≤ least_in (word z r.world) l.candidate → IsReached (word z r.world) l.row → ⊥
+  -- a row that is reached along the link of one that a seat may name has a greater least key than
+  -- that one
   pub links : (q n : ℕ) → IsHeld r.ledger.rows q → next_in (word z r.world) q ≡ Some n → least_in (word z r.world) q < least_in (word z r.world) n
   -- each seat is where its call has it: on its walk at a row that is in the list, or was so in its
-  -- pass, whose minimum it knows, and at the row of its key with the row after it, which begins
+  -- visit, whose least key it knows, and at the row of its key with the row after it, which begins
   -- where the row's range ends
   pub walks : (t : ℕ) (l : Local) → slice_get r.world.locals t ≡ Some l → Walks (word z r.world) r.ledger.rows t l.activity l
-  -- a walk goes up: the row after the one that it is at has a greater minimum than the seat knows
+  -- a walk goes up: the row after the one that it is at has a greater least key than the seat knows
   -- of its own, and so has the row after that of its key
   pub climbs : (t : ℕ) (l : Local) → slice_get r.world.locals t ≡ Some l → l.activity ≡ Activity.Walk Walk.NextLeast → l.lower < least_in (word z r.world) l.candidate
   pub climbs_on : (t : ℕ) (l : Local) → slice_get r.world.locals t ≡ Some l → IsAtRow l.activity → (n : ℕ) → l.next ≡ Some n → l.lower < l.upper
@@ -183,17 +183,17 @@ pub record KeepsLaws (z : Sizes) (r : Run) : Type 0 where
   pub stamps : (t : ℕ) (l : Local) → slice_get r.world.locals t ≡ Some l → l.activity ≡ Activity.Put Put.Stamp → HasCellOrFrozen l.cell (pend_of (word z r.world (name.Pend l.row t)))
   -- a scan that is to settle finds that it waits, or a version
   pub settles : (t : ℕ) (l : Local) → slice_get r.world.locals t ≡ Some l → l.activity ≡ Activity.Draw Draw.Settle → IsWaitingOrDrawn l.waiting (scan_of (word z r.world (name.Scan t)))
-  -- a cell that a put meets on its walk along the row's list stands behind the cell whose link led
-  -- to it, so that the put meets none twice: it has met fewer cells than the row has, and so there
-  -- is one for it to meet
-  pub meets : (t : ℕ) (l : Local) → slice_get r.world.locals t ≡ Some l → IsMeeting l.activity → IsBehind (list_in (word z r.world) r.listed l.row) l.link l.place
+  -- a cell that a put reaches on its walk along the row's list stands behind the cell whose link
+  -- led to it, so that the put reaches none twice: it has reached fewer cells than the row has, and
+  -- so there is one for it to reach
+  pub reaches : (t : ℕ) (l : Local) → slice_get r.world.locals t ≡ Some l → IsMeeting l.activity → IsBehind (list_in (word z r.world) r.listed l.row) l.link l.place
   pub walked : (t : ℕ) (l : Local) → slice_get r.world.locals t ≡ Some l → l.activity ≡ Activity.Insert Insert.Link → l.walked < z.cells
   -- a put loses fewer of its exchanges to insert a cell than the row has cells
   pub lost : (t : ℕ) (l : Local) → slice_get r.world.locals t ≡ Some l → IsInserting l.activity → l.lost < z.cells
-  -- so it is with a get or a scan that walks along the row's list: a cell that it meets stands
+  -- so it is with a get or a scan that walks along the row's list: a cell that it reaches stands
   -- behind the cell whose link led to it, and where the link at which it stands leads to a cell, it
-  -- has met fewer cells than the row has
-  pub reader_meets : (t : ℕ) (l : Local) → slice_get r.world.locals t ≡ Some l → IsAtListed l.activity → IsBehind (list_in (word z r.world) r.listed l.row) l.link l.place
+  -- has reached fewer cells than the row has
+  pub reader_reaches : (t : ℕ) (l : Local) → slice_get r.world.locals t ≡ Some l → IsAtListed l.activity → IsBehind (list_in (word z r.world) r.listed l.row) l.link l.place
   pub reads_on : (t : ℕ) (l : Local) → slice_get r.world.locals t ≡ Some l → l.activity ≡ Activity.Read Read.Link → (c : ℕ) → cell_of_link_word (word z r.world (link_name l.row l.link)) ≡ Some c → l.walked < z.cells
   -- each stamped put loaded its clock between its announcement and its stamp
   pub stamped : (p : ℕ) → IsPut r.history p → IsStampedInOrder r.history p
@@ -207,14 +207,14 @@ pub record KeepsLaws (z : Sizes) (r : Run) : Type 0 where
   -- each attempt for which a cell of the row stands and which was announced is lost, or stamped and
   -- gathered
   pub rebuilds : (t : ℕ) (l : Local) → slice_get r.world.locals t ≡ Some l → HasPlanned (nursing_of l.activity) → (c p : ℕ) → r.origin l.row c ≡ Some p → (attempt r.history p).is_announced ≡ true → (attempt r.history p).is_lost ≡ false → IsTaken r l c p
-  -- the words of each row that is met from Head show for each key of its range what all stamped
+  -- the words of each row that is reached from Head show for each key of its range what all stamped
   -- puts show, at the newest version and at each that a scan needs
   pub kept : Kept (puts_of r.history) (shown_rows z r) (Needed z r)
   -- of a row that is or was linked, a cell that stands for a stamped put shows what was put, and
   -- each cell that shows something stands for a stamped put, and shows what was put
   pub shown : (q p : ℕ) → WasLinked r.ledger.rows q → InRow z r q p → IsShownIn z r q p
   pub of_puts : (q c key version : ℕ) (value : Option ℕ) → WasLinked r.ledger.rows q → IsShown z (word z r.world) q c key version value → IsOfPut r q c key version value
-  -- a seat that is at the row of its key is at a row that is in the list, or was so in its pass,
+  -- a seat that is at the row of its key is at a row that is in the list, or was so in its visit,
   -- and which may hold the key
   pub live : (t : ℕ) (l : Local) → slice_get r.world.locals t ≡ Some l → IsAtRow l.activity → IsFresh r.ledger.rows t l.row
   pub holds : (t : ℕ) (l : Local) → slice_get r.world.locals t ≡ Some l → IsAtRow l.activity → HoldsKey (word z r.world) r.ledger.rows l.row l.want

@@ -34,7 +34,7 @@ pub fn history_laws()
 
 /// After every valid list of events from an opening the laws hold, whatever the sizes of the table.
 /// A row at which a put, a delete or a get has arrived was in the list, as one who follows the
-/// links from the first row sees it, after the seat began its pass; the row that a scan reads was
+/// links from the first row sees it, after the seat began its visit; the row that a scan reads was
 /// so after the draw whose version went into the scan's word, its own draw or that of a seat which
 /// helped it, and after its own draw.
 pub fn list_laws()
@@ -65,8 +65,8 @@ pub fn mirror_laws()
 /// Each call of the record of a valid list from an opening that was refused has its cause among the
 /// events of its seat after its first one and before its last. As spent it is refused where its
 /// seat found the clock or the epoch at its bound. For want of rows it is refused as one search
-/// asked for each row of the table, and found too few that were free. A retired row was passed over
-/// only if a pass was on in which it may be named. So a seat has found already that is about to
+/// asked for each row of the table, and found too few that were free. A retired row was gone by
+/// only if a visit was on in which it may be named. So a seat has found already that is about to
 /// leave for want of rows.
 pub fn cause_laws()
     ensures causes { (z : Sizes) (o : Opening) (events : List Event) → IsOpening z o →
@@ -75,11 +75,11 @@ pub fn cause_laws()
         is_valid z o events ≡ true → AsksWhereItStands z o events }
 {}
 
-/// No row is used again while a seat may read it. When a retired row is given free, each pass that
+/// No row is used again while a seat may read it. When a retired row is given free, each visit that
 /// is on was announced after the number of the row was drawn, and no seat has come to the row in
-/// such a pass, be it that it names the row no more. Each row that a seat has reached in a pass
+/// such a visit, be it that it names the row no more. Each row that a seat has reached in a visit
 /// that is on is not free, is not taken by another seat that has not linked it, and where it is
-/// retired its number is not below the epoch of the pass. No event touches a word, other than the
+/// retired its number is not below the epoch of the visit. No event touches a word, other than the
 /// state, of a row that its seat cannot reach.
 pub fn reach_laws()
     ensures rows { (z : Sizes) (o : Opening) (events : List Event) → IsOpening z o →

@@ -9,5 +9,5 @@ pub mod ReadOff
 pub mod Putting
 pub mod Walking
 pub mod Reading
-pub mod Meeting
+pub mod Reaching
 pub mod Building

@@ -25,8 +25,8 @@ pub put_loads : (n : ℕ) (r : Row) (own lost : ℕ) (at : Option ℕ) → IsLis
 put_loads n r own lost at l k = record { from = k; known = held_on r at (r.link at) (l at k.on); grown = inl refl }
 
 -- it goes on to the link of a cell that stands before its own
-pub put_passes : (n : ℕ) (r : Row) (own lost : ℕ) (at : Option ℕ) (c : ℕ) → IsAt n r own lost at (Some c) → Stands r c own → IsFrom n r own lost (Some c)
-put_passes n r own lost at c k s = record { unlisted = k.from.unlisted; on = k.known; behind = s; fewer = k.from.fewer }
+pub put_goes_by : (n : ℕ) (r : Row) (own lost : ℕ) (at : Option ℕ) (c : ℕ) → IsAt n r own lost at (Some c) → Stands r c own → IsFrom n r own lost (Some c)
+put_goes_by n r own lost at c k s = record { unlisted = k.from.unlisted; on = k.known; behind = s; fewer = k.from.fewer }
 
 -- before any other cell stands its own
 pub put_stops : (n : ℕ) (r : Row) (own lost : ℕ) (at : Option ℕ) (c : ℕ) → IsAt n r own lost at (Some c) → (Stands r c own → ⊥) → IsAhead r own (Some c)
@@ -41,9 +41,9 @@ put_stops n r own lost at c k s = which (stands_or r c own)
 -- as it was: so what each put does to the others is what they may count on
 pub put_inserts : (n : ℕ) (r : Row) (own lost : ℕ) (at held : Option ℕ) → IsSet n r own lost at held → r.link at ≡ held → MayInsert r at own
 put_inserts n r own lost at held k e = record {
-  unlisted = k.met.from.unlisted;
-  on = k.met.from.on;
-  behind = k.met.from.behind;
+  unlisted = k.saw.from.unlisted;
+  on = k.saw.from.on;
+  behind = k.saw.from.behind;
   ahead = subst (IsAhead r own) (sym e) k.ahead;
   after = k.after ∙ sym e;
 }
@@ -87,4 +87,4 @@ module _ (n : ℕ) (r r' : Row) (own : ℕ) (w : Leaves n r r') where
 
   -- and it may make its exchange still
   pub set_stays : LeavesOwn r r' own → (lost : ℕ) (at held : Option ℕ) → IsSet n r own lost at held → IsSet n r' own lost at held
-  set_stays o lost at held k = record { met = at_stays o.cell lost at held k.met; ahead = ahead_stays o.cell held k.met.known k.ahead; after = o.after ∙ k.after }
+  set_stays o lost at held k = record { saw = at_stays o.cell lost at held k.saw; ahead = ahead_stays o.cell held k.saw.known k.ahead; after = o.after ∙ k.after }

@@ -1,4 +1,4 @@
--- What a reader meets.
+-- What a reader reaches.
 use Rattle.std.proofs.Common.{ℕ, ◌≡◌, ◌⊎◌, inl, inr, ◌<◌, ◌≤◌, true, Option, Some, None, arith, ap}
 use Rattle.kw_lists.specs.Rows.{Row, Stands, IsBehind, IsNext, Leads}
 

@@ -25,7 +25,7 @@ pub record IsAt (n : ℕ) (r : Row) (own lost : ℕ) (at held : Option ℕ) : Ty
 -- it is to exchange the link: its cell stands before what this held, and its own link holds the
 -- same
 pub record IsSet (n : ℕ) (r : Row) (own lost : ℕ) (at held : Option ℕ) : Type 0 where
-  pub met : IsAt n r own lost at held
+  pub saw : IsAt n r own lost at held
   pub ahead : IsAhead r own held
   pub after : r.link (Some own) ≡ held
 

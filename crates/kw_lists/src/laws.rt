@@ -7,7 +7,7 @@ ghost use Rattle.kw_lists.specs.Rows.{Row, Stands, stands, IsBehind, IsOn, IsNex
 ghost use Rattle.kw_lists.specs.Changes.{MayInsert, IsAhead, SameCell, Agree, Leaves, stored, inserted, with_cell};
 ghost use Rattle.kw_lists.specs.Words.{row_in, KeepsList, LinksIn};
 ghost use Rattle.kw_lists.specs.Puts.{IsFrom, IsAt, IsSet, LeavesCell, LeavesOwn};
-ghost use Rattle.kw_lists.specs.Walks.{IsPassed, IsWalking, IsMet};
+ghost use Rattle.kw_lists.specs.Walks.{IsGoneBy, IsWalking, IsReached};
 ghost use Rattle.kw_lists.specs.Built.{IsBuilt};
 
 /// The order of cells is strict and total, and the test says which of two cells stands before the
@@ -71,7 +71,7 @@ pub fn put_laws()
     ensures begins { (n : ℕ) (r : Row) (own : ℕ) → r.listed own ≡ false → IsFrom n r own 0 None }
     ensures loads { (n : ℕ) (r : Row) (own lost : ℕ) (at : Option ℕ) → IsList r →
         IsFrom n r own lost at → IsAt n r own lost at (r.link at) }
-    ensures passes { (n : ℕ) (r : Row) (own lost : ℕ) (at : Option ℕ) (c : ℕ) →
+    ensures goes_by { (n : ℕ) (r : Row) (own lost : ℕ) (at : Option ℕ) (c : ℕ) →
         IsAt n r own lost at (Some c) → Stands r c own → IsFrom n r own lost (Some c) }
     ensures stops { (n : ℕ) (r : Row) (own lost : ℕ) (at : Option ℕ) (c : ℕ) →
         IsAt n r own lost at (Some c) → (Stands r c own → ⊥) → IsAhead r own (Some c) }
@@ -93,7 +93,7 @@ pub fn put_laws()
         IsSet n after own lost at held }
 {}
 
-/// A walk along the links meets no cell twice, and so no more cells than there are; a put, whose
+/// A walk along the links reaches no cell twice, and so no more cells than there are; a put, whose
 /// own cell is not listed, fewer.
 pub fn walk_laws()
     ensures begins { (n : ℕ) (r : Row) → IsWalking n r None 0 }
@@ -105,16 +105,16 @@ pub fn walk_laws()
         walked ≤ n }
     ensures fewer { (n : ℕ) (r : Row) (at : Option ℕ) (walked own : ℕ) → own < n →
         r.listed own ≡ false → IsWalking n r at walked → walked < n }
-    ensures once { (r : Row) (at : Option ℕ) (d : ℕ) → IsPassed r at d → IsBehind r at d → ⊥ }
-    ensures passed { (r : Row) (at : Option ℕ) (c d : ℕ) → IsBehind r at c → IsPassed r at d →
-        IsPassed r (Some c) d }
+    ensures once { (r : Row) (at : Option ℕ) (d : ℕ) → IsGoneBy r at d → IsBehind r at d → ⊥ }
+    ensures gone_by { (r : Row) (at : Option ℕ) (c d : ℕ) → IsBehind r at c → IsGoneBy r at d →
+        IsGoneBy r (Some c) d }
 {}
 
-/// What a reader meets: a cell that is listed behind its link is the one that the link holds, or
-/// stands behind that, so the reader will meet it; and at the first cell above its range, or at the
-/// end of the list, it has met all. The first cell of a key is the newest.
+/// What a reader reaches: a cell that is listed behind its link is the one that the link holds, or
+/// stands behind that, so the reader will reach it; and at the first cell above its range, or at
+/// the end of the list, it has reached all. The first cell of a key is the newest.
 pub fn read_laws()
-    ensures meets { (r : Row) (at to : Option ℕ) (d : ℕ) → Leads r at to → r.listed d ≡ true →
+    ensures reaches { (r : Row) (at to : Option ℕ) (d : ℕ) → Leads r at to → r.listed d ≡ true →
         IsBehind r at d → (c : ℕ) × (to ≡ Some c) × ((d ≡ c) ⊎ Stands r c d) }
     ensures ends { (r : Row) (at to : Option ℕ) (d : ℕ) → Leads r at to → to ≡ None →
         r.listed d ≡ true → IsBehind r at d → ⊥ }
@@ -124,10 +124,10 @@ pub fn read_laws()
         IsBehind r at d → r.key d ≡ r.key c → r.version d ≤ r.version c }
 {}
 
-/// What is met from the row's first link, going from link to link, is what is listed.
+/// What is reached from the row's first link, going from link to link, is what is listed.
 pub fn path_laws()
-    ensures listed { (n : ℕ) (r : Row) (d : ℕ) → IsSound n r → r.listed d ≡ true → IsMet r d }
-    ensures met { (r : Row) (d : ℕ) → IsList r → IsMet r d → r.listed d ≡ true }
+    ensures listed { (n : ℕ) (r : Row) (d : ℕ) → IsSound n r → r.listed d ≡ true → IsReached r d }
+    ensures saw { (r : Row) (d : ℕ) → IsList r → IsReached r d → r.listed d ≡ true }
 {}
 
 /// A row that is written at once, from cells that rise by key and then by version, is a list where

@@ -1,4 +1,4 @@
-//! Linked cells of one row: a cell that is linked in keeps the order, a reader still meets what
+//! Linked cells of one row: a cell that is linked in keeps the order, a reader still reaches what
 //! stands behind its link, and a put loses fewer exchanges than there are cells.
 //!
 //! Nothing runs here, and nothing here knows of a seat's activities or of the code. A row is given

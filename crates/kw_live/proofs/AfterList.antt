@@ -24,7 +24,7 @@ use Rattle.kw_world.specs.declared.local.Local.{Local}
 use Rattle.kw_world.specs.declared.marks.Mark.{Mark}
 use Rattle.kw_world.specs.Calls.{is_in_range}
 use Rattle.kw_world.specs.Marks.{least_mark}
-use Rattle.kw_world.specs.ReadTransitions.{gathering, rest_key, rest_of, row_read, scan_ended, scan_on, to_rest, with_pairs}
+use Rattle.kw_world.specs.ReadTransitions.{gathering, left_over_key, left_over_of, row_read, scan_ended, scan_on, to_left_over, with_pairs}
 use Rattle.kw_world.specs.Sizes.{Sizes, product}
 use Rattle.kw_world.specs.Step.{next_of, transition_of}
 use Rattle.kw_world.specs.Table.{transition}
@@ -64,11 +64,11 @@ neither_reads _ u v = refl
 -- a scan at the end of a row
 scan_leaves : (next : Option ℕ) (upto : ℕ) (l : Local) → is_listing (scan_on next upto l).local.activity ≡ false
 scan_leaves None upto l = refl
-scan_leaves (Some r) upto l = met (nat_lt upto l.upper)
+scan_leaves (Some r) upto l = saw (nat_lt upto l.upper)
   where
-    met : (b : Bool) → is_listing (if b then scan_ended l else to (Activity.Walk Walk.Next) (record l { row = r; lower = l.upper; want = l.upper; next = None; upper = 0 })).local.activity ≡ false
-    met true = refl
-    met false = refl
+    saw : (b : Bool) → is_listing (if b then scan_ended l else to (Activity.Walk Walk.Next) (record l { row = r; lower = l.upper; want = l.upper; next = None; upper = 0 })).local.activity ≡ false
+    saw true = refl
+    saw false = refl
 
 -- any call at the end of a row
 row_leaves : (call : Option Call) (l : Local) → is_listing (row_read call l).local.activity ≡ false
@@ -79,25 +79,25 @@ row_leaves (Some (Scan from upto)) l = scan_leaves l.next upto (with_pairs upto 
 row_leaves None l = refl
 
 -- a reader that goes on to what it remembers
-rest_leaves : (l : Local) → is_listing (to_rest l).local.activity ≡ false
-rest_leaves l = met (least_mark l.remembered)
+left_over_leaves : (l : Local) → is_listing (to_left_over l).local.activity ≡ false
+left_over_leaves l = saw (least_mark l.remembered)
   where
-    met : (o : Option Mark) → is_listing (rest_of o l).local.activity ≡ false
-    met (Some m) = refl
-    met None = row_leaves l.call l
+    saw : (o : Option Mark) → is_listing (left_over_of o l).local.activity ≡ false
+    saw (Some m) = refl
+    saw None = row_leaves l.call l
 
 -- one that was told the key of a remembered cell
-rest_key_leaves : (key : ℕ) (l : Local) → is_listing (rest_key key l).local.activity ≡ false
-rest_key_leaves key l = met (is_in_range l.call key)
+left_over_key_leaves : (key : ℕ) (l : Local) → is_listing (left_over_key key l).local.activity ≡ false
+left_over_key_leaves key l = saw (is_in_range l.call key)
   where
-    met : (b : Bool) → is_listing (if b then to (Activity.Read Read.LeftOverValue) (record l { place_key = key }) else to_rest l).local.activity ≡ false
-    met true = refl
-    met false = rest_leaves l
+    saw : (b : Bool) → is_listing (if b then to (Activity.Read Read.LeftOverValue) (record l { place_key = key }) else to_left_over l).local.activity ≡ false
+    saw true = refl
+    saw false = left_over_leaves l
 
 -- each event at such a cell
 event_leaves : (z : Sizes) (a : Activity) (k : Local) (rows told : ℕ) → is_at_remembered a ≡ true → is_listing ((transition z a 0 Go k).next rows told).local.activity ≡ false
-event_leaves z (Activity.Read Read.LeftOverKey) k rows told u = rest_key_leaves (key_of_word told) k
-event_leaves z (Activity.Read Read.LeftOverValue) k rows told u = rest_leaves (gathering z (value_of_word told) k)
+event_leaves z (Activity.Read Read.LeftOverKey) k rows told u = left_over_key_leaves (key_of_word told) k
+event_leaves z (Activity.Read Read.LeftOverValue) k rows told u = left_over_leaves (gathering z (value_of_word told) k)
 event_leaves z (Activity.Enter Enter.Announce) k rows told u = true_false u refl
 event_leaves z (Activity.Draw Draw.Clock) k rows told u = true_false u refl
 event_leaves z (Activity.Walk Walk.First) k rows told u = true_false u refl
@@ -124,8 +124,8 @@ remembered_over s p q l m told f after seat at =
     ∙ event_leaves product k.activity k (view p).opening.rows told (sym (ap (λ (x : Local). is_at_remembered x.activity) f.carries) ∙ at))
 
 -- its walk along the list is over
-pub rest_over : (k m : Local) → CarriesOn to_rest k m → is_listing m.activity ≡ false
-rest_over k m on = ap (λ (y : Local). is_listing y.activity) (on.carries 0 []) ∙ rest_leaves (record k { number = 0; pairs = [] })
+pub listing_over : (k m : Local) → CarriesOn to_left_over k m → is_listing m.activity ≡ false
+listing_over k m on = ap (λ (y : Local). is_listing y.activity) (on.carries 0 []) ∙ left_over_leaves (record k { number = 0; pairs = [] })
 
 -- What stays while a reader reads what it remembers: it has gone on since it came to the list, and
 -- is not in it any more.

@@ -19,7 +19,7 @@ use Rattle.kw_world.specs.declared.event.Choice.TheVariants.{Go}
 use Rattle.kw_world.specs.declared.local.Local.{Local}
 use Rattle.kw_world.specs.declared.marks.Mark.{Mark}
 use Rattle.kw_world.specs.Marks.{least_mark, unmarked}
-use Rattle.kw_world.specs.ReadTransitions.{cell_in_hand, rest_of, row_read, scan_ended, scan_on, to_rest, with_pairs}
+use Rattle.kw_world.specs.ReadTransitions.{cell_in_hand, left_over_of, row_read, scan_ended, scan_on, to_left_over, with_pairs}
 use Rattle.kw_world.specs.Sane.{IsCopy}
 use Rattle.kw_world.specs.Sizes.{product}
 use Rattle.kw_world.specs.Transition.{Outcome, to}
@@ -32,14 +32,14 @@ use Rattle.kw_follow.specs.declared.cursor.Cursor.{Cursor}
 use Rattle.kw_follow.specs.Calling.{KeepsCalls}
 use Rattle.kw_follow.specs.Cursors.{ReadsWord, cell_at, forgetting, gathering_at, past, reached, with_cursor}
 use Rattle.kw_follow.specs.Following.{CarriesOn, Follows, GoesTo, carried, held}
-use Rattle.kw_follow.specs.OwnEvents.{Met}
-use Rattle.kw_follow.proofs.Fronts.{local_at, met_local, met_valid}
+use Rattle.kw_follow.specs.OwnEvents.{Saw}
+use Rattle.kw_follow.proofs.Fronts.{local_at, saw_local, saw_valid}
 use Rattle.kw_follow.proofs.OneEvent.{follows_ranges}
 use Rattle.kw_follow.proofs.OwnEvents.{goes_trans}
 use Rattle.kw_follow.proofs.Reaching.{reaches_none}
 use Rattle.kw_live.specs.Reading.{GoesOn, HasReadAs, ReadsOn, is_reading_list}
 use Rattle.kw_live.specs.Streaming.{EndsRow, LeadsOn, ReadsCell, Streams}
-use Rattle.kw_live.proofs.CursorEvents.{cell_above, cell_counts, cell_passed, cell_within, link_ended, link_led, value_told, version_told}
+use Rattle.kw_live.proofs.CursorEvents.{cell_above, cell_counts, cell_gone_by, cell_within, link_ended, link_led, value_told, version_told}
 use Rattle.kw_live.proofs.GatheredBefore.{gathered_before}
 use Rattle.kw_live.proofs.ReadEvent.{reads_trans}
 
@@ -50,17 +50,17 @@ abbrev going_on : ℕ → ℕ → Local → Outcome
 going_on r upto y = to (Activity.Walk Walk.Next) (record (with_pairs upto y) { row = r; lower = y.upper; want = y.upper; next = None; upper = 0 })
 
 -- a scan whose row leads on goes on with the next row
-leads_to : (y : Local) (first upto : ℕ) → y.call ≡ Some (Scan first upto) → (leads : LeadsOn upto y) → to_rest y ≡ going_on leads.next upto y
+leads_to : (y : Local) (first upto : ℕ) → y.call ≡ Some (Scan first upto) → (leads : LeadsOn upto y) → to_left_over y ≡ going_on leads.next upto y
 leads_to y first upto scan leads =
     let within = leads.within in
     let not_above : nat_lt upto y.upper ≡ false = grind (arith, nat_tests) in
-    ap (λ (ms : List Mark). rest_of (least_mark ms) y) leads.unmarked
+    ap (λ (ms : List Mark). left_over_of (least_mark ms) y) leads.unmarked
     ∙ (ap (λ (c : Option Call). row_read c y) scan
     ∙ (ap (λ (o : Option ℕ). scan_on o upto (with_pairs upto y)) leads.after
     ∙ ap (λ (b : Bool). let o : Outcome = if b then scan_ended (with_pairs upto y) else going_on leads.next upto y in o) not_above))
 
 -- so does one whose seat has gathered more than code holds
-carries_more : (y m : Local) (cells : List Cell) (first upto : ℕ) → y.call ≡ Some (Scan first upto) → LeadsOn upto y → CarriesOn to_rest y m → CarriesOn to_rest (record y { gathered = cells }) (record m { gathered = cells })
+carries_more : (y m : Local) (cells : List Cell) (first upto : ℕ) → y.call ≡ Some (Scan first upto) → LeadsOn upto y → CarriesOn to_left_over y m → CarriesOn to_left_over (record y { gathered = cells }) (record m { gathered = cells })
 carries_more y m cells first upto scan leads on = record {
   carries = λ begun added.
       ap (λ (n : Local). record n { gathered = cells }) (on.carries begun added ∙ ap (λ (o : Outcome). carried o.local) (leads_to (record y { number = begun; pairs = added }) first upto scan (record { unmarked = leads.unmarked; next = leads.next; after = leads.after; within = leads.within })))
@@ -70,7 +70,7 @@ carries_more y m cells first upto scan leads on = record {
 }
 
 -- it then walks
-walks_on : (y m : Local) (first upto : ℕ) → y.call ≡ Some (Scan first upto) → LeadsOn upto y → CarriesOn to_rest y m → m.activity ≡ Activity.Walk Walk.Next
+walks_on : (y m : Local) (first upto : ℕ) → y.call ≡ Some (Scan first upto) → LeadsOn upto y → CarriesOn to_left_over y m → m.activity ≡ Activity.Walk Walk.Next
 walks_on y m first upto scan leads on =
     ap (λ (n : Local). n.activity) (on.carries 0 []) ∙ ap (λ (o : Outcome). o.local.activity) (leads_to (record y { number = 0; pairs = [] }) first upto scan (record { unmarked = leads.unmarked; next = leads.next; after = leads.after; within = leads.within }))
 
@@ -87,10 +87,10 @@ with_cell_behind c (d ∷ cells) a =
 -- what the seat has gathered stands before the cell whose value it is told
 seat_before : (s : Shared) (t u : Pass) (k : Local) (told : ℕ) (value : Option ℕ) → GoesTo s t u → k.activity ≡ Activity.Read Read.Value → ReadsWord s t k told u → All (λ c. stands_before c (cell_in_hand value k) ≡ true) k.gathered
 seat_before s t u k told value goes at word =
-    let x : Met t u k.activity Go told = word.met.met in
-    let valid = met_valid s t u k.activity Go told goes x in
-    let found = gathered_before product (history product (view t).opening x.front) (inv_holds product (view t).opening t.known.opens x.front valid) (view t).number (local_at t x.front) (met_local t u k.activity Go told x) (x.activity ∙ at) value in
-    subst (λ (n : Local). All (λ c. stands_before c (cell_in_hand value n) ≡ true) n.gathered) word.met.knew found
+    let x : Saw t u k.activity Go told = word.saw.saw in
+    let valid = saw_valid s t u k.activity Go told goes x in
+    let found = gathered_before product (history product (view t).opening x.front) (inv_holds product (view t).opening t.known.opens x.front valid) (view t).number (local_at t x.front) (saw_local t u k.activity Go told x) (x.activity ∙ at) value in
+    subst (λ (n : Local). All (λ c. stands_before c (cell_in_hand value n) ≡ true) n.gathered) word.saw.knew found
 
 -- The walk.
 
@@ -102,7 +102,7 @@ pub record Listing (s : Shared) (o : Pass) (l : Local) (w : Cursor) (cells : Lis
   pub streams : Streams s p l x cells
   pub walked : w.walked ≤ x.walked
 
--- nothing is remembered, so a cell that is met need not be forgotten
+-- nothing is remembered, so a cell that is reached need not be forgotten
 unmarked_so : (k : Local) (cell : ℕ) → k.remembered ≡ [] → k ≡ forgetting cell k
 unmarked_so k cell none =
     let same : unmarked cell k.remembered ≡ k.remembered = ap (unmarked cell) none ∙ sym none in
@@ -116,7 +116,7 @@ module _ {s : Shared} {o p q : Pass} {l : Local} {w x : Cursor} {link : ℕ} (fi
   f = before.streams.follows
 
   -- the row is at its end
-  ended_by : {r : Pass} (y m : Local) → y.call ≡ l.call → y.want ≡ l.want → LeadsOn upto y → CarriesOn to_rest y m → ReadsOn s p (with_cursor (Activity.Read Read.Link) x k) r (record m { gathered = cells }) → EndsRow s o l upto cells r m
+  ended_by : {r : Pass} (y m : Local) → y.call ≡ l.call → y.want ≡ l.want → LeadsOn upto y → CarriesOn to_left_over y m → ReadsOn s p (with_cursor (Activity.Read Read.Link) x k) r (record m { gathered = cells }) → EndsRow s o l upto cells r m
   ended_by {r} y m called wanted lead on read =
       let walks : m.activity ≡ (Activity.Walk Walk.Next) = walks_on y m first upto (called ∙ scan) lead on in
       let has : HasReadAs (Some (Scan first upto)) l.want l.version (record m { gathered = cells }) (held p) (held r) =
@@ -136,41 +136,41 @@ module _ {s : Shared} {o p q : Pass} {l : Local} {w x : Cursor} {link : ℕ} (fi
       going (inr e) is = let same : (Activity.EndScan Pairs) ≡ (Activity.Walk Walk.Next) = sym e ∙ is in absurd (cc)
 
   -- since its list is
-  pub stream_ends : (m written : Local) → written ≡ with_cursor (Activity.Read Read.Link) x l → cell_of_link_word link ≡ None → CarriesOn to_rest written m → EndsRow s o l upto cells q m
+  pub stream_ends : (m written : Local) → written ≡ with_cursor (Activity.Read Read.Link) x l → cell_of_link_word link ≡ None → CarriesOn to_left_over written m → EndsRow s o l upto cells q m
   stream_ends m written is none on =
-      let own : CarriesOn to_rest (with_cursor (Activity.Read Read.Link) x l) m = subst (λ (y : Local). CarriesOn to_rest y m) is on in
+      let own : CarriesOn to_left_over (with_cursor (Activity.Read Read.Link) x l) m = subst (λ (y : Local). CarriesOn to_left_over y m) is on in
       let lead : LeadsOn upto (with_cursor (Activity.Read Read.Link) x l) = record { unmarked = leads.unmarked; next = leads.next; after = leads.after; within = leads.within } in
       ended_by (with_cursor (Activity.Read Read.Link) x l) m refl refl lead own
       (link_ended k x (with_cursor (Activity.Read Read.Link) x k) (record m { gathered = cells }) refl none (carries_more (with_cursor (Activity.Read Read.Link) x l) m cells first upto scan lead own) f (load k f))
 
   -- a link leads to a cell
-  module _ (met : Cursor) (cell : ℕ) (is : met ≡ reached cell x) (led : cell_of_link_word link ≡ Some cell) where
-    -- of which there are more than the scan has met
+  module _ (saw : Cursor) (cell : ℕ) (is : saw ≡ reached cell x) (led : cell_of_link_word link ≡ Some cell) where
+    -- of which there are more than the scan has reached
     pub stream_counts : x.walked < CELLS
     stream_counts = cell_counts k x cell led (load k f)
 
-    -- and one more is met now
-    one_more : met.walked ≡ suc x.walked
+    -- and one more is reached now
+    one_more : saw.walked ≡ suc x.walked
     one_more = let fewer = stream_counts in ap (λ (y : Cursor). y.walked) is ∙ omega (arith, fewer)
 
-    met_one : ReadsOn s p (with_cursor (Activity.Read Read.Link) x k) q (with_cursor (Activity.Read Read.Key) met k)
-    met_one = link_led k x met k cell is (unmarked_so k cell leads.unmarked) led f (load k f)
+    reached_one : ReadsOn s p (with_cursor (Activity.Read Read.Link) x k) q (with_cursor (Activity.Read Read.Key) saw k)
+    reached_one = link_led k x saw k cell is (unmarked_so k cell leads.unmarked) led f (load k f)
 
-    pub stream_led : Follows s q (with_cursor (Activity.Read Read.Key) met k)
-    stream_led = met_one.follows
+    pub stream_led : Follows s q (with_cursor (Activity.Read Read.Key) saw k)
+    stream_led = reached_one.follows
 
-    module _ {r : Pass} {found : ℕ} (key : ℕ) (keyed : key ≡ key_of_word found) (second : (n : Local) → Follows s q (with_cursor (Activity.Read Read.Key) met n) → ReadsWord s q (with_cursor (Activity.Read Read.Key) met n) found r) where
-      -- its key is below the range: it is passed
-      module _ (y : Cursor) (passes : y ≡ past met) (below : key < first) where
+    module _ {r : Pass} {found : ℕ} (key : ℕ) (keyed : key ≡ key_of_word found) (second : (n : Local) → Follows s q (with_cursor (Activity.Read Read.Key) saw n) → ReadsWord s q (with_cursor (Activity.Read Read.Key) saw n) found r) where
+      -- its key is below the range: it is gone by
+      module _ (y : Cursor) (passes : y ≡ past saw) (below : key < first) where
         passing : ReadsOn s p (with_cursor (Activity.Read Read.Link) x k) r (with_cursor (Activity.Read Read.Link) y k)
-        passing = cell_passed k k x met cell is (unmarked_so k cell leads.unmarked) led f (load k) (second k) y key first (Some (Scan first upto)) passes keyed refl scan below
+        passing = cell_gone_by k k x saw cell is (unmarked_so k cell leads.unmarked) led f (load k) (second k) y key first (Some (Scan first upto)) passes keyed refl scan below
 
-        passed_one : y.walked ≡ suc x.walked
-        passed_one = ap (λ (z : Cursor). z.walked) passes ∙ one_more
+        gone_by_one : y.walked ≡ suc x.walked
+        gone_by_one = ap (λ (z : Cursor). z.walked) passes ∙ one_more
 
-        pub stream_passes : Listing s o l w cells r y
-        stream_passes =
-            let one = passed_one in
+        pub stream_goes_by : Listing s o l w cells r y
+        stream_goes_by =
+            let one = gone_by_one in
             let less = stream_counts in
             let few = before.streams.few in
             let so_far = before.walked in
@@ -183,21 +183,21 @@ module _ {s : Shared} {o p q : Pass} {l : Local} {w x : Cursor} {link : ℕ} (fi
               walked = omega (arith, one, so_far);
             }
 
-        pub stream_passes_fewer : CELLS - y.walked < CELLS - x.walked
-        stream_passes_fewer = let one = passed_one in let less = stream_counts in omega (arith, one, less)
+        pub stream_goes_by_fewer : CELLS - y.walked < CELLS - x.walked
+        stream_goes_by_fewer = let one = gone_by_one in let less = stream_counts in omega (arith, one, less)
 
       -- it is above it: the row is read
-      pub stream_above : (m written : Local) → written ≡ with_cursor (Activity.Read Read.Key) met l → first ≤ key → upto < key → CarriesOn to_rest written m → EndsRow s o l upto cells r m
+      pub stream_above : (m written : Local) → written ≡ with_cursor (Activity.Read Read.Key) saw l → first ≤ key → upto < key → CarriesOn to_left_over written m → EndsRow s o l upto cells r m
       stream_above m written same from beyond on =
-          let own : CarriesOn to_rest (with_cursor (Activity.Read Read.Key) met l) m = subst (λ (y : Local). CarriesOn to_rest y m) same on in
-          let lead : LeadsOn upto (with_cursor (Activity.Read Read.Key) met l) = record { unmarked = leads.unmarked; next = leads.next; after = leads.after; within = leads.within } in
-          ended_by (with_cursor (Activity.Read Read.Key) met l) m refl refl lead own
-          (cell_above k k x met cell is (unmarked_so k cell leads.unmarked) led f (load k) (second k) (with_cursor (Activity.Read Read.Key) met k) (record m { gathered = cells }) key first upto (Some (Scan first upto)) refl keyed refl refl scan from beyond (carries_more (with_cursor (Activity.Read Read.Key) met l) m cells first upto scan lead own))
+          let own : CarriesOn to_left_over (with_cursor (Activity.Read Read.Key) saw l) m = subst (λ (y : Local). CarriesOn to_left_over y m) same on in
+          let lead : LeadsOn upto (with_cursor (Activity.Read Read.Key) saw l) = record { unmarked = leads.unmarked; next = leads.next; after = leads.after; within = leads.within } in
+          ended_by (with_cursor (Activity.Read Read.Key) saw l) m refl refl lead own
+          (cell_above k k x saw cell is (unmarked_so k cell leads.unmarked) led f (load k) (second k) (with_cursor (Activity.Read Read.Key) saw k) (record m { gathered = cells }) key first upto (Some (Scan first upto)) refl keyed refl refl scan from beyond (carries_more (with_cursor (Activity.Read Read.Key) saw l) m cells first upto scan lead own))
 
       -- it is in the range: the cell is read
-      module _ (y : Cursor) (ranged : y ≡ record met { key = key }) (from : first ≤ key) (within : key ≤ upto) where
+      module _ (y : Cursor) (ranged : y ≡ record saw { key = key }) (from : first ≤ key) (within : key ≤ upto) where
         in_range : ReadsOn s p (with_cursor (Activity.Read Read.Link) x k) r (with_cursor (Activity.Read Read.Version) y k)
-        in_range = cell_within k k x met cell is (unmarked_so k cell leads.unmarked) led f (load k) (second k) y key first upto (Some (Scan first upto)) ranged keyed refl refl scan from within
+        in_range = cell_within k k x saw cell is (unmarked_so k cell leads.unmarked) led f (load k) (second k) y key first upto (Some (Scan first upto)) ranged keyed refl refl scan from within
 
         pub stream_ranged : Follows s r (with_cursor (Activity.Read Read.Version) y k)
         stream_ranged = in_range.follows

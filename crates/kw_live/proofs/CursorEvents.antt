@@ -9,7 +9,7 @@ use Rattle.kw_world.specs.declared.activity.read.Read.TheVariants as Read
 use Rattle.kw_world.specs.declared.event.Choice.TheVariants.{Go}
 use Rattle.kw_world.specs.declared.local.Local.{Local}
 use Rattle.kw_world.specs.Calls.{first_key, last_key}
-use Rattle.kw_world.specs.ReadTransitions.{list_key, list_met, list_past, to_rest}
+use Rattle.kw_world.specs.ReadTransitions.{list_key, list_reached, list_past, to_left_over}
 use Rattle.kw_world.specs.Sizes.{product}
 use Rattle.kw_world.specs.Transition.{to}
 use Rattle.kw_table.specs.declared.pass.Pass.{Pass}
@@ -19,10 +19,10 @@ use Rattle.kw_follow.specs.Calling.{KeepsCalls}
 use Rattle.kw_follow.specs.Cursors.{ReadsWord, forgetting, gathering_at, past, reached, with_cursor}
 use Rattle.kw_follow.specs.Following.{CarriesOn, Follows, GoesTo, carried, held}
 use Rattle.kw_table.specs.Passes.{view}
-use Rattle.kw_follow.specs.OwnEvents.{Met}
-use Rattle.kw_follow.proofs.Fronts.{local_at, met_laws, met_local, met_told}
+use Rattle.kw_follow.specs.OwnEvents.{Saw}
+use Rattle.kw_follow.proofs.Fronts.{local_at, saw_laws, saw_local, saw_told}
 use Rattle.kw_follow.proofs.OwnEvents.{goes_trans}
-use Rattle.kw_follow.proofs.ReadEvents.{passed_on, read_follows}
+use Rattle.kw_follow.proofs.ReadEvents.{gone_by_on, read_follows}
 use Rattle.kw_live.specs.Reading.{ReadsOn, is_reading_list, reads_ahead}
 use Rattle.kw_live.proofs.ReadEvent.{reads, reads_on, reads_trans}
 
@@ -32,7 +32,7 @@ module _ {s : Shared} {p q : Pass} {l m : Local} {told : ℕ} where
   -- it is a reading
   pub one_word : Follows s p l → ReadsWord s p l told q → Follows s q m → is_reading_list l.activity ≡ true → ReadsOn s p l q m
   one_word f word after reading =
-      let read = reads s p q l m told f word.goes after word.seat word.met reading in
+      let read = reads s p q l m told f word.goes after word.seat word.saw reading in
       record {
         goes = word.goes;
         follows = after;
@@ -45,14 +45,14 @@ module _ {s : Shared} {p q : Pass} {l m : Local} {told : ℕ} where
       }
 
 module _ {s : Shared} {p q : Pass} {told : ℕ} (l : Local) (w : Cursor) where
-  -- a walk that is led to a cell has met fewer cells than there are
+  -- a walk that is led to a cell has reached fewer cells than there are
   pub cell_counts : (cell : ℕ) → cell_of_link_word told ≡ Some cell → ReadsWord s p (with_cursor (Activity.Read Read.Link) w l) told q → w.walked < CELLS
   cell_counts cell leads word =
-      let x : Met p q (Activity.Read Read.Link) Go told = word.met.met in
-      let laws = met_laws s p q (Activity.Read Read.Link) Go told word.goes x in
-      let own = met_told p q (Activity.Read Read.Link) Go told x _ refl in
-      subst (λ n. n < CELLS) (ap (λ (k : Local). k.walked) word.met.knew)
-      (laws.reads_on (view p).number (local_at p x.front) (met_local p q (Activity.Read Read.Link) Go told x) x.activity cell (ap cell_of_link_word (sym own) ∙ leads))
+      let x : Saw p q (Activity.Read Read.Link) Go told = word.saw.saw in
+      let laws = saw_laws s p q (Activity.Read Read.Link) Go told word.goes x in
+      let own = saw_told p q (Activity.Read Read.Link) Go told x _ refl in
+      subst (λ n. n < CELLS) (ap (λ (k : Local). k.walked) word.saw.knew)
+      (laws.reads_on (view p).number (local_at p x.front) (saw_local p q (Activity.Read Read.Link) Go told x) x.activity cell (ap cell_of_link_word (sym own) ∙ leads))
 
   -- the link led to a cell
   pub link_led : (x : Cursor) (m : Local) (cell : ℕ) → x ≡ reached cell w → m ≡ forgetting cell l → cell_of_link_word told ≡ Some cell → Follows s p (with_cursor (Activity.Read Read.Link) w l) → ReadsWord s p (with_cursor (Activity.Read Read.Link) w l) told q → ReadsOn s p (with_cursor (Activity.Read Read.Link) w l) q (with_cursor (Activity.Read Read.Key) x m)
@@ -60,7 +60,7 @@ module _ {s : Shared} {p q : Pass} {told : ℕ} (l : Local) (w : Cursor) where
       let k : ℕ → List (ℕ × ℕ) → Local = λ begun added. record (with_cursor (Activity.Read Read.Link) w l) { number = begun; pairs = added } in
       let after : Follows s q (with_cursor (Activity.Read Read.Key) (reached cell w) (forgetting cell l)) =
       read_follows s p q (with_cursor (Activity.Read Read.Link) w l) (with_cursor (Activity.Read Read.Key) (reached cell w) (forgetting cell l)) told (Activity.Read Read.Link) f word.makes refl (record {
-        carries = λ begun added. ap (λ o. carried (list_met product o (k begun added)).local) (sym leads);
+        carries = λ begun added. ap (λ o. carried (list_reached product o (k begun added)).local) (sym leads);
         number = refl;
         pairs = refl;
       })
@@ -69,25 +69,25 @@ module _ {s : Shared} {p q : Pass} {told : ℕ} (l : Local) (w : Cursor) where
       (subst (λ (n : Local). ReadsOn s p (with_cursor (Activity.Read Read.Link) w l) q (with_cursor (Activity.Read Read.Key) (reached cell w) n)) (sym left) (one_word f word after refl))
 
   -- it led to none: the walk is over
-  pub link_ended : (k m : Local) → k ≡ with_cursor (Activity.Read Read.Link) w l → cell_of_link_word told ≡ None → CarriesOn to_rest k m → Follows s p (with_cursor (Activity.Read Read.Link) w l) → ReadsWord s p (with_cursor (Activity.Read Read.Link) w l) told q → ReadsOn s p (with_cursor (Activity.Read Read.Link) w l) q m
+  pub link_ended : (k m : Local) → k ≡ with_cursor (Activity.Read Read.Link) w l → cell_of_link_word told ≡ None → CarriesOn to_left_over k m → Follows s p (with_cursor (Activity.Read Read.Link) w l) → ReadsWord s p (with_cursor (Activity.Read Read.Link) w l) told q → ReadsOn s p (with_cursor (Activity.Read Read.Link) w l) q m
   link_ended k m written none on f word =
       let x : ℕ → List (ℕ × ℕ) → Local = λ begun added. record (with_cursor (Activity.Read Read.Link) w l) { number = begun; pairs = added } in
-      let own : CarriesOn to_rest (with_cursor (Activity.Read Read.Link) w l) m = subst (λ (n : Local). CarriesOn to_rest n m) written on in
+      let own : CarriesOn to_left_over (with_cursor (Activity.Read Read.Link) w l) m = subst (λ (n : Local). CarriesOn to_left_over n m) written on in
       let after : Follows s q m =
       read_follows s p q (with_cursor (Activity.Read Read.Link) w l) m told (Activity.Read Read.Link) f word.makes refl (record {
-        carries = λ begun added. own.carries begun added ∙ ap (λ o. carried (list_met product o (x begun added)).local) (sym none);
+        carries = λ begun added. own.carries begun added ∙ ap (λ o. carried (list_reached product o (x begun added)).local) (sym none);
         number = own.number;
         pairs = own.pairs;
       })
       in
       one_word f word after refl
 
-  -- the key of the cell is below the range: it is passed
+  -- the key of the cell is below the range: it is gone by
   pub key_below : (x : Cursor) → x ≡ past w → key_of_word told < first_key l.call → Follows s p (with_cursor (Activity.Read Read.Key) w l) → ReadsWord s p (with_cursor (Activity.Read Read.Key) w l) told q → ReadsOn s p (with_cursor (Activity.Read Read.Key) w l) q (with_cursor (Activity.Read Read.Link) x l)
   key_below x is below f word =
       let after : Follows s q (with_cursor (Activity.Read Read.Link) (past w) l) =
       read_follows s p q (with_cursor (Activity.Read Read.Key) w l) (with_cursor (Activity.Read Read.Link) (past w) l) told (Activity.Read Read.Key) f word.makes refl
-      (passed_on (key_of_word told) (with_cursor (Activity.Read Read.Key) w l) (with_cursor (Activity.Read Read.Link) (past w) l) below (record { carries = λ begun added. refl; number = refl; pairs = refl }))
+      (gone_by_on (key_of_word told) (with_cursor (Activity.Read Read.Key) w l) (with_cursor (Activity.Read Read.Link) (past w) l) below (record { carries = λ begun added. refl; number = refl; pairs = refl }))
       in
       subst (λ (y : Cursor). ReadsOn s p (with_cursor (Activity.Read Read.Key) w l) q (with_cursor (Activity.Read Read.Link) y l)) (sym is) (one_word f word after refl)
 
@@ -100,8 +100,8 @@ module _ {s : Shared} {p q : Pass} {told : ℕ} (l : Local) (w : Cursor) where
       let after : Follows s q (with_cursor (Activity.Read Read.Version) (record w { key = key }) l) =
       read_follows s p q (with_cursor (Activity.Read Read.Key) w l) (with_cursor (Activity.Read Read.Version) (record w { key = key }) l) told (Activity.Read Read.Key) f word.makes refl (record {
         carries = λ begun added.
-            ap (λ (b : Bool). carried (if b then to (Activity.Read Read.Version) (record (k begun added) { place_key = key }) else to_rest (k begun added)).local) (sym within)
-            ∙ (ap (λ (b : Bool). carried (if b then list_past (k begun added) else if nat_le key (last_key l.call) then to (Activity.Read Read.Version) (record (k begun added) { place_key = key }) else to_rest (k begun added)).local) (sym above)
+            ap (λ (b : Bool). carried (if b then to (Activity.Read Read.Version) (record (k begun added) { place_key = key }) else to_left_over (k begun added)).local) (sym within)
+            ∙ (ap (λ (b : Bool). carried (if b then list_past (k begun added) else if nat_le key (last_key l.call) then to (Activity.Read Read.Version) (record (k begun added) { place_key = key }) else to_left_over (k begun added)).local) (sym above)
             ∙ ap (λ n. carried (list_key n (k begun added)).local) keyed);
         number = refl;
         pairs = refl;
@@ -110,18 +110,18 @@ module _ {s : Shared} {p q : Pass} {told : ℕ} (l : Local) (w : Cursor) where
       subst (λ (y : Cursor). ReadsOn s p (with_cursor (Activity.Read Read.Key) w l) q (with_cursor (Activity.Read Read.Version) y l)) (sym is) (one_word f word after refl)
 
   -- it is above the range: the walk is over
-  pub key_above : (k m : Local) (key : ℕ) → k ≡ with_cursor (Activity.Read Read.Key) w l → key ≡ key_of_word told → first_key l.call ≤ key → last_key l.call < key → CarriesOn to_rest k m → Follows s p (with_cursor (Activity.Read Read.Key) w l) → ReadsWord s p (with_cursor (Activity.Read Read.Key) w l) told q → ReadsOn s p (with_cursor (Activity.Read Read.Key) w l) q m
+  pub key_above : (k m : Local) (key : ℕ) → k ≡ with_cursor (Activity.Read Read.Key) w l → key ≡ key_of_word told → first_key l.call ≤ key → last_key l.call < key → CarriesOn to_left_over k m → Follows s p (with_cursor (Activity.Read Read.Key) w l) → ReadsWord s p (with_cursor (Activity.Read Read.Key) w l) told q → ReadsOn s p (with_cursor (Activity.Read Read.Key) w l) q m
   key_above k m key written keyed from upto on f word =
       let x : ℕ → List (ℕ × ℕ) → Local = λ begun added. record (with_cursor (Activity.Read Read.Key) w l) { number = begun; pairs = added } in
-      let own : CarriesOn to_rest (with_cursor (Activity.Read Read.Key) w l) m = subst (λ (n : Local). CarriesOn to_rest n m) written on in
+      let own : CarriesOn to_left_over (with_cursor (Activity.Read Read.Key) w l) m = subst (λ (n : Local). CarriesOn to_left_over n m) written on in
       let above : nat_lt key (first_key l.call) ≡ false = grind (arith) in
       let beyond : nat_le key (last_key l.call) ≡ false = grind (arith) in
       let after : Follows s q m =
       read_follows s p q (with_cursor (Activity.Read Read.Key) w l) m told (Activity.Read Read.Key) f word.makes refl (record {
         carries = λ begun added.
             own.carries begun added
-            ∙ (ap (λ (b : Bool). carried (if b then to (Activity.Read Read.Version) (record (x begun added) { place_key = key }) else to_rest (x begun added)).local) (sym beyond)
-            ∙ (ap (λ (b : Bool). carried (if b then list_past (x begun added) else if nat_le key (last_key l.call) then to (Activity.Read Read.Version) (record (x begun added) { place_key = key }) else to_rest (x begun added)).local) (sym above)
+            ∙ (ap (λ (b : Bool). carried (if b then to (Activity.Read Read.Version) (record (x begun added) { place_key = key }) else to_left_over (x begun added)).local) (sym beyond)
+            ∙ (ap (λ (b : Bool). carried (if b then list_past (x begun added) else if nat_le key (last_key l.call) then to (Activity.Read Read.Version) (record (x begun added) { place_key = key }) else to_left_over (x begun added)).local) (sym above)
             ∙ ap (λ n. carried (list_key n (x begun added)).local) keyed));
         number = own.number;
         pairs = own.pairs;
@@ -137,7 +137,7 @@ module _ {s : Shared} {p q : Pass} {told : ℕ} (l : Local) (w : Cursor) where
       in
       subst (λ (y : Cursor). ReadsOn s p (with_cursor (Activity.Read Read.Version) w l) q (with_cursor (Activity.Read Read.Value) y l)) (sym is) (one_word f word after refl)
 
-  -- its value was told: the cell is gathered, and passed
+  -- its value was told: the cell is gathered, and gone by
   pub value_told : (x : Cursor) (m : Local) → x ≡ past w → m ≡ gathering_at w (value_of_word told) l → Follows s p (with_cursor (Activity.Read Read.Value) w l) → ReadsWord s p (with_cursor (Activity.Read Read.Value) w l) told q → ReadsOn s p (with_cursor (Activity.Read Read.Value) w l) q (with_cursor (Activity.Read Read.Link) x m)
   value_told x m is put f word =
       let after : Follows s q (with_cursor (Activity.Read Read.Link) (past w) (gathering_at w (value_of_word told) l)) =
@@ -146,7 +146,7 @@ module _ {s : Shared} {p q : Pass} {told : ℕ} (l : Local) (w : Cursor) where
       subst (λ (y : Cursor). ReadsOn s p (with_cursor (Activity.Read Read.Value) w l) q (with_cursor (Activity.Read Read.Link) y m)) (sym is)
       (subst (λ (n : Local). ReadsOn s p (with_cursor (Activity.Read Read.Value) w l) q (with_cursor (Activity.Read Read.Link) (past w) n)) (sym put) (one_word f word after refl))
 
--- Both events of a reader that meets a cell.
+-- Both events of a reader that reaches a cell.
 
 module _ {s : Shared} {p q r : Pass} {link word : ℕ} (l m : Local) (w x : Cursor) (cell : ℕ) (is : x ≡ reached cell w) (left : m ≡ forgetting cell l) (leads : cell_of_link_word link ≡ Some cell) (f : Follows s p (with_cursor (Activity.Read Read.Link) w l)) (first : Follows s p (with_cursor (Activity.Read Read.Link) w l) → ReadsWord s p (with_cursor (Activity.Read Read.Link) w l) link q) (second : Follows s q (with_cursor (Activity.Read Read.Key) x m) → ReadsWord s q (with_cursor (Activity.Read Read.Key) x m) word r) where
   led : ReadsOn s p (with_cursor (Activity.Read Read.Link) w l) q (with_cursor (Activity.Read Read.Key) x m)
@@ -156,8 +156,8 @@ module _ {s : Shared} {p q r : Pass} {link word : ℕ} (l m : Local) (w x : Curs
   bound_stays : (bound_of : Option Call → ℕ) (bound : ℕ) (call : Option Call) → bound ≡ bound_of call → l.call ≡ call → bound ≡ bound_of m.call
   bound_stays bound_of bound call has same = has ∙ ap bound_of (sym (ap (λ (k : Local). k.call) left ∙ same))
 
-  pub cell_passed : (y : Cursor) (key from : ℕ) (call : Option Call) → y ≡ past x → key ≡ key_of_word word → from ≡ first_key call → l.call ≡ call → key < from → ReadsOn s p (with_cursor (Activity.Read Read.Link) w l) r (with_cursor (Activity.Read Read.Link) y m)
-  cell_passed y key from call passes keyed has same below =
+  pub cell_gone_by : (y : Cursor) (key from : ℕ) (call : Option Call) → y ≡ past x → key ≡ key_of_word word → from ≡ first_key call → l.call ≡ call → key < from → ReadsOn s p (with_cursor (Activity.Read Read.Link) w l) r (with_cursor (Activity.Read Read.Link) y m)
+  cell_gone_by y key from call passes keyed has same below =
       let under : key_of_word word < first_key m.call = subst (λ n. n < first_key m.call) keyed (subst (λ n. key < n) (bound_stays first_key from call has same) below) in
       reads_trans s p q r _ _ _ refl led (key_below m x y passes under led.follows (second led.follows))
 
@@ -167,7 +167,7 @@ module _ {s : Shared} {p q r : Pass} {link word : ℕ} (l m : Local) (w x : Curs
       let under : key ≤ last_key m.call = subst (λ n. key ≤ n) (bound_stays last_key upto call ends same) below in
       reads_trans s p q r _ _ _ refl led (key_within m x y key holds keyed over under led.follows (second led.follows))
 
-  pub cell_above : (k n : Local) (key from upto : ℕ) (call : Option Call) → k ≡ with_cursor (Activity.Read Read.Key) x m → key ≡ key_of_word word → from ≡ first_key call → upto ≡ last_key call → l.call ≡ call → from ≤ key → upto < key → CarriesOn to_rest k n → ReadsOn s p (with_cursor (Activity.Read Read.Link) w l) r n
+  pub cell_above : (k n : Local) (key from upto : ℕ) (call : Option Call) → k ≡ with_cursor (Activity.Read Read.Key) x m → key ≡ key_of_word word → from ≡ first_key call → upto ≡ last_key call → l.call ≡ call → from ≤ key → upto < key → CarriesOn to_left_over k n → ReadsOn s p (with_cursor (Activity.Read Read.Link) w l) r n
   cell_above k n key from upto call written keyed begins ends same above beyond on =
       let over : first_key m.call ≤ key = subst (λ n. n ≤ key) (bound_stays first_key from call begins same) above in
       let under : last_key m.call < key = subst (λ n. n < key) (bound_stays last_key upto call ends same) beyond in

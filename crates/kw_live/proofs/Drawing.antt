@@ -30,19 +30,19 @@ use Rattle.kw_table.specs.declared.shared.Shared.{Shared}
 use Rattle.kw_table.specs.Passes.{view}
 use Rattle.kw_follow.specs.Following.{Follows, GoesTo, activity_in}
 use Rattle.kw_follow.proofs.OneEvent.{same_activity}
-use Rattle.kw_follow.specs.OwnEvents.{Met, MetAs}
-use Rattle.kw_follow.proofs.OwnEvents.{met_later, met_earlier}
-use Rattle.kw_live.specs.Meeting.{MetClock}
+use Rattle.kw_follow.specs.OwnEvents.{Saw, SawAs}
+use Rattle.kw_follow.proofs.OwnEvents.{saw_later, saw_earlier}
+use Rattle.kw_live.specs.Sights.{SawClock}
 use Rattle.kw_live.specs.Stages.{HasEntered}
 
--- Where an event was met.
+-- Where an event was seen.
 
 -- the load of a scan's first clock
-pub met_clock : {p q r : Pass} {l : Local} {clock : ℕ} → l.activity ≡ Activity.Draw Draw.Clock → MetAs p q l Go clock → IsPrefix (view q).seen (view r).seen → MetClock p r clock
-met_clock {p} {q} {r} {l} {clock} is m more = record { met = met_later p q r (subst (λ a. Met p q a Go clock) is m.met) more }
+pub saw_clock : {p q r : Pass} {l : Local} {clock : ℕ} → l.activity ≡ Activity.Draw Draw.Clock → SawAs p q l Go clock → IsPrefix (view q).seen (view r).seen → SawClock p r clock
+saw_clock {p} {q} {r} {l} {clock} is m more = record { saw = saw_later p q r (subst (λ a. Saw p q a Go clock) is m.saw) more }
 
-pub met_clock_earlier : {s : Shared} {p q r : Pass} {clock : ℕ} → GoesTo s p q → MetClock q r clock → MetClock p r clock
-met_clock_earlier {s} {p} {q} {r} goes m = record { met = met_earlier s p q r goes m.met }
+pub saw_clock_earlier : {s : Shared} {p q r : Pass} {clock : ℕ} → GoesTo s p q → SawClock q r clock → SawClock p r clock
+saw_clock_earlier {s} {p} {q} {r} goes m = record { saw = saw_earlier s p q r goes m.saw }
 
 -- The events, by their activity.
 
@@ -79,27 +79,27 @@ pub record Settles (l m : Local) (clock : ℕ) : Type 0 where
 
 -- at the end, where it does not wait
 pub settles_spent : (rows : ℕ) (l m : Local) (clock : ℕ) → l.activity ≡ Activity.Draw Draw.Clock → IsLine rows Go l m clock → (m.activity ≡ Activity.Draw Draw.Wait → ⊥) → Settles l m clock
-settles_spent rows l m clock is line leaves = met (nat_le SPENT clock) refl (by_transition rows (Activity.Draw Draw.Clock) Go l m clock is line)
+settles_spent rows l m clock is line leaves = saw (nat_le SPENT clock) refl (by_transition rows (Activity.Draw Draw.Clock) Go l m clock is line)
   where
-    met : (b : Bool) → nat_le SPENT clock ≡ b → m ≡ (let x : Outcome = if b then leave Spent l else to (Activity.Draw Draw.Wait) (record l { waiting = clock }) in x).local → Settles l m clock
-    met true e i = subst (λ k. Settles l k clock) (sym i) (record { call = refl; has_read = refl; entered = spent_entered l.call; spent = (λ x. grind (arith, nat_tests), λ x. refl) })
-    met false e i = absurd (leaves (ap (λ (k : Local). k.activity) i))
+    saw : (b : Bool) → nat_le SPENT clock ≡ b → m ≡ (let x : Outcome = if b then leave Spent l else to (Activity.Draw Draw.Wait) (record l { waiting = clock }) in x).local → Settles l m clock
+    saw true e i = subst (λ k. Settles l k clock) (sym i) (record { call = refl; has_read = refl; entered = spent_entered l.call; spent = (λ x. grind (arith, nat_tests), λ x. refl) })
+    saw false e i = absurd (leaves (ap (λ (k : Local). k.activity) i))
 
 -- where it is still to draw, it waits
 pub still_waits : (rows : ℕ) (l m : Local) (clock : ℕ) (d : Draw) → l.activity ≡ Activity.Draw Draw.Clock → IsLine rows Go l m clock → m.activity ≡ Activity.Draw d → m.activity ≡ Activity.Draw Draw.Wait
-still_waits rows l m clock d is line drawing = met (nat_le SPENT clock) (by_transition rows (Activity.Draw Draw.Clock) Go l m clock is line)
+still_waits rows l m clock d is line drawing = saw (nat_le SPENT clock) (by_transition rows (Activity.Draw Draw.Clock) Go l m clock is line)
   where
-    met : (b : Bool) → m ≡ (let x : Outcome = if b then leave Spent l else to (Activity.Draw Draw.Wait) (record l { waiting = clock }) in x).local → m.activity ≡ Activity.Draw Draw.Wait
-    met true i = let x : (Activity.Leave Spent) ≡ (Activity.Draw d) = sym (ap (λ (k : Local). k.activity) i) ∙ drawing in absurd (cc)
-    met false i = ap (λ (k : Local). k.activity) i
+    saw : (b : Bool) → m ≡ (let x : Outcome = if b then leave Spent l else to (Activity.Draw Draw.Wait) (record l { waiting = clock }) in x).local → m.activity ≡ Activity.Draw Draw.Wait
+    saw true i = let x : (Activity.Leave Spent) ≡ (Activity.Draw d) = sym (ap (λ (k : Local). k.activity) i) ∙ drawing in absurd (cc)
+    saw false i = ap (λ (k : Local). k.activity) i
 
 -- the clock is below the end where it does
 waits_below : (rows : ℕ) (l m : Local) (clock : ℕ) → l.activity ≡ Activity.Draw Draw.Clock → IsLine rows Go l m clock → m.activity ≡ Activity.Draw Draw.Wait → (clock < SPENT) × (m ≡ record l { waiting = clock; activity = Activity.Draw Draw.Wait })
-waits_below rows l m clock is line waiting = met (nat_le SPENT clock) refl (by_transition rows (Activity.Draw Draw.Clock) Go l m clock is line)
+waits_below rows l m clock is line waiting = saw (nat_le SPENT clock) refl (by_transition rows (Activity.Draw Draw.Clock) Go l m clock is line)
   where
-    met : (b : Bool) → nat_le SPENT clock ≡ b → m ≡ (let x : Outcome = if b then leave Spent l else to (Activity.Draw Draw.Wait) (record l { waiting = clock }) in x).local → (clock < SPENT) × (m ≡ record l { waiting = clock; activity = Activity.Draw Draw.Wait })
-    met true e i = let x : (Activity.Leave Spent) ≡ (Activity.Draw Draw.Wait) = sym (ap (λ (k : Local). k.activity) i) ∙ waiting in absurd (cc)
-    met false e i = (grind (arith, nat_tests), i)
+    saw : (b : Bool) → nat_le SPENT clock ≡ b → m ≡ (let x : Outcome = if b then leave Spent l else to (Activity.Draw Draw.Wait) (record l { waiting = clock }) in x).local → (clock < SPENT) × (m ≡ record l { waiting = clock; activity = Activity.Draw Draw.Wait })
+    saw true e i = let x : (Activity.Leave Spent) ≡ (Activity.Draw Draw.Wait) = sym (ap (λ (k : Local). k.activity) i) ∙ waiting in absurd (cc)
+    saw false e i = (grind (arith, nat_tests), i)
 
 -- what a settled scan has
 pub record Settled (l m : Local) : Type 0 where
@@ -108,12 +108,12 @@ pub record Settled (l m : Local) : Type 0 where
   pub at : ((m.activity ≡ Activity.EndScan Pairs) × (is_range_empty l.call ≡ true)) ⊎ ((m.activity ≡ Activity.Walk Walk.Start) × (is_range_empty l.call ≡ false))
 
 settles : (rows : ℕ) (l m : Local) (told : ℕ) → l.activity ≡ Activity.Draw Draw.Settle → IsLine rows Go l m told → Settled l m
-settles rows l m told is line = met (is_range_empty l.call) refl (by_transition rows (Activity.Draw Draw.Settle) Go l m told is line)
+settles rows l m told is line = saw (is_range_empty l.call) refl (by_transition rows (Activity.Draw Draw.Settle) Go l m told is line)
   where
-    met : (b : Bool) → is_range_empty l.call ≡ b
+    saw : (b : Bool) → is_range_empty l.call ≡ b
         → m ≡ (let x : Outcome = if b then to (Activity.EndScan Pairs) (record l { version = version_settled (scan_of told) l.drawn }) else to_start (record l { version = version_settled (scan_of told) l.drawn }) in x).local → Settled l m
-    met true e i = subst (Settled l) (sym i) (record { call = refl; has_read = refl; at = inl (refl, e) })
-    met false e i = subst (Settled l) (sym i) (record { call = refl; has_read = refl; at = inr (refl, e) })
+    saw true e i = subst (Settled l) (sym i) (record { call = refl; has_read = refl; at = inl (refl, e) })
+    saw false e i = subst (Settled l) (sym i) (record { call = refl; has_read = refl; at = inr (refl, e) })
 
 settled_entered : (call : Option Call) (a : Activity) → is_scan call ≡ true → ((a ≡ Activity.EndScan Pairs) × (is_range_empty call ≡ true)) ⊎ ((a ≡ Activity.Walk Walk.Start) × (is_range_empty call ≡ false)) → IfSome call (λ c. HasEntered c a)
 settled_entered (Some (Put key value)) a e h = let x : false ≡ true = e in absurd (cc)
@@ -153,13 +153,13 @@ pub record Entered (call : Call) (m : Local) : Type 0 where
   pub starts : ((d : Draw) → m.activity ≡ Activity.Draw d → ⊥) → (is_scan (Some call) ≡ false) × HasEntered call m.activity
 
 pub enters : (rows : ℕ) (call : Call) (l m : Local) (told : ℕ) → l.activity ≡ Activity.Enter Enter.Announce → l.call ≡ Some call → l.has_read ≡ false → IsLine rows Go l m told → Entered call m
-enters rows call l m told is e u line = met call e (by_transition rows (Activity.Enter Enter.Announce) Go l m told is line ∙ ap (λ c. (entered c l).local) e)
+enters rows call l m told is e u line = saw call e (by_transition rows (Activity.Enter Enter.Announce) Go l m told is line ∙ ap (λ c. (entered c l).local) e)
   where
-    met : (c : Call) → l.call ≡ Some c → m ≡ (entered (Some c) l).local → Entered c m
-    met (Put key value) e i = subst (Entered (Put key value)) (sym i) (record { call_is = e; unread = u; scan = λ d h. let x : (Activity.Walk Walk.Start) ≡ (Activity.Draw d) = h in absurd (cc); starts = λ n. (refl, tt) })
-    met (Del key) e i = subst (Entered (Del key)) (sym i) (record { call_is = e; unread = u; scan = λ d h. let x : (Activity.Walk Walk.Start) ≡ (Activity.Draw d) = h in absurd (cc); starts = λ n. (refl, tt) })
-    met (Get key) e i = subst (Entered (Get key)) (sym i) (record { call_is = e; unread = u; scan = λ d h. let x : (Activity.Walk Walk.Start) ≡ (Activity.Draw d) = h in absurd (cc); starts = λ n. (refl, tt) })
-    met (Scan from upto) e i = subst (Entered (Scan from upto)) (sym i) (record { call_is = e; unread = u; scan = λ d h. (refl, refl); starts = λ n. absurd (n Draw.Clock refl) })
+    saw : (c : Call) → l.call ≡ Some c → m ≡ (entered (Some c) l).local → Entered c m
+    saw (Put key value) e i = subst (Entered (Put key value)) (sym i) (record { call_is = e; unread = u; scan = λ d h. let x : (Activity.Walk Walk.Start) ≡ (Activity.Draw d) = h in absurd (cc); starts = λ n. (refl, tt) })
+    saw (Del key) e i = subst (Entered (Del key)) (sym i) (record { call_is = e; unread = u; scan = λ d h. let x : (Activity.Walk Walk.Start) ≡ (Activity.Draw d) = h in absurd (cc); starts = λ n. (refl, tt) })
+    saw (Get key) e i = subst (Entered (Get key)) (sym i) (record { call_is = e; unread = u; scan = λ d h. let x : (Activity.Walk Walk.Start) ≡ (Activity.Draw d) = h in absurd (cc); starts = λ n. (refl, tt) })
+    saw (Scan from upto) e i = subst (Entered (Scan from upto)) (sym i) (record { call_is = e; unread = u; scan = λ d h. (refl, refl); starts = λ n. absurd (n Draw.Clock refl) })
 
 -- A scan is stopped.
 

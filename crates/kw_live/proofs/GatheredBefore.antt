@@ -6,7 +6,7 @@ use Rattle.std.proofs.lemmas.Option.{same_Some}
 use Rattle.kw_cells.specs.declared.cell.Cell.{Cell}
 use Rattle.kw_cells.specs.InOrder.{stands_before}
 use Rattle.kw_lists.specs.Rows.{IsBehind, Row, Stands}
-use Rattle.kw_lists.specs.Walks.{IsPassed}
+use Rattle.kw_lists.specs.Walks.{IsGoneBy}
 use Rattle.kw_lists.proofs.Orders.{stands_trans}
 use Rattle.kw_world.specs.declared.activity.Activity.TheVariants as Activity
 use Rattle.kw_world.specs.declared.activity.read.Read.TheVariants as Read
@@ -23,8 +23,8 @@ use Rattle.kw_puts.specs.Builds.{has_place}
 use Rattle.kw_puts.specs.Lists.{list_in}
 use Rattle.kw_puts.proofs.GatheredCells.{place_new, place_old}
 use Rattle.kw_reads.specs.Inv.{Inv}
-use Rattle.kw_reads.specs.Readers.{Apart, AreCopies, HasMetCell, Reads}
-use Rattle.kw_reads.proofs.WalksKeep.{has_met}
+use Rattle.kw_reads.specs.Readers.{Apart, AreCopies, HasReachedCell, Reads}
+use Rattle.kw_reads.proofs.WalksKeep.{has_reached}
 
 -- the key and the version of the cell are those that its place has in the row
 abbrev IsCellIn : Row → Cell → Type 0
@@ -34,11 +34,11 @@ IsCellIn row c = (row.key c.place ≡ c.key) × (row.version c.place ≡ c.versi
 before_in : (row : Row) (c d : Cell) → IsCellIn row c → IsCellIn row d → Stands row c.place d.place → stands_before c d ≡ true
 before_in row c d x y s = grind (arith, nat_tests)
 
--- what a walk has passed stands before a cell behind its link
-passed_before : (row : Row) (at : Option ℕ) (c d : ℕ) → IsPassed row at c → IsBehind row at d → Stands row c d
-passed_before row None c d p b = absurd p
-passed_before row (Some a) c d (inl e) b = subst (λ x. Stands row x d) (sym e) b
-passed_before row (Some a) c d (inr s) b = stands_trans row c a d s b
+-- what a walk has gone by stands before a cell behind its link
+gone_by_before : (row : Row) (at : Option ℕ) (c d : ℕ) → IsGoneBy row at c → IsBehind row at d → Stands row c d
+gone_by_before row None c d p b = absurd p
+gone_by_before row (Some a) c d (inl e) b = subst (λ x. Stands row x d) (sym e) b
+gone_by_before row (Some a) c d (inr s) b = stands_trans row c a d s b
 
 module _ (z : Sizes) (r : Run) (i : Inv z r) (q : ℕ) (linked : WasLinked r.ledger.rows q) where
   -- a listed cell that has the key and the version of the attempt for which its place stands is
@@ -61,8 +61,8 @@ module _ (z : Sizes) (r : Run) (i : Inv z r) (q : ℕ) (linked : WasLinked r.led
 pub gathered_before : (z : Sizes) (r : Run) → Inv z r → (t : ℕ) (l : Local) → slice_get r.world.locals t ≡ Some l → l.activity ≡ Activity.Read Read.Value → (value : Option ℕ) → All (λ c. stands_before c (cell_in_hand value l) ≡ true) l.gathered
 gathered_before z r i t l g a value =
     let hand = reads.hand (subst HasPlace (sym a) tt) in
-    copies_before z r i l.row linked (cell_in_hand value l) (listed_in z r i l.row linked (cell_in_hand value l) hand.put met.walks.on hand.origin (hand.key (subst HasCellKey (sym a) tt)) (hand.version (subst HasVersion (sym a) tt)))
-    l l.gathered (r.seats t).ids ((i.readers.gathers t l g).taking taking) (λ n e. (apart.listed listing n e, passed_before row l.link n l.place (apart.passed listing n e) met.behind))
+    copies_before z r i l.row linked (cell_in_hand value l) (listed_in z r i l.row linked (cell_in_hand value l) hand.put saw.walks.on hand.origin (hand.key (subst HasCellKey (sym a) tt)) (hand.version (subst HasVersion (sym a) tt)))
+    l l.gathered (r.seats t).ids ((i.readers.gathers t l g).taking taking) (λ n e. (apart.listed listing n e, gone_by_before row l.link n l.place (apart.gone_by listing n e) saw.behind))
   where
     row : Row
     row = list_in (word z r.world) r.listed l.row
@@ -82,5 +82,5 @@ gathered_before z r i t l g a value =
     reads : Reads row r.history r.origin l.activity l (r.seats t)
     reads = i.readers.reads t l g taking
 
-    met : HasMetCell z.cells row l
-    met = has_met z.cells row l.activity l (subst IsAtListed (sym a) tt) (i.readers.walks t l g)
+    saw : HasReachedCell z.cells row l
+    saw = has_reached z.cells row l.activity l (subst IsAtListed (sym a) tt) (i.readers.walks t l g)

@@ -24,7 +24,7 @@ use Rattle.kw_world.specs.Answers.{answer_found, reply_of}
 use Rattle.kw_world.specs.Sizes.{product}
 use Rattle.kw_world.specs.Step.{next_of}
 use Rattle.kw_world.specs.Transition.{Outcome, outcome, row_linked, to}
-use Rattle.kw_world.specs.WalkTransitions.{arrive, guess_met, link_met, offered}
+use Rattle.kw_world.specs.WalkTransitions.{arrive, guess_seen, link_reached, offered}
 use Rattle.kw_world.proofs.Replies.{reply_of-found}
 use Rattle.kw_core.specs.Stages.{is_walking}
 use Rattle.kw_laws.specs.SeatCalls.{begun_at}
@@ -50,7 +50,7 @@ use Rattle.kw_live.specs.Walking.{IsUnderWay}
 -- The walk to the row.
 
 -- a row that is not in use sends the walk to the first row
-refused : (r : ℕ) (state : Option State) (l : Local) → is_normal state ≡ false → to (Activity.Walk Walk.First) l ≡ guess_met r state l
+refused : (r : ℕ) (state : Option State) (l : Local) → is_normal state ≡ false → to (Activity.Walk Walk.First) l ≡ guess_seen r state l
 refused r (Some Free) l u = refl
 refused r (Some (Infant seat)) l u = refl
 refused r (Some Normal) l u = true_false refl u
@@ -59,7 +59,7 @@ refused r (Some (Follower leader)) l u = refl
 refused r (Some (Retired number)) l u = refl
 refused r None l u = refl
 
-taken : (r : ℕ) (state : Option State) (l : Local) → is_normal state ≡ true → to (Activity.Walk Walk.GuessedLeast) (record l { row = r }) ≡ guess_met r state l
+taken : (r : ℕ) (state : Option State) (l : Local) → is_normal state ≡ true → to (Activity.Walk Walk.GuessedLeast) (record l { row = r }) ≡ guess_seen r state l
 taken r (Some Normal) l u = refl
 taken r (Some Free) l u = true_false u refl
 taken r (Some (Infant seat)) l u = true_false u refl
@@ -71,7 +71,7 @@ taken r None l u = true_false u refl
 module _ {s : Shared} {p q : Pass} {told : ℕ} (w : Way) where
   -- the state of the guessed row was told
   module _ (r : ℕ) (inside : r < s.opening.rows) (f : Follows s p (on_way (Activity.Walk Walk.Start) w)) (makes : Makes s p (Guess r) told q) where
-    guessed : (m : Local) → outcome m Moved ≡ guess_met r (state_of told) (on_way (Activity.Walk Walk.Start) w) → Reaches s p q m
+    guessed : (m : Local) → outcome m Moved ≡ guess_seen r (state_of told) (on_way (Activity.Walk Walk.Start) w) → Reaches s p q m
     guessed m line = reaches_by (went s p q (Guess r) (on_way (Activity.Walk Walk.Start) w) m Moved told s.opening.rows (offered s.opening.rows (Guess r)) f makes refl refl (line ∙ next_guess s.opening.rows r (on_way (Activity.Walk Walk.Start) w) told refl inside)) tt
 
     -- it is not in use
@@ -109,14 +109,14 @@ module _ {s : Shared} {p q : Pass} {told : ℕ} (w : Way) where
   pub links_none : row_linked (link_of told) ≡ None → Follows s p (on_way (Activity.Walk Walk.Next) w) → Makes s p Go told q → Reaches s p q (on_way (Activity.Look (Look.Entry 0)) (record w { next = None; upper = 0 }))
   links_none none f makes =
       walked (Activity.Walk Walk.Next) (on_way (Activity.Look (Look.Entry 0)) (record w { next = None; upper = 0 }))
-      (ap (λ (o : Option ℕ). link_met o (on_way (Activity.Walk Walk.Next) w)) (sym none) ∙ next_at s.opening.rows (Activity.Walk Walk.Next) (on_way (Activity.Walk Walk.Next) w) told refl)
+      (ap (λ (o : Option ℕ). link_reached o (on_way (Activity.Walk Walk.Next) w)) (sym none) ∙ next_at s.opening.rows (Activity.Walk Walk.Next) (on_way (Activity.Walk Walk.Next) w) told refl)
       tt f makes
 
   -- or leads to a row
   pub links_row : (r : ℕ) → row_linked (link_of told) ≡ Some r → Follows s p (on_way (Activity.Walk Walk.Next) w) → Makes s p Go told q → Reaches s p q (on_way (Activity.Walk Walk.NextLeast) (record w { candidate = r }))
   links_row r leads f makes =
       walked (Activity.Walk Walk.Next) (on_way (Activity.Walk Walk.NextLeast) (record w { candidate = r }))
-      (ap (λ (o : Option ℕ). link_met o (on_way (Activity.Walk Walk.Next) w)) (sym leads) ∙ next_at s.opening.rows (Activity.Walk Walk.Next) (on_way (Activity.Walk Walk.Next) w) told refl)
+      (ap (λ (o : Option ℕ). link_reached o (on_way (Activity.Walk Walk.Next) w)) (sym leads) ∙ next_at s.opening.rows (Activity.Walk Walk.Next) (on_way (Activity.Walk Walk.Next) w) told refl)
       tt f makes
 
   -- whose least key is not above the key: the walk goes on there

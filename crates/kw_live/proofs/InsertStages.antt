@@ -27,7 +27,7 @@ use Rattle.kw_follow.specs.Cursors.{holding, past, reached, with_cursor}
 use Rattle.kw_follow.specs.Following.{Follows, GoesTo, held}
 use Rattle.kw_follow.specs.Within.{IsWithinCall}
 use Rattle.kw_follow.proofs.Carrying.{IsGoingOn}
-use Rattle.kw_follow.proofs.OneEvent.{Went, went_held, went_line, went_met, within_goes}
+use Rattle.kw_follow.proofs.OneEvent.{Went, went_held, went_line, went_saw, within_goes}
 use Rattle.kw_follow.proofs.OwnEvents.{goes_trans}
 use Rattle.kw_follow.proofs.PutEvents.{next_at, put_within}
 use Rattle.kw_follow.proofs.Reaching.{reaches_by, reaches_none, went_by}
@@ -36,7 +36,7 @@ use Rattle.kw_live.specs.Putting.{InsertsFurther, put_ahead}
 use Rattle.kw_live.proofs.PutStages.{put_goes}
 use Rattle.kw_live.proofs.ReadEvent.{laws_in}
 
--- a put that stands at a link has met fewer cells than there are
+-- a put that stands at a link has reached fewer cells than there are
 pub put_counts : (s : Shared) (p : Pass) (l : Local) (w : Cursor) → Follows s p (with_cursor (Activity.Insert Insert.Link) w l) → w.walked < CELLS
 put_counts s p l w f =
     let k : Local = local_in (view p) in
@@ -61,7 +61,7 @@ module _ {s : Shared} {p q : Pass} {told : ℕ} (l m : Local) (done : StepDone) 
   pub inserts_by : IsInserting m.activity → InsertsFurther s p l q m
   inserts_by inserting =
       let on = reaches_by went_on going in
-      let put_on = put_goes s p p q l m (view p).opening.rows told (reaches_none f).goes on.goes (went_met went_on within) (went_line went_on going) put in
+      let put_on = put_goes s p p q l m (view p).opening.rows told (reaches_none f).goes on.goes (went_saw went_on within) (went_line went_on going) put in
       record { goes = on.goes; follows = on.follows; calls = on.calls; held = went_held went_on going refl; inserting = inserting; fewer = put_on.fewer }
 
 -- The put still inserts its cell.
@@ -73,19 +73,19 @@ from_link None l = tt
 
 -- once it was told a key
 from_key : (key : ℕ) (l : Local) → IsInserting (insert_key key l).local.activity
-from_key key l = met (nat_lt key (first_key l.call)) (key == first_key l.call)
+from_key key l = saw (nat_lt key (first_key l.call)) (key == first_key l.call)
   where
-    met : (b c : Bool) → IsInserting (let x : Outcome = if b then insert_past l else if c then to (Activity.Insert Insert.Version) l else to (Activity.Insert Insert.Set) l in x).local.activity
-    met true c = tt
-    met false true = tt
-    met false false = tt
+    saw : (b c : Bool) → IsInserting (let x : Outcome = if b then insert_past l else if c then to (Activity.Insert Insert.Version) l else to (Activity.Insert Insert.Set) l in x).local.activity
+    saw true c = tt
+    saw false true = tt
+    saw false false = tt
 
 -- One event, of a put whose cursor is here.
 
 module _ {s : Shared} {p q : Pass} {told : ℕ} (l : Local) (w : Cursor) where
   -- the link led to a cell
-  pub link_met : (x : Cursor) (m : Local) (cell : ℕ) → x ≡ reached cell w → m ≡ holding cell l → cell_of_link_word told ≡ Some cell → Follows s p (with_cursor (Activity.Insert Insert.Link) w l) → Makes s p Go told q → InsertsFurther s p (with_cursor (Activity.Insert Insert.Link) w l) q (with_cursor (Activity.Insert Insert.Key) x m)
-  link_met x m cell is left leads f makes =
+  pub link_reached : (x : Cursor) (m : Local) (cell : ℕ) → x ≡ reached cell w → m ≡ holding cell l → cell_of_link_word told ≡ Some cell → Follows s p (with_cursor (Activity.Insert Insert.Link) w l) → Makes s p Go told q → InsertsFurther s p (with_cursor (Activity.Insert Insert.Link) w l) q (with_cursor (Activity.Insert Insert.Key) x m)
+  link_reached x m cell is left leads f makes =
       let k : Local = with_cursor (Activity.Insert Insert.Link) w l in
       let line : outcome (with_cursor (Activity.Insert Insert.Key) (reached cell w) (holding cell l)) Moved ≡ insert_from product (cell_of_link_word told) k = ap (λ (o : Option ℕ). insert_from product o k) (sym leads) in
       let on : InsertsFurther s p k q (with_cursor (Activity.Insert Insert.Key) (reached cell w) (holding cell l)) = inserts_by k (with_cursor (Activity.Insert Insert.Key) (reached cell w) (holding cell l)) Moved f makes refl (line ∙ next_at _ (Activity.Insert Insert.Link) k told refl) tt in
@@ -99,9 +99,9 @@ module _ {s : Shared} {p q : Pass} {told : ℕ} (l : Local) (w : Cursor) where
       inserts_by (with_cursor (Activity.Insert Insert.Link) w l) m done f makes refl (line ∙ next_at _ (Activity.Insert Insert.Link) (with_cursor (Activity.Insert Insert.Link) w l) told refl)
       (subst (λ (o : Outcome). IsInserting o.local.activity) (sym line) (from_link (cell_of_link_word told) (with_cursor (Activity.Insert Insert.Link) w l)))
 
-  -- the key of the cell is below the own one: it is passed
-  pub key_passed : (x : Cursor) → x ≡ past w → key_of_word told < first_key l.call → Follows s p (with_cursor (Activity.Insert Insert.Key) w l) → Makes s p Go told q → InsertsFurther s p (with_cursor (Activity.Insert Insert.Key) w l) q (with_cursor (Activity.Insert Insert.Link) x l)
-  key_passed x is below f makes =
+  -- the key of the cell is below the own one: it is gone by
+  pub key_gone_by : (x : Cursor) → x ≡ past w → key_of_word told < first_key l.call → Follows s p (with_cursor (Activity.Insert Insert.Key) w l) → Makes s p Go told q → InsertsFurther s p (with_cursor (Activity.Insert Insert.Key) w l) q (with_cursor (Activity.Insert Insert.Link) x l)
+  key_gone_by x is below f makes =
       let k : Local = with_cursor (Activity.Insert Insert.Key) w l in
       let line : outcome (with_cursor (Activity.Insert Insert.Link) (past w) l) Moved ≡ insert_key (key_of_word told) k =
       ap (λ (b : Bool). let o : Outcome = if b then insert_past k else if key_of_word told == first_key k.call then to (Activity.Insert Insert.Version) k else to (Activity.Insert Insert.Set) k in o) (sym (lt-ltb (key_of_word told) (first_key l.call) below))
@@ -132,24 +132,24 @@ inserts_trans {s} {p} {q} {r} l m n a b = record {
 -- A cell that the link led to.
 
 module _ {s : Shared} {p q r : Pass} {link word : ℕ} (l m : Local) (w x : Cursor) (cell : ℕ) (is : x ≡ reached cell w) (left : m ≡ holding cell l) (leads : cell_of_link_word link ≡ Some cell) (f : Follows s p (with_cursor (Activity.Insert Insert.Link) w l)) (first : Makes s p Go link q) (second : Makes s q Go word r) where
-  -- the put has met it
-  met : InsertsFurther s p (with_cursor (Activity.Insert Insert.Link) w l) q (with_cursor (Activity.Insert Insert.Key) x m)
-  met = link_met l w x m cell is left leads f first
+  -- the put has reached it
+  saw : InsertsFurther s p (with_cursor (Activity.Insert Insert.Link) w l) q (with_cursor (Activity.Insert Insert.Key) x m)
+  saw = link_reached l w x m cell is left leads f first
 
   -- the call is as it was
   call_stays : m.call ≡ l.call
   call_stays = ap (λ (k : Local). k.call) left
 
-  -- it is passed
-  pub cell_passed : (y : Cursor) (key own : ℕ) (call : Option Call) → y ≡ past x → key ≡ key_of_word word → own ≡ first_key call → l.call ≡ call → key < own → InsertsFurther s p (with_cursor (Activity.Insert Insert.Link) w l) r (with_cursor (Activity.Insert Insert.Link) y m)
-  cell_passed y key own call passes keyed has same below =
+  -- it is gone by
+  pub cell_gone_by : (y : Cursor) (key own : ℕ) (call : Option Call) → y ≡ past x → key ≡ key_of_word word → own ≡ first_key call → l.call ≡ call → key < own → InsertsFurther s p (with_cursor (Activity.Insert Insert.Link) w l) r (with_cursor (Activity.Insert Insert.Link) y m)
+  cell_gone_by y key own call passes keyed has same below =
       let bound : own ≡ first_key m.call = has ∙ ap first_key (sym (call_stays ∙ same)) in
       let under : key_of_word word < first_key m.call = subst (λ n. n < first_key m.call) keyed (subst (λ n. key < n) bound below) in
-      inserts_trans _ _ _ met (key_passed m x y passes under met.follows second)
+      inserts_trans _ _ _ saw (key_gone_by m x y passes under saw.follows second)
 
   -- the walk is left there
   pub cell_left : (k n : Local) (done : StepDone) → k ≡ with_cursor (Activity.Insert Insert.Key) x m → outcome n done ≡ insert_key (key_of_word word) k → InsertsFurther s p (with_cursor (Activity.Insert Insert.Link) w l) r n
-  cell_left k n done written on = inserts_trans _ _ _ met (key_left m x k n done written on met.follows second)
+  cell_left k n done written on = inserts_trans _ _ _ saw (key_left m x k n done written on saw.follows second)
 
 -- What stays while a cursor goes along the list.
 

@@ -15,7 +15,7 @@ use Rattle.kw_world.specs.declared.event.StepDone.TheVariants.{Moved}
 use Rattle.kw_world.specs.declared.local.Local.{Local}
 use Rattle.kw_world.specs.Calls.{is_in_range}
 use Rattle.kw_world.specs.Transition.{Outcome, outcome, to}
-use Rattle.kw_world.specs.ReadTransitions.{to_look, look_met, help_met, remembering}
+use Rattle.kw_world.specs.ReadTransitions.{to_look, look_seen, help_seen, remembering}
 use Rattle.kw_world.specs.Sizes.{Sizes, product}
 use Rattle.kw_world.specs.Step.{next_of, transition_of}
 use Rattle.kw_world.specs.Table.{transition}
@@ -40,19 +40,19 @@ pub record Looked (z : Sizes) (l m : Local) (ahead : ℕ) : Type 0 where
 
 -- the next entry is looked at, or the list is gone along, where there is none
 goes_on : (z : Sizes) (l x : Local) (i ahead : ℕ) → x.call ≡ l.call → x.want ≡ l.want → x.version ≡ l.version → 0 < ahead → (i < z.seats → 4 * (z.seats - i) + 4 < ahead) → Looked z l (to_look z i x).local ahead
-goes_on z l x i ahead a b c some fewer = met (nat_lt i z.seats) refl
+goes_on z l x i ahead a b c some fewer = saw (nat_lt i z.seats) refl
   where
-    met : (e : Bool) → nat_lt i z.seats ≡ e → Looked z l (let o : Outcome = if e then to (Activity.Look (Look.Entry i)) x else to (Activity.Read Read.Link) x in o).local ahead
-    met true h = record { looks = record { call = a; want = b; version = c; stage = λ f. true_false refl f }; fewer = fewer (grind (arith, nat_tests)) }
-    met false h = record { looks = record { call = a; want = b; version = c; stage = λ f. refl }; fewer = some }
+    saw : (e : Bool) → nat_lt i z.seats ≡ e → Looked z l (let o : Outcome = if e then to (Activity.Look (Look.Entry i)) x else to (Activity.Read Read.Link) x in o).local ahead
+    saw true h = record { looks = record { call = a; want = b; version = c; stage = λ f. true_false refl f }; fewer = fewer (grind (arith, nat_tests)) }
+    saw false h = record { looks = record { call = a; want = b; version = c; stage = λ f. refl }; fewer = some }
 
--- an entry is met
-meets : (z : Sizes) (l : Local) (i : ℕ) (e : Option Pend) → Looked z l (look_met z i e l).local (4 * (z.seats - i) + 4)
-meets z l i (Some Idle) = goes_on z l l (i + 1) _ refl refl refl (omega arith) (λ h. omega (arith, h))
-meets z l i (Some (Pending cell)) = record { looks = record { call = refl; want = refl; version = refl; stage = λ f. true_false refl f }; fewer = omega arith }
-meets z l i (Some (Stamped cell version)) = goes_on z l (remembering cell version l) (i + 1) _ refl refl refl (omega arith) (λ h. omega (arith, h))
-meets z l i (Some Frozen) = goes_on z l l (i + 1) _ refl refl refl (omega arith) (λ h. omega (arith, h))
-meets z l i None = goes_on z l l (i + 1) _ refl refl refl (omega arith) (λ h. omega (arith, h))
+-- an entry is seen
+sees : (z : Sizes) (l : Local) (i : ℕ) (e : Option Pend) → Looked z l (look_seen z i e l).local (4 * (z.seats - i) + 4)
+sees z l i (Some Idle) = goes_on z l l (i + 1) _ refl refl refl (omega arith) (λ h. omega (arith, h))
+sees z l i (Some (Pending cell)) = record { looks = record { call = refl; want = refl; version = refl; stage = λ f. true_false refl f }; fewer = omega arith }
+sees z l i (Some (Stamped cell version)) = goes_on z l (remembering cell version l) (i + 1) _ refl refl refl (omega arith) (λ h. omega (arith, h))
+sees z l i (Some Frozen) = goes_on z l l (i + 1) _ refl refl refl (omega arith) (λ h. omega (arith, h))
+sees z l i None = goes_on z l l (i + 1) _ refl refl refl (omega arith) (λ h. omega (arith, h))
 
 -- its cell's key is read
 keys : (z : Sizes) (l : Local) (b : Bool) → Looked z l (let o : Outcome = if b then to (Activity.Look Look.Clock) l else to_look z (l.looked + 1) l in o).local (4 * (z.seats - l.looked) + 3)
@@ -60,9 +60,9 @@ keys z l true = record { looks = record { call = refl; want = refl; version = re
 keys z l false = goes_on z l l (l.looked + 1) _ refl refl refl (omega arith) (λ h. omega (arith, h))
 
 -- its put is helped
-helps : (z : Sizes) (l : Local) (e : Option Pend) → Looked z l (help_met z e l).local (4 * (z.seats - l.looked) + 1)
+helps : (z : Sizes) (l : Local) (e : Option Pend) → Looked z l (help_seen z e l).local (4 * (z.seats - l.looked) + 1)
 helps z l (Some Idle) = goes_on z l l (l.looked + 1) _ refl refl refl (omega arith) (λ h. omega (arith, h))
-helps z l (Some (Pending cell)) = own (cell == l.met)
+helps z l (Some (Pending cell)) = own (cell == l.saw)
   where
     own : (b : Bool) → Looked z l (to_look z (l.looked + 1) (if b then remembering cell l.helping l else l)).local (4 * (z.seats - l.looked) + 1)
     own true = goes_on z l (remembering cell l.helping l) (l.looked + 1) _ refl refl refl (omega arith) (λ h. omega (arith, h))
@@ -73,7 +73,7 @@ helps z l None = goes_on z l l (l.looked + 1) _ refl refl refl (omega arith) (λ
 
 -- the event, by its activity
 event : (z : Sizes) (a : Activity) (l : Local) (rows told : ℕ) → is_looking a ≡ true → Looked z l ((transition z a 0 Go l).next rows told).local (look_ahead z a l.looked)
-event z (Activity.Look (Look.Entry i)) l rows told u = meets z l i (pend_of told)
+event z (Activity.Look (Look.Entry i)) l rows told u = sees z l i (pend_of told)
 event z (Activity.Look Look.Key) l rows told u = keys z l (is_in_range l.call (key_of_word told))
 event z (Activity.Look Look.Clock) l rows told u = record { looks = record { call = refl; want = refl; version = refl; stage = λ f. true_false refl f }; fewer = omega arith }
 event z (Activity.Look Look.Help) l rows told u = helps z l (pend_of told)
@@ -113,16 +113,16 @@ module _ {s : Shared} {p q : Pass} {told : ℕ} (l m : Local) (done : StepDone) 
 
 module _ {s : Shared} {p q : Pass} {told : ℕ} (l : Local) (i : ℕ) (f : Follows s p (looking i l)) (makes : Makes s p Go told q) where
   -- the next entry is looked at
-  idle_line : pend_of told ≡ Some Idle → i + 1 < product.seats → outcome (looking (i + 1) l) Moved ≡ look_met product i (pend_of told) (looking i l)
+  idle_line : pend_of told ≡ Some Idle → i + 1 < product.seats → outcome (looking (i + 1) l) Moved ≡ look_seen product i (pend_of told) (looking i l)
   idle_line idle more =
       ap (λ (b : Bool). let o : Outcome = if b then to (Activity.Look (Look.Entry (i + 1))) (looking i l) else to (Activity.Read Read.Link) (looking i l) in o) (sym (lt-ltb (i + 1) product.seats more))
-      ∙ ap (λ (e : Option Pend). look_met product i e (looking i l)) (sym idle)
+      ∙ ap (λ (e : Option Pend). look_seen product i e (looking i l)) (sym idle)
 
-  pub passes_idle : pend_of told ≡ Some Idle → i + 1 < product.seats → LooksFurther s p (looking i l) q (looking (i + 1) l)
-  passes_idle idle more = looks_by (looking i l) (looking (i + 1) l) Moved f makes refl (idle_line idle more ∙ next_at _ (Activity.Look (Look.Entry i)) (looking i l) told refl)
+  pub goes_by_idle : pend_of told ≡ Some Idle → i + 1 < product.seats → LooksFurther s p (looking i l) q (looking (i + 1) l)
+  goes_by_idle idle more = looks_by (looking i l) (looking (i + 1) l) Moved f makes refl (idle_line idle more ∙ next_at _ (Activity.Look (Look.Entry i)) (looking i l) told refl)
 
-  pub meets_entry : (m : Local) (done : StepDone) → outcome m done ≡ look_met product i (pend_of told) (looking i l) → LooksFurther s p (looking i l) q m
-  meets_entry m done line = looks_by (looking i l) m done f makes refl (line ∙ next_at _ (Activity.Look (Look.Entry i)) (looking i l) told refl)
+  pub sees_entry : (m : Local) (done : StepDone) → outcome m done ≡ look_seen product i (pend_of told) (looking i l) → LooksFurther s p (looking i l) q m
+  sees_entry m done line = looks_by (looking i l) m done f makes refl (line ∙ next_at _ (Activity.Look (Look.Entry i)) (looking i l) told refl)
 
 -- All of them.
 
@@ -173,14 +173,14 @@ module _ {s : Shared} {o p q : Pass} {l m n : Local} (before : IsLookingOn s o l
   }
 
 -- looks up to an entry, and what follows from it
-pub looked_from : {s : Shared} {p q : Pass} {l m : Local} {from entry told : ℕ} {done : StepDone} → l.activity ≡ Activity.Look (Look.Entry from) → LooksUpTo s p l from entry told q → outcome m done ≡ look_met product entry (pend_of told) (looking entry l) → LooksFurther s p l q m
+pub looked_from : {s : Shared} {p q : Pass} {l m : Local} {from entry told : ℕ} {done : StepDone} → l.activity ≡ Activity.Look (Look.Entry from) → LooksUpTo s p l from entry told q → outcome m done ≡ look_seen product entry (pend_of told) (looking entry l) → LooksFurther s p l q m
 looked_from {s} {p} {q} {l} {m} {from} {entry} {told} {done} is up line =
     subst (λ (a : Activity). LooksFurther s p (record l { activity = a }) q m) (sym is)
-    (looked_on up.on (meets_entry l entry up.on.follows up.makes m done line))
+    (looked_on up.on (sees_entry l entry up.on.follows up.makes m done line))
 
 -- after the last entry, at which nothing is announced, the list is gone along
-pub last_line : (l : Local) (i told : ℕ) → is_idle (pend_of told) ≡ true → product.seats ≤ i + 1 → outcome (record l { activity = Activity.Read Read.Link }) Moved ≡ look_met product i (pend_of told) (looking i l)
+pub last_line : (l : Local) (i told : ℕ) → is_idle (pend_of told) ≡ true → product.seats ≤ i + 1 → outcome (record l { activity = Activity.Read Read.Link }) Moved ≡ look_seen product i (pend_of told) (looking i l)
 last_line l i told idle last =
     let over : nat_lt (i + 1) product.seats ≡ false = grind (arith, nat_tests) in
     ap (λ (b : Bool). let o : Outcome = if b then to (Activity.Look (Look.Entry (i + 1))) (looking i l) else to (Activity.Read Read.Link) (looking i l) in o) (sym over)
-    ∙ ap (λ (e : Option Pend). look_met product i e (looking i l)) (sym (idle_is (pend_of told) idle))
+    ∙ ap (λ (e : Option Pend). look_seen product i e (looking i l)) (sym (idle_is (pend_of told) idle))

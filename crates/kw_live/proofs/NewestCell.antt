@@ -28,7 +28,7 @@ use Rattle.kw_follow.proofs.OneEvent.{follows_ranges}
 use Rattle.kw_follow.specs.Reaching.{Reaches}
 use Rattle.kw_live.specs.Getting.{HasFound, newer_of}
 use Rattle.kw_live.specs.Reading.{ReadsOn, reads_ahead}
-use Rattle.kw_live.proofs.CursorEvents.{cell_above, cell_counts, cell_passed, cell_within, link_ended, link_led, value_told, version_told}
+use Rattle.kw_live.proofs.CursorEvents.{cell_above, cell_counts, cell_gone_by, cell_within, link_ended, link_led, value_told, version_told}
 use Rattle.kw_follow.proofs.Reaching.{reaches_none, reaches_trans}
 use Rattle.kw_live.proofs.ReadEvent.{reads_trans}
 
@@ -121,7 +121,7 @@ module _ {s : Shared} {o p q : Pass} {way : Way} {w : Cursor} {newest : Option C
 
   -- a link leads to a cell
   module _ (x : Cursor) (cell : ℕ) (is : x ≡ reached cell w) (leads : cell_of_link_word link ≡ Some cell) where
-    -- of which there are more than the get has met
+    -- of which there are more than the get has reached
     pub newest_counts : w.walked < CELLS
     newest_counts = cell_counts l w cell leads (first l f)
 
@@ -129,19 +129,19 @@ module _ {s : Shared} {o p q : Pass} {way : Way} {w : Cursor} {newest : Option C
     newest_led = (link_led l w x l cell is refl leads f (first l f)).follows
 
     module _ {r : Pass} {word : ℕ} (key : ℕ) (keyed : key ≡ key_of_word word) (second : (m : Local) → Follows s q (with_cursor (Activity.Read Read.Key) x m) → ReadsWord s q (with_cursor (Activity.Read Read.Key) x m) word r) where
-      -- its key is below the own: it is passed
+      -- its key is below the own: it is gone by
       module _ (y : Cursor) (passes : y ≡ past x) (below : key < way.key) where
         passing : ReadsOn s p (with_cursor (Activity.Read Read.Link) w l) r (with_cursor (Activity.Read Read.Link) y l)
-        passing = cell_passed l l w x cell is refl leads f (first l) (second l) y key way.key (Some (Get way.key)) passes keyed refl refl below
+        passing = cell_gone_by l l w x cell is refl leads f (first l) (second l) y key way.key (Some (Get way.key)) passes keyed refl refl below
 
-        pub newest_passes : KeepsNewest s o way r y newest
-        newest_passes =
+        pub newest_goes_by : KeepsNewest s o way r y newest
+        newest_goes_by =
             let on : y.walked ≡ min (w.walked + 1) CELLS = ap (λ (z : Cursor). z.walked) (passes ∙ ap past is) in
             let few = before.few in
             record { cells = before.cells; gets = further passing; keeps = before.keeps; few = omega (arith, on, few, newest_counts) }
 
-        pub newest_passes_fewer : reads_ahead (with_cursor (Activity.Read Read.Link) y (reading way [])) < reads_ahead (with_cursor (Activity.Read Read.Link) w (reading way []))
-        newest_passes_fewer = passing.fewer
+        pub newest_goes_by_fewer : reads_ahead (with_cursor (Activity.Read Read.Link) y (reading way [])) < reads_ahead (with_cursor (Activity.Read Read.Link) w (reading way []))
+        newest_goes_by_fewer = passing.fewer
 
       -- it is above it: the walk is over
       pub newest_above : (value : Option ℕ) → value ≡ value_in newest → way.key < key → HasFound s o r value

@@ -36,7 +36,7 @@ use Rattle.kw_world.specs.Calls.{first_key}
 use Rattle.kw_world.specs.ListTransitions.{insert_from, insert_past, insert_tried, is_newer}
 use Rattle.kw_core.specs.Stages.{IsBalancing, IsDone, IsInserting}
 use Rattle.kw_world.specs.EngageTransitions.{to_rebalance}
-use Rattle.kw_world.specs.PutTransitions.{has_room, given_of, stamp_met}
+use Rattle.kw_world.specs.PutTransitions.{has_room, given_of, stamp_seen}
 use Rattle.kw_world.specs.Sane.{IsGiven}
 use Rattle.kw_world.specs.Sizes.{product}
 use Rattle.kw_world.specs.Step.{word, next_of, transition_of}
@@ -50,14 +50,14 @@ use Rattle.kw_table.specs.Passes.{view}
 use Rattle.kw_follow.specs.Calling.{KeepsCalls}
 use Rattle.kw_follow.specs.Following.{Follows, GoesTo, held}
 use Rattle.kw_follow.specs.Moving.{WentOn}
-use Rattle.kw_follow.specs.OwnEvents.{Met, MetAs}
-use Rattle.kw_live.specs.Meeting.{IsFullCount, MetFull, TellsFull}
+use Rattle.kw_follow.specs.OwnEvents.{Saw, SawAs}
+use Rattle.kw_live.specs.Sights.{IsFullCount, SawFull, TellsFull}
 use Rattle.kw_live.specs.Putting.{InsertsFurther, put_ahead}
 use Rattle.kw_core.specs.Stages.{is_putting}
-use Rattle.kw_follow.proofs.OwnEvents.{goes_trans, met_earlier}
+use Rattle.kw_follow.proofs.OwnEvents.{goes_trans, saw_earlier}
 use Rattle.kw_follow.proofs.Reaching.{reaches_none}
 use Rattle.kw_follow.proofs.Untidied.{keeps, untidied}
-use Rattle.kw_follow.proofs.Fronts.{met_laws, met_local, met_told, met_row_below, local_at}
+use Rattle.kw_follow.proofs.Fronts.{saw_laws, saw_local, saw_told, saw_row_below, local_at}
 
 -- What a put has found.
 
@@ -65,25 +65,25 @@ use Rattle.kw_follow.proofs.Fronts.{met_laws, met_local, met_told, met_row_below
 -- is done, or still at its row
 abbrev pub HasFound : Pass → Pass → Activity → Type 0
 HasFound p q (Activity.Leave Done) = Unit {0}
-HasFound p q (Activity.Rebalance (Rebalance.Engage Engage.Clock)) = MetFull p q
+HasFound p q (Activity.Rebalance (Rebalance.Engage Engage.Clock)) = SawFull p q
 HasFound p q a = is_putting a ≡ true
 
 -- What the events of a put find.
 
 -- a count that has no room is full
 full_count : (c : Option Count) → IsGiven c → has_room product c ≡ false → IsFullCount c
-full_count (Some c) g h = met c.frozen refl h
+full_count (Some c) g h = saw c.frozen refl h
   where
-    met : (b : Bool) → c.frozen ≡ b → (if b then false else nat_lt c.given CELLS) ≡ false → IsFullCount (Some c)
-    met true e x = inl e
-    met false e x = inr (grind (arith, nat_tests))
+    saw : (b : Bool) → c.frozen ≡ b → (if b then false else nat_lt c.given CELLS) ≡ false → IsFullCount (Some c)
+    saw true e x = inl e
+    saw false e x = inr (grind (arith, nat_tests))
 full_count None g h = absurd g
 
 -- so is the count of its row, where a put finds none
-counted : (s : Shared) (p q : Pass) (a : Activity) (told : ℕ) → GoesTo s p q → (m : Met p q a Go told) → told ≡ word product (history product (view p).opening m.front).world (name.Count (local_at p m.front).row)
+counted : (s : Shared) (p q : Pass) (a : Activity) (told : ℕ) → GoesTo s p q → (m : Saw p q a Go told) → told ≡ word product (history product (view p).opening m.front).world (name.Count (local_at p m.front).row)
     → has_room product (count_of told) ≡ false → IsFullCount (count_of told)
 counted s p q a told goes m is none =
-    full_count (count_of told) (subst (λ w. IsGiven (count_of w)) (sym is) ((met_laws s p q a Go told goes m).sane.each (name.Count (local_at p m.front).row) (met_row_below s p q a Go told goes m))) none
+    full_count (count_of told) (subst (λ w. IsGiven (count_of w)) (sym is) ((saw_laws s p q a Go told goes m).sane.each (name.Count (local_at p m.front).row) (saw_row_below s p q a Go told goes m))) none
 
 -- an entry that is idle or frozen, and not idle
 frozen_else : (told : ℕ) (e : Option Pend) → pend_of told ≡ e → IsIdleOrFrozen e → told ≢ pend_word Idle → told ≡ pend_word Frozen
@@ -94,16 +94,16 @@ frozen_else told (Some Frozen) f h n = sym (pend_word_of told Frozen f)
 frozen_else told None f h n = absurd h
 
 -- a put that is to announce, and does not find its entry idle, finds it frozen
-announced : (s : Shared) (p q : Pass) (told : ℕ) → GoesTo s p q → (m : Met p q (Activity.Put Put.Announce) Go told) → told ≢ pend_word Idle → told ≡ pend_word Frozen
+announced : (s : Shared) (p q : Pass) (told : ℕ) → GoesTo s p q → (m : Saw p q (Activity.Put Put.Announce) Go told) → told ≢ pend_word Idle → told ≡ pend_word Frozen
 announced s p q told goes m n =
-    let is = met_told p q (Activity.Put Put.Announce) Go told m _ refl in
-    frozen_else told (pend_of told) refl (subst (λ w. IsIdleOrFrozen (pend_of w)) (sym is) ((met_laws s p q (Activity.Put Put.Announce) Go told goes m).announces (view p).number (local_at p m.front) (met_local p q (Activity.Put Put.Announce) Go told m) m.activity)) n
+    let is = saw_told p q (Activity.Put Put.Announce) Go told m _ refl in
+    frozen_else told (pend_of told) refl (subst (λ w. IsIdleOrFrozen (pend_of w)) (sym is) ((saw_laws s p q (Activity.Put Put.Announce) Go told goes m).announces (view p).number (local_at p m.front) (saw_local p q (Activity.Put Put.Announce) Go told m) m.activity)) n
 
 -- a put that is to stamp finds its entry with its own cell, or frozen
-stamped : (s : Shared) (p q : Pass) (told : ℕ) → GoesTo s p q → (m : Met p q (Activity.Put Put.Stamp) Go told) → HasCellOrFrozen (local_at p m.front).cell (pend_of told)
+stamped : (s : Shared) (p q : Pass) (told : ℕ) → GoesTo s p q → (m : Saw p q (Activity.Put Put.Stamp) Go told) → HasCellOrFrozen (local_at p m.front).cell (pend_of told)
 stamped s p q told goes m =
-    let is = met_told p q (Activity.Put Put.Stamp) Go told m _ refl in
-    subst (λ w. HasCellOrFrozen (local_at p m.front).cell (pend_of w)) (sym is) ((met_laws s p q (Activity.Put Put.Stamp) Go told goes m).stamps (view p).number (local_at p m.front) (met_local p q (Activity.Put Put.Stamp) Go told m) m.activity)
+    let is = saw_told p q (Activity.Put Put.Stamp) Go told m _ refl in
+    subst (λ w. HasCellOrFrozen (local_at p m.front).cell (pend_of w)) (sym is) ((saw_laws s p q (Activity.Put Put.Stamp) Go told goes m).stamps (view p).number (local_at p m.front) (saw_local p q (Activity.Put Put.Stamp) Go told m) m.activity)
 
 -- One event.
 
@@ -123,56 +123,56 @@ local_is rows a l m told is line = ap (λ (x : Outcome). x.local) (line ∙ ap (
 next_is : (rows : ℕ) (a : Activity) (l m : Local) (told : ℕ) → l.activity ≡ a → outcome m Moved ≡ next_of product rows Go l told → m.activity ≡ ((transition product a 0 Go l).next rows told).local.activity
 next_is rows a l m told is line = ap (λ (x : Local). x.activity) (local_is rows a l m told is line)
 
-module _ (s : Shared) (o p q : Pass) (l m : Local) (rows told : ℕ) (was : GoesTo s o p) (goes : GoesTo s p q) (met : MetAs p q l Go told) (line : outcome m Moved ≡ next_of product rows Go l told) where
+module _ (s : Shared) (o p q : Pass) (l m : Local) (rows told : ℕ) (was : GoesTo s o p) (goes : GoesTo s p q) (saw : SawAs p q l Go told) (line : outcome m Moved ≡ next_of product rows Go l told) where
   -- the event, by its activity
-  here : (a : Activity) → l.activity ≡ a → Met p q a Go told
-  here a is = record { front = met.met.front; later = met.met.later; here = met.met.here; activity = met.met.activity ∙ is; tells = met.met.tells }
+  here : (a : Activity) → l.activity ≡ a → Saw p q a Go told
+  here a is = record { front = saw.saw.front; later = saw.saw.later; here = saw.saw.here; activity = saw.saw.activity ∙ is; tells = saw.saw.tells }
 
   -- the row is full by this event
   fills : (a : Activity) (ahead : ℕ) → l.activity ≡ a → TellsFull a told → 0 < ahead → m.activity ≡ (to_rebalance l).local.activity → GoesOn o q m ahead
-  fills a ahead is found more next = goes_on o q m (Activity.Rebalance (Rebalance.Engage Engage.Clock)) ahead next (record { activity = a; told = told; met = met_earlier s o p q was (here a is); full = found }) more
+  fills a ahead is found more next = goes_on o q m (Activity.Rebalance (Rebalance.Engage Engage.Clock)) ahead next (record { activity = a; told = told; saw = saw_earlier s o p q was (here a is); full = found }) more
 
   asks : (b : Bool) → has_room product (count_of told) ≡ b → l.activity ≡ Activity.Put Put.Count → m.activity ≡ (let x : Outcome = if b then to (Activity.Put Put.Add) l else to_rebalance l in x).local.activity → GoesOn o q m (put_ahead (Activity.Put Put.Count) l.walked l.lost)
   asks true h is next = goes_on o q m (Activity.Put Put.Add) _ next refl (omega arith)
-  asks false h is next = fills (Activity.Put Put.Count) _ is (counted s p q (Activity.Put Put.Count) told goes (here (Activity.Put Put.Count) is) (met_told p q (Activity.Put Put.Count) Go told (here (Activity.Put Put.Count) is) _ refl) h) (omega arith) next
+  asks false h is next = fills (Activity.Put Put.Count) _ is (counted s p q (Activity.Put Put.Count) told goes (here (Activity.Put Put.Count) is) (saw_told p q (Activity.Put Put.Count) Go told (here (Activity.Put Put.Count) is) _ refl) h) (omega arith) next
 
   adds : (b : Bool) → has_room product (count_of told) ≡ b → l.activity ≡ Activity.Put Put.Add → m.activity ≡ (let x : Outcome = if b then to (Activity.Put Put.Key) (record l { cell = given_of (count_of told) }) else to_rebalance l in x).local.activity → GoesOn o q m (put_ahead (Activity.Put Put.Add) l.walked l.lost)
   adds true h is next = goes_on o q m (Activity.Put Put.Key) _ next refl (omega arith)
-  adds false h is next = fills (Activity.Put Put.Add) _ is (counted s p q (Activity.Put Put.Add) told goes (here (Activity.Put Put.Add) is) (met_told p q (Activity.Put Put.Add) Go told (here (Activity.Put Put.Add) is) _ refl) h) (omega arith) next
+  adds false h is next = fills (Activity.Put Put.Add) _ is (counted s p q (Activity.Put Put.Add) told goes (here (Activity.Put Put.Add) is) (saw_told p q (Activity.Put Put.Add) Go told (here (Activity.Put Put.Add) is) _ refl) h) (omega arith) next
 
   announces : (b : Bool) → (told == pend_word Idle) ≡ b → l.activity ≡ Activity.Put Put.Announce → m.activity ≡ (let x : Outcome = if b then to (Activity.Put Put.Clock) l else to_rebalance l in x).local.activity → GoesOn o q m (put_ahead (Activity.Put Put.Announce) l.walked l.lost)
   announces true h is next = goes_on o q m (Activity.Put Put.Clock) _ next refl (omega arith)
   announces false h is next = fills (Activity.Put Put.Announce) _ is (announced s p q told goes (here (Activity.Put Put.Announce) is) (λ e. true_false (eq-eqb told (pend_word Idle) e) h)) (omega arith) next
 
   -- its own cell is stamped, or the entry was frozen
-  stamps : (e : Option Pend) → pend_of told ≡ e → l.activity ≡ Activity.Put Put.Stamp → HasCellOrFrozen l.cell e → m.activity ≡ (stamp_met e l).local.activity → GoesOn o q m (put_ahead (Activity.Put Put.Stamp) l.walked l.lost)
+  stamps : (e : Option Pend) → pend_of told ≡ e → l.activity ≡ Activity.Put Put.Stamp → HasCellOrFrozen l.cell e → m.activity ≡ (stamp_seen e l).local.activity → GoesOn o q m (put_ahead (Activity.Put Put.Stamp) l.walked l.lost)
   stamps (Some Idle) f is own next = absurd own
   stamps (Some (Pending cell)) f is own next = goes_on o q m (Activity.Put Put.Version) _ (next ∙ rw (eq-eqb cell l.cell own) refl) refl (omega arith)
   stamps (Some (Stamped cell version)) f is own next = goes_on o q m (Activity.Put Put.Version) _ (next ∙ rw (eq-eqb cell l.cell own) refl) refl (omega arith)
   stamps (Some Frozen) f is own next = fills (Activity.Put Put.Stamp) _ is (sym (pend_word_of told Frozen f)) (omega arith) next
   stamps None f is own next = absurd own
 
-  -- on its walk the put has met fewer cells than there are, and has lost fewer exchanges
+  -- on its walk the put has reached fewer cells than there are, and has lost fewer exchanges
   has_walked : l.activity ≡ Activity.Insert Insert.Link → l.walked < CELLS
   unfolding here
   has_walked is =
       let x = here (Activity.Insert Insert.Link) is in
-      let laws = met_laws s p q (Activity.Insert Insert.Link) Go told goes x in
-      subst (λ n. n < CELLS) (ap (λ (k : Local). k.walked) met.knew) (laws.walked (view p).number (local_at p x.front) (met_local p q (Activity.Insert Insert.Link) Go told x) x.activity)
+      let laws = saw_laws s p q (Activity.Insert Insert.Link) Go told goes x in
+      subst (λ n. n < CELLS) (ap (λ (k : Local). k.walked) saw.knew) (laws.walked (view p).number (local_at p x.front) (saw_local p q (Activity.Insert Insert.Link) Go told x) x.activity)
 
   has_lost : l.activity ≡ Activity.Insert Insert.Exchange → l.lost < CELLS
   unfolding here
   has_lost is =
       let x = here (Activity.Insert Insert.Exchange) is in
-      let laws = met_laws s p q (Activity.Insert Insert.Exchange) Go told goes x in
-      subst (λ n. n < CELLS) (ap (λ (k : Local). k.lost) met.knew) (laws.lost (view p).number (local_at p x.front) (met_local p q (Activity.Insert Insert.Exchange) Go told x) (subst IsInserting (sym x.activity) tt))
+      let laws = saw_laws s p q (Activity.Insert Insert.Exchange) Go told goes x in
+      subst (λ n. n < CELLS) (ap (λ (k : Local). k.lost) saw.knew) (laws.lost (view p).number (local_at p x.front) (saw_local p q (Activity.Insert Insert.Exchange) Go told x) (subst IsInserting (sym x.activity) tt))
 
   -- the link leads to a cell, or to none
   from_link : (x : Option ℕ) → l.activity ≡ Activity.Insert Insert.Link → m ≡ (insert_from product x l).local → GoesOn o q m (put_ahead (Activity.Insert Insert.Link) l.walked l.lost)
   from_link (Some c) is e = goes_on o q m (Activity.Insert Insert.Key) _ (ap (λ (x : Local). x.activity) e) refl (omega (arith, has_walked is, ap (λ (x : Local). x.walked) e, ap (λ (x : Local). x.lost) e))
   from_link None is e = goes_on o q m (Activity.Insert Insert.Set) _ (ap (λ (x : Local). x.activity) e) refl (omega (arith, ap (λ (x : Local). x.lost) e))
 
-  -- the cell is passed, or not
+  -- the cell is gone by, or not
   from_key : (b c : Bool) → m ≡ (let x : Outcome = if b then insert_past l else if c then to (Activity.Insert Insert.Version) l else to (Activity.Insert Insert.Set) l in x).local → GoesOn o q m (put_ahead (Activity.Insert Insert.Key) l.walked l.lost)
   from_key true c e = goes_on o q m (Activity.Insert Insert.Link) _ (ap (λ (x : Local). x.activity) e) refl (omega (arith, ap (λ (x : Local). x.walked) e, ap (λ (x : Local). x.lost) e))
   from_key false true e = goes_on o q m (Activity.Insert Insert.Version) _ (ap (λ (x : Local). x.activity) e) refl (omega (arith, ap (λ (x : Local). x.walked) e, ap (λ (x : Local). x.lost) e))
@@ -196,7 +196,7 @@ module _ (s : Shared) (o p q : Pass) (l m : Local) (rows told : ℕ) (was : Goes
   event (Activity.Put Put.Value) is put = goes_on o q m (Activity.Put Put.Announce) _ (next_is rows (Activity.Put Put.Value) l m told is line) refl (omega arith)
   event (Activity.Put Put.Announce) is put = announces (told == pend_word Idle) refl is (next_is rows (Activity.Put Put.Announce) l m told is line)
   event (Activity.Put Put.Clock) is put = goes_on o q m (Activity.Put Put.Stamp) _ (next_is rows (Activity.Put Put.Clock) l m told is line) refl (omega arith)
-  event (Activity.Put Put.Stamp) is put = stamps (pend_of told) refl is (subst (λ n. HasCellOrFrozen n (pend_of told)) (ap (λ (k : Local). k.cell) met.knew) (stamped s p q told goes (here (Activity.Put Put.Stamp) is))) (next_is rows (Activity.Put Put.Stamp) l m told is line)
+  event (Activity.Put Put.Stamp) is put = stamps (pend_of told) refl is (subst (λ n. HasCellOrFrozen n (pend_of told)) (ap (λ (k : Local). k.cell) saw.knew) (stamped s p q told goes (here (Activity.Put Put.Stamp) is))) (next_is rows (Activity.Put Put.Stamp) l m told is line)
   event (Activity.Put Put.Version) is put = goes_on o q m (Activity.Insert Insert.Link) _ (next_is rows (Activity.Put Put.Version) l m told is line) refl
       (omega (arith, ap (λ (x : Local). x.walked) (local_is rows (Activity.Put Put.Version) l m told is line), ap (λ (x : Local). x.lost) (local_is rows (Activity.Put Put.Version) l m told is line)))
   event (Activity.Insert Insert.Link) is put = from_link (cell_of_link_word told) is (local_is rows (Activity.Insert Insert.Link) l m told is line)
@@ -247,7 +247,7 @@ leaves_done p q Done h = refl
 leaves_done p q _ h = true_false h refl
 
 -- one that does not is about to rebalance its row, and has found it full
-pub stands_full : (p q : Pass) (a : Activity) → HasFound p q a → is_putting a ≡ false → ((x : Answer) → a ≡ Activity.Leave x → ⊥) → (a ≡ Activity.Rebalance (Rebalance.Engage Engage.Clock)) × MetFull p q
+pub stands_full : (p q : Pass) (a : Activity) → HasFound p q a → is_putting a ≡ false → ((x : Answer) → a ≡ Activity.Leave x → ⊥) → (a ≡ Activity.Rebalance (Rebalance.Engage Engage.Clock)) × SawFull p q
 stands_full p q (Activity.Leave x) h over stays = absurd (stays x refl)
 stands_full p q (Activity.Rebalance (Rebalance.Engage Engage.Clock)) h over stays = (refl, h)
 stands_full p q _ h over stays = true_false h over
@@ -283,9 +283,9 @@ pub record Tries (s : Shared) (o q : Pass) (m : Local) (ahead : ℕ) : Type 0 wh
 
 pub tries_on : {s : Shared} {o p q : Pass} {l m : Local} → IsTrying s o p l → is_putting l.activity ≡ true → WentOn s p l Go q m → Tries s o q m (put_ahead l.activity l.walked l.lost)
 tries_on {s} {o} {p} {q} {l} {m} t put w =
-    let on = put_goes s o p q l m (view p).opening.rows w.told t.goes w.goes w.met w.line put in
+    let on = put_goes s o p q l m (view p).opening.rows w.told t.goes w.goes w.saw w.line put in
     record {
-      trying = record { goes = goes_trans s o p q t.goes w.goes; follows = w.follows; calls = w.calls ∙ t.calls; held = w.held refl ∙ t.held; found = on.found; untidied = put_tidies s o p q l m (view p).opening.rows w.told t.goes w.goes w.met w.line put ∙ t.untidied };
+      trying = record { goes = goes_trans s o p q t.goes w.goes; follows = w.follows; calls = w.calls ∙ t.calls; held = w.held refl ∙ t.held; found = on.found; untidied = put_tidies s o p q l m (view p).opening.rows w.told t.goes w.goes w.saw w.line put ∙ t.untidied };
       fewer = on.fewer;
     }
 

@@ -26,8 +26,8 @@ use Rattle.kw_table.specs.declared.shared.Shared.{Shared}
 use Rattle.kw_table.specs.Passes.{view}
 use Rattle.kw_table.specs.Views.{local_in}
 use Rattle.kw_follow.specs.Following.{Follows, GoesTo, activity_in, carried, held}
-use Rattle.kw_follow.specs.OwnEvents.{Met, MetAs}
-use Rattle.kw_follow.proofs.Fronts.{local_at, met_laws, met_local, met_told}
+use Rattle.kw_follow.specs.OwnEvents.{Saw, SawAs}
+use Rattle.kw_follow.proofs.Fronts.{local_at, saw_laws, saw_local, saw_told}
 use Rattle.kw_follow.proofs.OwnEvents.{goes_trans}
 use Rattle.kw_follow.proofs.Resting.{stands}
 use Rattle.kw_live.specs.Reading.{HasRead, HasReadAs, ReadsOn, is_reading_list, reads_ahead}
@@ -98,20 +98,20 @@ below_wanted q scan is =
     let rises = ((laws_in q).below (view q).number (local_in (view q)) (stands q) scan covers).rises in
     rises
 
-module _ (s : Shared) (p q : Pass) (l m : Local) (told : ℕ) (f : Follows s p l) (goes : GoesTo s p q) (after : Follows s q m) (seat : local_in (view q) ≡ (next_of product (view p).opening.rows Go (local_in (view p)) told).local) (met : MetAs p q l Go told) (reading : is_reading_list l.activity ≡ true) where
+module _ (s : Shared) (p q : Pass) (l m : Local) (told : ℕ) (f : Follows s p l) (goes : GoesTo s p q) (after : Follows s q m) (seat : local_in (view q) ≡ (next_of product (view p).opening.rows Go (local_in (view p)) told).local) (saw : SawAs p q l Go told) (reading : is_reading_list l.activity ≡ true) where
   -- the event at a link
-  here : l.activity ≡ Activity.Read Read.Link → Met p q (Activity.Read Read.Link) Go told
-  here is = record { front = met.met.front; later = met.met.later; here = met.met.here; activity = met.met.activity ∙ is; tells = met.met.tells }
+  here : l.activity ≡ Activity.Read Read.Link → Saw p q (Activity.Read Read.Link) Go told
+  here is = record { front = saw.saw.front; later = saw.saw.later; here = saw.saw.here; activity = saw.saw.activity ∙ is; tells = saw.saw.tells }
 
-  -- a reader that a link leads to a cell has met fewer cells than there are
+  -- a reader that a link leads to a cell has reached fewer cells than there are
   led_on : l.activity ≡ Activity.Read Read.Link → (c : ℕ) → cell_of_link_word told ≡ Some c → l.walked < CELLS
   unfolding here
   led_on is c leads =
       let x = here is in
-      let laws = met_laws s p q (Activity.Read Read.Link) Go told goes x in
-      let word = met_told p q (Activity.Read Read.Link) Go told x _ refl in
-      subst (λ n. n < CELLS) (ap (λ (k : Local). k.walked) met.knew)
-      (laws.reads_on (view p).number (local_at p x.front) (met_local p q (Activity.Read Read.Link) Go told x) x.activity c (ap cell_of_link_word (sym word) ∙ leads))
+      let laws = saw_laws s p q (Activity.Read Read.Link) Go told goes x in
+      let word = saw_told p q (Activity.Read Read.Link) Go told x _ refl in
+      subst (λ n. n < CELLS) (ap (λ (k : Local). k.walked) saw.knew)
+      (laws.reads_on (view p).number (local_at p x.front) (saw_local p q (Activity.Read Read.Link) Go told x) x.activity c (ap cell_of_link_word (sym word) ∙ leads))
 
   led_in : activity_in p ≡ Activity.Read Read.Link → (c : ℕ) → cell_of_link_word told ≡ Some c → (local_in (view p)).walked < CELLS
   led_in is c leads = subst (λ (k : Local). k.walked < CELLS) f.carries (led_on (ap (λ (k : Local). k.activity) f.carries ∙ is) c leads)

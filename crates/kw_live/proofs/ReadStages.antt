@@ -1,5 +1,5 @@
 -- How a reader goes along the list of its row, cell after cell, then reads what it remembers and
--- did not meet, and what follows at the end of the row.
+-- did not reach, and what follows at the end of the row.
 use Rattle.std.proofs.Common.{◌≡◌, ◌⊎◌, ℕ, ◌*◌, ◌<◌, ◌≤◌, ◌==◌, Bool, true, false, nat_lt, nat_le, if◌then◌else◌, Option, Some, None, List, [], ◌∷◌, ◌++◌, length, arith, refl, subst, inl, inr, eq-eqb}
 use Rattle.std.proofs.lemmas.Bool.Decides.{nat_tests}
 use Rattle.kw_words.specs.Plain.{key_of_word, value_of_word, cell_of_link_word}
@@ -18,7 +18,7 @@ use Rattle.kw_world.specs.declared.marks.Mark.{Mark}
 use Rattle.kw_world.specs.Calls.{first_key, last_key, is_in_range}
 use Rattle.kw_world.specs.Marks.{is_marked, least_mark, lesser_of, unmarked}
 use Rattle.kw_world.specs.Transition.{Outcome, to}
-use Rattle.kw_world.specs.ReadTransitions.{gathering, list_key, list_met, list_past, rest_key, rest_of, row_read, scan_on, scan_ended, to_rest, with_pairs}
+use Rattle.kw_world.specs.ReadTransitions.{gathering, list_key, list_reached, list_past, left_over_key, left_over_of, row_read, scan_on, scan_ended, to_left_over, with_pairs}
 use Rattle.kw_world.specs.Sizes.{Sizes}
 use Rattle.kw_world.specs.Table.{transition}
 use Rattle.kw_core.proofs.InRange.{unmarked_few}
@@ -31,16 +31,16 @@ use Rattle.kw_live.specs.Reading.{is_reading_list, read_ahead}
 -- the marks of a cell that is marked are some
 marked_fewer : (c : ℕ) (ms : List Mark) → is_marked c ms ≡ true → length (unmarked c ms) < length ms
 marked_fewer c [] e = true_false e refl
-marked_fewer c (n ∷ ms) e = met (n.cell == c) refl e (marked_fewer c ms)
+marked_fewer c (n ∷ ms) e = saw (n.cell == c) refl e (marked_fewer c ms)
   where
-    met : (b : Bool) → (n.cell == c) ≡ b → (if b then true else is_marked c ms) ≡ true → (is_marked c ms ≡ true → length (unmarked c ms) < length ms) → length (unmarked c (n ∷ ms)) < length (n ∷ ms)
-    met true h g i = rw h (omega (arith, unmarked_few c ms))
-    met false h g i = rw h (omega (arith, i g))
+    saw : (b : Bool) → (n.cell == c) ≡ b → (if b then true else is_marked c ms) ≡ true → (is_marked c ms ≡ true → length (unmarked c ms) < length ms) → length (unmarked c (n ∷ ms)) < length (n ∷ ms)
+    saw true h g i = rw h (omega (arith, unmarked_few c ms))
+    saw false h g i = rw h (omega (arith, i g))
 
 -- a mark of the least cell is among them
 least_marked : (ms : List Mark) (m : Mark) → least_mark ms ≡ Some m → is_marked m.cell ms ≡ true
 least_marked [] m e = let x : None ≡ Some m = e in absurd (cc)
-least_marked (n ∷ ms) m e = met (least_mark ms) refl e (least_marked ms)
+least_marked (n ∷ ms) m e = saw (least_mark ms) refl e (least_marked ms)
   where
     own : n ≡ m → is_marked m.cell (n ∷ ms) ≡ true
     own same = subst (λ (x : Mark). is_marked x.cell (n ∷ ms) ≡ true) same (rw (eq-eqb n.cell n.cell refl) refl)
@@ -53,9 +53,9 @@ least_marked (n ∷ ms) m e = met (least_mark ms) refl e (least_marked ms)
     which k true g is = subst (λ (x : Mark). is_marked x.cell (n ∷ ms) ≡ true) is (later k (n.cell == k.cell) g)
     which k false g is = own is
 
-    met : (o : Option Mark) → least_mark ms ≡ o → Some (lesser_of n o) ≡ Some m → ((k : Mark) → least_mark ms ≡ Some k → is_marked k.cell ms ≡ true) → is_marked m.cell (n ∷ ms) ≡ true
-    met None h is i = let same : n ≡ m = cc in own same
-    met (Some k) h is i = let same : lesser_of n (Some k) ≡ m = cc in which k (nat_lt k.cell n.cell) (i k h) same
+    saw : (o : Option Mark) → least_mark ms ≡ o → Some (lesser_of n o) ≡ Some m → ((k : Mark) → least_mark ms ≡ Some k → is_marked k.cell ms ≡ true) → is_marked m.cell (n ∷ ms) ≡ true
+    saw None h is i = let same : n ≡ m = cc in own same
+    saw (Some k) h is i = let same : lesser_of n (Some k) ≡ m = cc in which k (nat_lt k.cell n.cell) (i k h) same
 
 -- so fewer are remembered once it is taken in hand
 least_fewer : (ms : List Mark) (m : Mark) → least_mark ms ≡ Some m → length (unmarked m.cell ms) < length ms
@@ -96,12 +96,12 @@ scan_ends z from upto ahead y is some = record { calls = is; drawn = refl; on = 
 -- or goes on with the next row
 scans_on : (z : Sizes) (from upto ahead : ℕ) (y : Local) → y.call ≡ Some (Scan from upto) → 0 < ahead → (next : Option ℕ) → ((n : ℕ) → next ≡ Some n → y.want < y.upper) → Goes z (Some (Scan from upto)) y.want y.version y.pairs ahead (scan_on next upto (with_pairs upto y))
 scans_on z from upto ahead y is some None above = scan_ends z from upto ahead y is some
-scans_on z from upto ahead y is some (Some r) above = met (nat_lt upto y.upper) refl
+scans_on z from upto ahead y is some (Some r) above = saw (nat_lt upto y.upper) refl
   where
-    met : (b : Bool) → nat_lt upto y.upper ≡ b → Goes z (Some (Scan from upto)) y.want y.version y.pairs ahead
+    saw : (b : Bool) → nat_lt upto y.upper ≡ b → Goes z (Some (Scan from upto)) y.want y.version y.pairs ahead
         (if b then scan_ended (with_pairs upto y) else to (Activity.Walk Walk.Next) (record (with_pairs upto y) { row = r; lower = y.upper; want = y.upper; next = None; upper = 0 }))
-    met true h = scan_ends z from upto ahead y is some
-    met false h = record {
+    saw true h = scan_ends z from upto ahead y is some
+    saw false h = record {
       calls = is;
       drawn = refl;
       on = λ e. true_false e refl;
@@ -118,36 +118,36 @@ row_ends z (Some (Scan from upto)) ahead y is some above = scans_on z from upto 
 row_ends z None ahead y is some above = record { calls = is; drawn = refl; on = λ e. true_false e refl; ends = λ e. tt; fewer = some }
 
 -- a remembered cell is taken in hand, or the row is at its end
-rests : (z : Sizes) (ahead : ℕ) (y : Local) → 2 * length y.remembered < ahead → IsBelowNext y → Goes z y.call y.want y.version y.pairs ahead (to_rest y)
-rests z ahead y some above = met (least_mark y.remembered) refl
+rests : (z : Sizes) (ahead : ℕ) (y : Local) → 2 * length y.remembered < ahead → IsBelowNext y → Goes z y.call y.want y.version y.pairs ahead (to_left_over y)
+rests z ahead y some above = saw (least_mark y.remembered) refl
   where
-    met : (o : Option Mark) → least_mark y.remembered ≡ o → Goes z y.call y.want y.version y.pairs ahead (rest_of o y)
-    met (Some m) h = record { calls = refl; drawn = refl; on = λ e. (refl, refl); ends = λ e. true_false refl e; fewer = omega (arith, some, least_fewer y.remembered m h) }
-    met None h = row_ends z y.call ahead y refl (omega (arith, some)) above
+    saw : (o : Option Mark) → least_mark y.remembered ≡ o → Goes z y.call y.want y.version y.pairs ahead (left_over_of o y)
+    saw (Some m) h = record { calls = refl; drawn = refl; on = λ e. (refl, refl); ends = λ e. true_false refl e; fewer = omega (arith, some, least_fewer y.remembered m h) }
+    saw None h = row_ends z y.call ahead y refl (omega (arith, some)) above
 
 -- The events.
 
 -- a link was read
-links : (z : Sizes) (cell : Option ℕ) (y : Local) → ((c : ℕ) → cell ≡ Some c → y.walked < z.cells) → IsBelowNext y → Goes z y.call y.want y.version y.pairs (read_ahead z (Activity.Read Read.Link) y.walked (length y.remembered)) (list_met z cell y)
+links : (z : Sizes) (cell : Option ℕ) (y : Local) → ((c : ℕ) → cell ≡ Some c → y.walked < z.cells) → IsBelowNext y → Goes z y.call y.want y.version y.pairs (read_ahead z (Activity.Read Read.Link) y.walked (length y.remembered)) (list_reached z cell y)
 links z (Some c) y led above = record { calls = refl; drawn = refl; on = λ e. (refl, refl); ends = λ e. true_false refl e; fewer = omega (arith, led c refl, unmarked_few c y.remembered) }
 links z None y led above = rests z _ y (omega arith) above
 
 -- a key of the list was read
 keys : (z : Sizes) (key : ℕ) (y : Local) → IsBelowNext y → Goes z y.call y.want y.version y.pairs (read_ahead z (Activity.Read Read.Key) y.walked (length y.remembered)) (list_key key y)
-keys z key y above = met (nat_lt key (first_key y.call)) (nat_le key (last_key y.call))
+keys z key y above = saw (nat_lt key (first_key y.call)) (nat_le key (last_key y.call))
   where
-    met : (b c : Bool) → Goes z y.call y.want y.version y.pairs (read_ahead z (Activity.Read Read.Key) y.walked (length y.remembered)) (if b then list_past y else if c then to (Activity.Read Read.Version) (record y { place_key = key }) else to_rest y)
-    met true c = record { calls = refl; drawn = refl; on = λ e. (refl, refl); ends = λ e. true_false refl e; fewer = omega arith }
-    met false true = record { calls = refl; drawn = refl; on = λ e. (refl, refl); ends = λ e. true_false refl e; fewer = omega arith }
-    met false false = rests z _ y (omega arith) above
+    saw : (b c : Bool) → Goes z y.call y.want y.version y.pairs (read_ahead z (Activity.Read Read.Key) y.walked (length y.remembered)) (if b then list_past y else if c then to (Activity.Read Read.Version) (record y { place_key = key }) else to_left_over y)
+    saw true c = record { calls = refl; drawn = refl; on = λ e. (refl, refl); ends = λ e. true_false refl e; fewer = omega arith }
+    saw false true = record { calls = refl; drawn = refl; on = λ e. (refl, refl); ends = λ e. true_false refl e; fewer = omega arith }
+    saw false false = rests z _ y (omega arith) above
 
 -- and that of a remembered cell
-rest_keys : (z : Sizes) (key : ℕ) (y : Local) → IsBelowNext y → Goes z y.call y.want y.version y.pairs (read_ahead z (Activity.Read Read.LeftOverKey) y.walked (length y.remembered)) (rest_key key y)
-rest_keys z key y above = met (is_in_range y.call key)
+left_over_keys : (z : Sizes) (key : ℕ) (y : Local) → IsBelowNext y → Goes z y.call y.want y.version y.pairs (read_ahead z (Activity.Read Read.LeftOverKey) y.walked (length y.remembered)) (left_over_key key y)
+left_over_keys z key y above = saw (is_in_range y.call key)
   where
-    met : (b : Bool) → Goes z y.call y.want y.version y.pairs (read_ahead z (Activity.Read Read.LeftOverKey) y.walked (length y.remembered)) (if b then to (Activity.Read Read.LeftOverValue) (record y { place_key = key }) else to_rest y)
-    met true = record { calls = refl; drawn = refl; on = λ e. (refl, refl); ends = λ e. true_false refl e; fewer = omega arith }
-    met false = rests z _ y (omega arith) above
+    saw : (b : Bool) → Goes z y.call y.want y.version y.pairs (read_ahead z (Activity.Read Read.LeftOverKey) y.walked (length y.remembered)) (if b then to (Activity.Read Read.LeftOverValue) (record y { place_key = key }) else to_left_over y)
+    saw true = record { calls = refl; drawn = refl; on = λ e. (refl, refl); ends = λ e. true_false refl e; fewer = omega arith }
+    saw false = rests z _ y (omega arith) above
 
 -- what follows from an event there
 pub read_goes : (z : Sizes) (a : Activity) (k : Local) (rows told : ℕ) → is_reading_list a ≡ true → IsBelowNext k → (a ≡ Activity.Read Read.Link → (c : ℕ) → cell_of_link_word told ≡ Some c → k.walked < z.cells)
@@ -156,6 +156,6 @@ read_goes z (Activity.Read Read.Link) k rows told u above led = links z (cell_of
 read_goes z (Activity.Read Read.Key) k rows told u above led = keys z (key_of_word told) k above
 read_goes z (Activity.Read Read.Version) k rows told u above led = record { calls = refl; drawn = refl; on = λ e. (refl, refl); ends = λ e. true_false refl e; fewer = omega arith }
 read_goes z (Activity.Read Read.Value) k rows told u above led = record { calls = refl; drawn = refl; on = λ e. (refl, refl); ends = λ e. true_false refl e; fewer = omega arith }
-read_goes z (Activity.Read Read.LeftOverKey) k rows told u above led = rest_keys z (key_of_word told) k above
+read_goes z (Activity.Read Read.LeftOverKey) k rows told u above led = left_over_keys z (key_of_word told) k above
 read_goes z (Activity.Read Read.LeftOverValue) k rows told u above led = rests z _ (gathering z (value_of_word told) k) (omega arith) above
 read_goes z _ k rows told u above led = true_false u refl

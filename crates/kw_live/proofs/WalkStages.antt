@@ -22,7 +22,7 @@ use Rattle.kw_world.specs.declared.event.StepDone.TheVariants.{Moved}
 use Rattle.kw_world.specs.declared.local.Local.{Local}
 use Rattle.kw_core.specs.Stages.{is_walking}
 use Rattle.kw_world.specs.Transition.{Outcome, outcome, to, row_linked, row_or_first}
-use Rattle.kw_world.specs.WalkTransitions.{arrive, guess_met, link_met, offered, walk_min}
+use Rattle.kw_world.specs.WalkTransitions.{arrive, guess_seen, link_reached, offered, walk_least}
 use Rattle.kw_world.specs.Sizes.{product}
 use Rattle.kw_world.specs.Step.{next_of, transition_of, word}
 use Rattle.kw_world.specs.Table.{transition}
@@ -35,18 +35,18 @@ use Rattle.kw_table.specs.Passes.{view, Makes}
 use Rattle.kw_table.proofs.Prefixes.{prefix_self, prefix_trans}
 use Rattle.kw_follow.specs.Calling.{KeepsCalls}
 use Rattle.kw_follow.specs.Following.{Follows, GoesTo, held}
-use Rattle.kw_follow.specs.OwnEvents.{Met, MetAs}
+use Rattle.kw_follow.specs.OwnEvents.{Saw, SawAs}
 use Rattle.kw_follow.specs.Within.{IsWithinCall, walking}
 use Rattle.kw_follow.proofs.Carrying.{IsGoingOn}
-use Rattle.kw_follow.proofs.OneEvent.{Went, went_held, went_line, went_met, within_goes}
+use Rattle.kw_follow.proofs.OneEvent.{Went, went_held, went_line, went_saw, within_goes}
 use Rattle.kw_follow.proofs.OwnEvents.{goes_trans}
 use Rattle.kw_follow.proofs.PutEvents.{next_at}
 use Rattle.kw_follow.proofs.Reaching.{reaches_by, went_by}
-use Rattle.kw_live.specs.Meeting.{BeginsWith}
+use Rattle.kw_live.specs.Sights.{BeginsWith}
 use Rattle.kw_live.specs.Reading.{is_looking}
 use Rattle.kw_live.specs.Stages.{arrived, guessing}
 use Rattle.kw_live.specs.Walking.{IsUnderWay, WalksFurther, WalksOn, walk_ahead, walks_ahead}
-use Rattle.kw_follow.proofs.Fronts.{met_laws, met_local, met_told, local_at}
+use Rattle.kw_follow.proofs.Fronts.{saw_laws, saw_local, saw_told, local_at}
 
 -- the event took the walk on, and it has fewer to make
 pub record Climbs (l m : Local) (ahead : ℕ) : Type 0 where
@@ -73,7 +73,7 @@ arrives l x None ahead a b c d is more = record { walks = record { call = a; wan
 from_head : (l : Local) (w ahead : ℕ) → 2 * (l.want + 1) + 2 < ahead → Climbs l (record l { row = w; lower = 0; activity = Activity.Walk Walk.Next }) ahead
 from_head l w ahead more = record { walks = record { call = refl; want = refl; version = refl; has_read = refl; stage = inl refl }; fewer = omega (arith, more) }
 
-guesses : (l : Local) (r : ℕ) (state : Option State) (ahead : ℕ) → 2 * (l.want + 1) + 4 < ahead → Climbs l (guess_met r state l).local ahead
+guesses : (l : Local) (r : ℕ) (state : Option State) (ahead : ℕ) → 2 * (l.want + 1) + 4 < ahead → Climbs l (guess_seen r state l).local ahead
 guesses l r (Some Free) ahead more = record { walks = record { call = refl; want = refl; version = refl; has_read = refl; stage = inl refl }; fewer = omega (arith, more) }
 guesses l r (Some (Infant seat)) ahead more = record { walks = record { call = refl; want = refl; version = refl; has_read = refl; stage = inl refl }; fewer = omega (arith, more) }
 guesses l r (Some Normal) ahead more = record { walks = record { call = refl; want = refl; version = refl; has_read = refl; stage = inl refl }; fewer = omega (arith, more) }
@@ -83,12 +83,12 @@ guesses l r (Some (Retired number)) ahead more = record { walks = record { call 
 guesses l r None ahead more = record { walks = record { call = refl; want = refl; version = refl; has_read = refl; stage = inl refl }; fewer = omega (arith, more) }
 
 -- the guessed row serves, or does not
-least_met : (l : Local) (least : ℕ) (b : Bool) → Climbs l (let x : Outcome = if b then to (Activity.Walk Walk.Next) (record l { lower = least }) else to (Activity.Walk Walk.First) l in x).local (2 * (l.want + 1) + 4)
-least_met l least true = record { walks = record { call = refl; want = refl; version = refl; has_read = refl; stage = inl refl }; fewer = omega arith }
-least_met l least false = record { walks = record { call = refl; want = refl; version = refl; has_read = refl; stage = inl refl }; fewer = omega arith }
+least_seen : (l : Local) (least : ℕ) (b : Bool) → Climbs l (let x : Outcome = if b then to (Activity.Walk Walk.Next) (record l { lower = least }) else to (Activity.Walk Walk.First) l in x).local (2 * (l.want + 1) + 4)
+least_seen l least true = record { walks = record { call = refl; want = refl; version = refl; has_read = refl; stage = inl refl }; fewer = omega arith }
+least_seen l least false = record { walks = record { call = refl; want = refl; version = refl; has_read = refl; stage = inl refl }; fewer = omega arith }
 
 -- the row is the last one, or there is one after it
-links : (l : Local) (next : Option ℕ) → Climbs l (link_met next l).local (2 * (l.want + 1 - l.lower) + 2)
+links : (l : Local) (next : Option ℕ) → Climbs l (link_reached next l).local (2 * (l.want + 1 - l.lower) + 2)
 links l None = arrives l (record l { next = None; upper = 0 }) l.call _ refl refl refl refl refl (omega arith)
 links l (Some r) = record { walks = record { call = refl; want = refl; version = refl; has_read = refl; stage = inl refl }; fewer = omega arith }
 
@@ -99,25 +99,25 @@ climbs : (l : Local) (least : ℕ) → l.lower < least → (b : Bool) → nat_le
 climbs l least above true h = record { walks = record { call = refl; want = refl; version = refl; has_read = refl; stage = inl refl }; fewer = let below = at_most least l.want h in omega (arith, above, below) }
 climbs l least above false h = arrives l (record l { next = Some l.candidate; upper = least }) l.call _ refl refl refl refl refl (omega arith)
 
-module _ (s : Shared) (p q : Pass) (l m : Local) (rows told : ℕ) (goes : GoesTo s p q) (met : MetAs p q l Go told) (line : outcome m Moved ≡ next_of product rows Go l told) where
+module _ (s : Shared) (p q : Pass) (l m : Local) (rows told : ℕ) (goes : GoesTo s p q) (saw : SawAs p q l Go told) (line : outcome m Moved ≡ next_of product rows Go l told) where
   -- the event at this activity
-  here : (a : Activity) → l.activity ≡ a → Met p q a Go told
-  here a is = record { front = met.met.front; later = met.met.later; here = met.met.here; activity = met.met.activity ∙ is; tells = met.met.tells }
+  here : (a : Activity) → l.activity ≡ a → Saw p q a Go told
+  here a is = record { front = saw.saw.front; later = saw.saw.later; here = saw.saw.here; activity = saw.saw.activity ∙ is; tells = saw.saw.tells }
 
   -- the row after has a greater least key
   above : l.activity ≡ Activity.Walk Walk.NextLeast → l.lower < key_of_word told
   unfolding here
   above is =
       let x = here (Activity.Walk Walk.NextLeast) is in
-      let rises = (met_laws s p q (Activity.Walk Walk.NextLeast) Go told goes x).climbs (view p).number (local_at p x.front) (met_local p q (Activity.Walk Walk.NextLeast) Go told x) x.activity in
-      let least : ℕ = key_of_word (word product (history product (view p).opening x.front).world (name.Min (local_at p x.front).candidate)) in
-      let more : l.lower < least = subst (λ n. n < least) (ap (λ (k : Local). k.lower) met.knew) rises in
-      subst (λ w. l.lower < key_of_word w) (sym (met_told p q (Activity.Walk Walk.NextLeast) Go told x _ refl)) more
+      let rises = (saw_laws s p q (Activity.Walk Walk.NextLeast) Go told goes x).climbs (view p).number (local_at p x.front) (saw_local p q (Activity.Walk Walk.NextLeast) Go told x) x.activity in
+      let least : ℕ = key_of_word (word product (history product (view p).opening x.front).world (name.Least (local_at p x.front).candidate)) in
+      let more : l.lower < least = subst (λ n. n < least) (ap (λ (k : Local). k.lower) saw.knew) rises in
+      subst (λ w. l.lower < key_of_word w) (sym (saw_told p q (Activity.Walk Walk.NextLeast) Go told x _ refl)) more
 
   event : (a : Activity) → l.activity ≡ a → is_walking a ≡ true → Climbs l m (walk_ahead a l.lower l.want)
   event (Activity.Walk Walk.Start) is w = on l m _ _ (after_is rows (Activity.Walk Walk.Start) Go l m told is line) (from_head l (row_or_first (row_linked (link_of told))) _ (omega arith))
   event (Activity.Walk Walk.First) is w = on l m _ _ (after_is rows (Activity.Walk Walk.First) Go l m told is line) (from_head l (row_or_first (row_linked (link_of told))) _ (omega arith))
-  event (Activity.Walk Walk.GuessedLeast) is w = on l m _ _ (after_is rows (Activity.Walk Walk.GuessedLeast) Go l m told is line) (least_met l (key_of_word told) (nat_le (key_of_word told) l.want))
+  event (Activity.Walk Walk.GuessedLeast) is w = on l m _ _ (after_is rows (Activity.Walk Walk.GuessedLeast) Go l m told is line) (least_seen l (key_of_word told) (nat_le (key_of_word told) l.want))
   event (Activity.Walk Walk.Next) is w = on l m _ _ (after_is rows (Activity.Walk Walk.Next) Go l m told is line) (links l (row_linked (link_of told)))
   event (Activity.Walk Walk.NextLeast) is w = on l m _ _ (after_is rows (Activity.Walk Walk.NextLeast) Go l m told is line) (climbs l (key_of_word told) (above is) (nat_le (key_of_word told) l.want) refl)
   event _ is w = true_false w refl
@@ -129,11 +129,11 @@ module _ (s : Shared) (p q : Pass) (l m : Local) (rows told : ℕ) (goes : GoesT
 -- The first event of a walk, with the choice that a guess makes.
 pub sets_out : (l m : Local) (told rows : ℕ) (guess : Option ℕ) → l.activity ≡ Activity.Walk Walk.Start → outcome m Moved ≡ next_of product rows (offered rows (guessing guess)) l told → WalksOn l m
 sets_out l m told rows None is line = (on l m _ _ (after_is rows (Activity.Walk Walk.Start) Go l m told is line) (from_head l (row_or_first (row_linked (link_of told))) (2 * (l.want + 1) + 3) (omega arith))).walks
-sets_out l m told rows (Some r) is line = met (nat_lt r rows) line
+sets_out l m told rows (Some r) is line = saw (nat_lt r rows) line
   where
-    met : (b : Bool) → outcome m Moved ≡ next_of product rows (if b then Guess r else Go) l told → WalksOn l m
-    met true e = (on l m _ _ (after_is rows (Activity.Walk Walk.Start) (Guess r) l m told is e) (guesses l r (state_of told) (2 * (l.want + 1) + 5) (omega arith))).walks
-    met false e = (on l m _ _ (after_is rows (Activity.Walk Walk.Start) Go l m told is e) (from_head l (row_or_first (row_linked (link_of told))) (2 * (l.want + 1) + 3) (omega arith))).walks
+    saw : (b : Bool) → outcome m Moved ≡ next_of product rows (if b then Guess r else Go) l told → WalksOn l m
+    saw true e = (on l m _ _ (after_is rows (Activity.Walk Walk.Start) (Guess r) l m told is e) (guesses l r (state_of told) (2 * (l.want + 1) + 5) (omega arith))).walks
+    saw false e = (on l m _ _ (after_is rows (Activity.Walk Walk.Start) Go l m told is e) (from_head l (row_or_first (row_linked (link_of told))) (2 * (l.want + 1) + 3) (omega arith))).walks
 
 -- one walk after the other
 pub walks_trans : (l m n : Local) → WalksOn l m → WalksOn m n → WalksOn l n
@@ -167,7 +167,7 @@ module _ {s : Shared} {p q : Pass} {told : ℕ} (l m : Local) (done : StepDone) 
   pub walks_by : WalksFurther s p l q m
   walks_by =
       let on = reaches_by went_on going in
-      let climbed = walk_goes s p q l m (view p).opening.rows told on.goes (went_met went_on within) (went_line went_on going) u in
+      let climbed = walk_goes s p q l m (view p).opening.rows told on.goes (went_saw went_on within) (went_line went_on going) u in
       record { goes = on.goes; follows = on.follows; calls = on.calls; held = went_held went_on going refl; walks = climbed.walks; fewer = climbed.fewer }
 
 -- The events by which a walk goes from row to row.
@@ -177,10 +177,10 @@ module _ {s : Shared} {p q : Pass} {told : ℕ} (l : Local) where
   pub link_led : (r : ℕ) → row_linked (link_of told) ≡ Some r → Follows s p (walking (Activity.Walk Walk.Next) l) → Makes s p Go told q → WalksFurther s p (walking (Activity.Walk Walk.Next) l) q (walking (Activity.Walk Walk.NextLeast) (record l { candidate = r }))
   link_led r leads f makes =
       walks_by (walking (Activity.Walk Walk.Next) l) (walking (Activity.Walk Walk.NextLeast) (record l { candidate = r })) Moved f makes refl
-      (ap (λ o. link_met o (walking (Activity.Walk Walk.Next) l)) (sym leads) ∙ next_at _ (Activity.Walk Walk.Next) (walking (Activity.Walk Walk.Next) l) told refl)
+      (ap (λ o. link_reached o (walking (Activity.Walk Walk.Next) l)) (sym leads) ∙ next_at _ (Activity.Walk Walk.Next) (walking (Activity.Walk Walk.Next) l) told refl)
 
   -- what follows from a link that was told
-  pub link_told : (m : Local) (done : StepDone) → outcome m done ≡ link_met (row_linked (link_of told)) (walking (Activity.Walk Walk.Next) l) → Follows s p (walking (Activity.Walk Walk.Next) l) → Makes s p Go told q → WalksFurther s p (walking (Activity.Walk Walk.Next) l) q m
+  pub link_told : (m : Local) (done : StepDone) → outcome m done ≡ link_reached (row_linked (link_of told)) (walking (Activity.Walk Walk.Next) l) → Follows s p (walking (Activity.Walk Walk.Next) l) → Makes s p Go told q → WalksFurther s p (walking (Activity.Walk Walk.Next) l) q m
   link_told m done line f makes = walks_by (walking (Activity.Walk Walk.Next) l) m done f makes refl (line ∙ next_at _ (Activity.Walk Walk.Next) (walking (Activity.Walk Walk.Next) l) told refl)
 
   -- the row's least key is not above the wanted one: it is taken
@@ -194,7 +194,7 @@ module _ {s : Shared} {p q : Pass} {told : ℕ} (l : Local) where
       ∙ next_at _ (Activity.Walk Walk.NextLeast) (walking (Activity.Walk Walk.NextLeast) l) told refl))
 
   -- what follows from a least key that was told
-  pub least_told : (m : Local) (done : StepDone) → outcome m done ≡ walk_min (key_of_word told) (walking (Activity.Walk Walk.NextLeast) l) → Follows s p (walking (Activity.Walk Walk.NextLeast) l) → Makes s p Go told q → WalksFurther s p (walking (Activity.Walk Walk.NextLeast) l) q m
+  pub least_told : (m : Local) (done : StepDone) → outcome m done ≡ walk_least (key_of_word told) (walking (Activity.Walk Walk.NextLeast) l) → Follows s p (walking (Activity.Walk Walk.NextLeast) l) → Makes s p Go told q → WalksFurther s p (walking (Activity.Walk Walk.NextLeast) l) q m
   least_told m done line f makes = walks_by (walking (Activity.Walk Walk.NextLeast) l) m done f makes refl (line ∙ next_at _ (Activity.Walk Walk.NextLeast) (walking (Activity.Walk Walk.NextLeast) l) told refl)
 
 -- What stays through all events of a walk.
@@ -255,19 +255,19 @@ module _ {s : Shared} {o p q : Pass} {l m n : Local} (before : IsWalkingOn s o l
 pub begins_on : (s : Shared) (p q r : Pass) (c : Choice) → GoesTo s q r → BeginsWith p q c → BeginsWith p r c
 begins_on s p q r c goes b = record { front = b.front; later = b.later; first = b.first; here = prefix_trans _ _ _ b.here goes.seen }
 
--- Rows that are passed while code may lack what the seat gathered in the row before, which the walk
--- forgets.
+-- Rows that are gone by while code may lack what the seat gathered in the row before, which the
+-- walk forgets.
 
 -- so far the walk went, and the seat has gathered these cells: code has them too, or the walk is to
 -- forget them
-pub record IsPassing (s : Shared) (o : Pass) (l : Local) (p : Pass) (m : Local) : Type 0 where
+pub record IsGoingBy (s : Shared) (o : Pass) (l : Local) (p : Pass) (m : Local) : Type 0 where
   pub cells : List Cell
   pub on : IsWalkingOn s o l p (walking (Activity.Walk Walk.Next) (record m { gathered = cells }))
   pub forgets : (arrived m.call ≡ Activity.Look (Look.Entry 0)) ⊎ (cells ≡ m.gathered)
 
 -- it begins
-pub begins_passing : (s : Shared) (p : Pass) (l : Local) → (cells : List Cell) × Follows s p (record l { gathered = cells }) → (arrived l.call ≡ Activity.Look (Look.Entry 0)) ⊎ Follows s p l → l.activity ≡ Activity.Walk Walk.Next → IsPassing s p l p l
-begins_passing s p l beside (inl look) is =
+pub begins_going_by : (s : Shared) (p : Pass) (l : Local) → (cells : List Cell) × Follows s p (record l { gathered = cells }) → (arrived l.call ≡ Activity.Look (Look.Entry 0)) ⊎ Follows s p l → l.activity ≡ Activity.Walk Walk.Next → IsGoingBy s p l p l
+begins_going_by s p l beside (inl look) is =
     let on = begins_walking s p (record l { gathered = beside.0 }) beside.1 is in
     record {
       cells = beside.0;
@@ -281,7 +281,7 @@ begins_passing s p l beside (inl look) is =
       };
       forgets = inl look;
     }
-begins_passing s p l beside (inr f) is = record { cells = l.gathered; on = begins_walking s p l f is; forgets = inr refl }
+begins_going_by s p l beside (inr f) is = record { cells = l.gathered; on = begins_walking s p l f is; forgets = inr refl }
 
 -- the arrival is the same whatever was gathered, where the walk forgets it
 arrive_over : (call : Option Call) (l : Local) (cells : List Cell) → (arrived call ≡ Activity.Look (Look.Entry 0)) ⊎ (cells ≡ l.gathered) → arrive call (record l { gathered = cells }) ≡ arrive call l
@@ -301,7 +301,7 @@ arrive_at (Some (Scan from upto)) l = refl
 arrive_at None l = refl
 
 -- a row whose least key is above the wanted one ends the walk
-stops_before : (least : ℕ) (l : Local) → nat_le least l.want ≡ false → walk_min least l ≡ arrive l.call (record l { next = Some l.candidate; upper = least })
+stops_before : (least : ℕ) (l : Local) → nat_le least l.want ≡ false → walk_least least l ≡ arrive l.call (record l { next = Some l.candidate; upper = least })
 stops_before least l h = ap (λ (b : Bool). let o : Outcome = if b then to (Activity.Walk Walk.Next) (record l { row = l.candidate; lower = least }) else arrive l.call (record l { next = Some l.candidate; upper = least }) in o) h
 
 -- all of the walk, which has arrived
@@ -309,42 +309,42 @@ pub record HasArrived (s : Shared) (o : Pass) (l : Local) (p : Pass) (m : Local)
   pub walks : WalksFurther s o l p m
   pub arrived : m.activity ≡ arrived l.call
 
-module _ {s : Shared} {o p q : Pass} {told : ℕ} {first : Local} (l : Local) (x : IsPassing s o first p l) (makes : Makes s p Go told q) where
+module _ {s : Shared} {o p q : Pass} {told : ℕ} {first : Local} (l : Local) (x : IsGoingBy s o first p l) (makes : Makes s p Go told q) where
   -- the link led to a row
-  pub passing_led : (r : ℕ) → row_linked (link_of told) ≡ Some r → WalksFurther s p (walking (Activity.Walk Walk.Next) (record l { gathered = x.cells })) q (walking (Activity.Walk Walk.NextLeast) (record l { gathered = x.cells; candidate = r }))
-  passing_led r leads = link_led (record l { gathered = x.cells }) r leads x.on.follows makes
+  pub going_by_led : (r : ℕ) → row_linked (link_of told) ≡ Some r → WalksFurther s p (walking (Activity.Walk Walk.Next) (record l { gathered = x.cells })) q (walking (Activity.Walk Walk.NextLeast) (record l { gathered = x.cells; candidate = r }))
+  going_by_led r leads = link_led (record l { gathered = x.cells }) r leads x.on.follows makes
 
   -- there is no row after this one
-  pub arrives_last : (m : Local) (done : StepDone) → row_linked (link_of told) ≡ None → outcome m done ≡ link_met (row_linked (link_of told)) (walking (Activity.Walk Walk.Next) l) → HasArrived s o first q m
+  pub arrives_last : (m : Local) (done : StepDone) → row_linked (link_of told) ≡ None → outcome m done ≡ link_reached (row_linked (link_of told)) (walking (Activity.Walk Walk.Next) l) → HasArrived s o first q m
   arrives_last m done leads line =
       let there : Local = record (walking (Activity.Walk Walk.Next) l) { next = None; upper = 0 } in
-      let met : outcome m done ≡ arrive l.call there = line ∙ ap (λ n. link_met n (walking (Activity.Walk Walk.Next) l)) leads in
+      let saw : outcome m done ≡ arrive l.call there = line ∙ ap (λ n. link_reached n (walking (Activity.Walk Walk.Next) l)) leads in
       record {
-        walks = walked_on x.on (link_told (record l { gathered = x.cells }) m done (met ∙ sym (arrive_over l.call there x.cells x.forgets) ∙ ap (λ n. link_met n (walking (Activity.Walk Walk.Next) (record l { gathered = x.cells }))) (sym leads)) x.on.follows makes);
-        arrived = ap (λ (y : Outcome). y.local.activity) met ∙ arrive_at l.call there ∙ ap arrived x.on.walks.call;
+        walks = walked_on x.on (link_told (record l { gathered = x.cells }) m done (saw ∙ sym (arrive_over l.call there x.cells x.forgets) ∙ ap (λ n. link_reached n (walking (Activity.Walk Walk.Next) (record l { gathered = x.cells }))) (sym leads)) x.on.follows makes);
+        arrived = ap (λ (y : Outcome). y.local.activity) saw ∙ arrive_at l.call there ∙ ap arrived x.on.walks.call;
       }
 
-module _ {s : Shared} {o p q r : Pass} {link told : ℕ} {first : Local} (l : Local) (x : IsPassing s o first p l) (row : ℕ) (leads : row_linked (link_of link) ≡ Some row) (makes : Makes s p Go link q) (makes_next : Makes s q Go told r) where
+module _ {s : Shared} {o p q r : Pass} {link told : ℕ} {first : Local} (l : Local) (x : IsGoingBy s o first p l) (row : ℕ) (leads : row_linked (link_of link) ≡ Some row) (makes : Makes s p Go link q) (makes_next : Makes s q Go told r) where
   -- the row after is taken
-  pub passing_taken : (key : ℕ) → key ≡ key_of_word told → key ≤ l.want → WalksFurther s p (walking (Activity.Walk Walk.Next) (record l { gathered = x.cells })) r (walking (Activity.Walk Walk.Next) (record l { gathered = x.cells; candidate = row; row = row; lower = key }))
-  passing_taken key keyed serves =
-      let led = passing_led l x makes row leads in
+  pub going_by_taken : (key : ℕ) → key ≡ key_of_word told → key ≤ l.want → WalksFurther s p (walking (Activity.Walk Walk.Next) (record l { gathered = x.cells })) r (walking (Activity.Walk Walk.Next) (record l { gathered = x.cells; candidate = row; row = row; lower = key }))
+  going_by_taken key keyed serves =
+      let led = going_by_led l x makes row leads in
       further_trans _ _ _ _ _ _ _ led (row_taken (record l { gathered = x.cells; candidate = row }) key keyed serves led.follows makes_next)
 
   -- and the walk goes on from it
-  pub passing_on : (key : ℕ) → key ≡ key_of_word told → key ≤ l.want → IsPassing s o first r (record l { candidate = row; row = row; lower = key })
-  passing_on key keyed serves = record { cells = x.cells; on = walking_on x.on (passing_taken key keyed serves); forgets = x.forgets }
+  pub going_by_on : (key : ℕ) → key ≡ key_of_word told → key ≤ l.want → IsGoingBy s o first r (record l { candidate = row; row = row; lower = key })
+  going_by_on key keyed serves = record { cells = x.cells; on = walking_on x.on (going_by_taken key keyed serves); forgets = x.forgets }
 
   -- the row after begins above the wanted key
-  pub arrives_before : (key : ℕ) → key ≡ key_of_word told → l.want < key → (m : Local) (done : StepDone) → outcome m done ≡ walk_min (key_of_word told) (walking (Activity.Walk Walk.NextLeast) (record l { candidate = row })) → HasArrived s o first r m
+  pub arrives_before : (key : ℕ) → key ≡ key_of_word told → l.want < key → (m : Local) (done : StepDone) → outcome m done ≡ walk_least (key_of_word told) (walking (Activity.Walk Walk.NextLeast) (record l { candidate = row })) → HasArrived s o first r m
   arrives_before key keyed over m done line =
       let beyond : l.want < key_of_word told = subst (λ n. l.want < n) keyed over in
       let above : nat_le (key_of_word told) l.want ≡ false = grind (arith) in
       let here : Local = walking (Activity.Walk Walk.NextLeast) (record l { candidate = row }) in
       let there : Local = record here { next = Some row; upper = key_of_word told } in
-      let met : outcome m done ≡ arrive l.call there = line ∙ stops_before (key_of_word told) here above in
-      let led = passing_led l x makes row leads in
+      let saw : outcome m done ≡ arrive l.call there = line ∙ stops_before (key_of_word told) here above in
+      let led = going_by_led l x makes row leads in
       record {
-        walks = walked_on x.on (further_trans _ _ _ _ _ _ _ led (least_told (record l { gathered = x.cells; candidate = row }) m done (met ∙ sym (arrive_over l.call there x.cells x.forgets) ∙ sym (stops_before (key_of_word told) (walking (Activity.Walk Walk.NextLeast) (record l { gathered = x.cells; candidate = row })) above)) led.follows makes_next));
-        arrived = ap (λ (y : Outcome). y.local.activity) met ∙ arrive_at l.call there ∙ ap arrived x.on.walks.call;
+        walks = walked_on x.on (further_trans _ _ _ _ _ _ _ led (least_told (record l { gathered = x.cells; candidate = row }) m done (saw ∙ sym (arrive_over l.call there x.cells x.forgets) ∙ sym (stops_before (key_of_word told) (walking (Activity.Walk Walk.NextLeast) (record l { gathered = x.cells; candidate = row })) above)) led.follows makes_next));
+        arrived = ap (λ (y : Outcome). y.local.activity) saw ∙ arrive_at l.call there ∙ ap arrived x.on.walks.call;
       }

@@ -1,4 +1,4 @@
-pub mod Meeting
+pub mod Sights
 pub mod Stages
 pub mod Walking
 pub mod Putting

@@ -15,7 +15,7 @@ use Rattle.kw_live.specs.declared.putting.TryPut.{TryPut}
 use Rattle.kw_live.specs.declared.putting.TryPut.TheVariants.{Done, RowFull}
 use Rattle.kw_table.specs.declared.pass.Pass.{Pass}
 use Rattle.kw_table.specs.declared.shared.Shared.{Shared}
-use Rattle.kw_live.specs.Meeting.{MetFull}
+use Rattle.kw_live.specs.Sights.{SawFull}
 
 -- where a put or a delete stands that ended so at its row
 abbrev pub stands_after : TryPut → Activity
@@ -25,16 +25,16 @@ stands_after (RowFull row) = Activity.Rebalance (Rebalance.Engage Engage.Clock)
 -- the put found its row full
 abbrev pub Tried : Pass → Pass → ℕ → TryPut → Type 0
 Tried p q row Done = Unit {0}
-Tried p q row (RowFull full) = (full ≡ row) × MetFull p q
+Tried p q row (RowFull full) = (full ≡ row) × SawFull p q
 
 -- how many events a put makes at most from one exchange that it loses to the next: to load a link,
--- and the key and the version of the cell that it meets there, for each cell; then to load the last
--- link, to store its own, and to exchange
+-- and the key and the version of the cell that it reaches there, for each cell; then to load the
+-- last link, to store its own, and to exchange
 abbrev pub each_walk : ℕ
 each_walk = 3 * CELLS + 4
 
--- how many events a put has yet to make at most, with so many cells met on its walk and so many
--- exchanges lost. It meets fewer cells, and loses fewer exchanges, than the row has cells
+-- how many events a put has yet to make at most, with so many cells reached on its walk and so many
+-- exchanges lost. It reaches fewer cells, and loses fewer exchanges, than the row has cells
 abbrev pub put_ahead : Activity → ℕ → ℕ → ℕ
 put_ahead (Activity.Put Put.Count) walked lost = CELLS * each_walk + each_walk + 8
 put_ahead (Activity.Put Put.Add) walked lost = CELLS * each_walk + each_walk + 7

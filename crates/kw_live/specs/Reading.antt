@@ -27,7 +27,7 @@ abbrev pub is_looking : Activity → Bool
 is_looking (Activity.Look _) = true
 is_looking _ = false
 
--- the reader goes along the row's list, or reads what it remembers and did not meet there
+-- the reader goes along the row's list, or reads what it remembers and did not reach there
 abbrev pub is_reading_list : Activity → Bool
 is_reading_list (Activity.Read _) = true
 is_reading_list _ = false
@@ -40,7 +40,7 @@ is_listing (Activity.Read Read.Version) = true
 is_listing (Activity.Read Read.Value) = true
 is_listing _ = false
 
--- the reader is at a cell that it remembers of the entries and did not meet in the list
+-- the reader is at a cell that it remembers of the entries and did not reach in the list
 abbrev pub is_at_remembered : Activity → Bool
 is_at_remembered (Activity.Read Read.LeftOverKey) = true
 is_at_remembered (Activity.Read Read.LeftOverValue) = true
@@ -117,8 +117,8 @@ HasReadAs _ want version m before after = Unit {0}
 abbrev pub HasRead : Local → Local → List (ℕ × ℕ) → List (ℕ × ℕ) → Type 0
 HasRead l m before after = HasReadAs l.call l.want l.version m before after
 
--- how many events of reading a reader has yet to make at most, with so many cells met on its walk
--- and so many remembered
+-- how many events of reading a reader has yet to make at most, with so many cells reached on its
+-- walk and so many remembered
 abbrev pub read_ahead : Sizes → Activity → ℕ → ℕ → ℕ
 read_ahead z (Activity.Read Read.Link) walked marks = 4 * (z.cells - walked) + 2 * marks + 1
 read_ahead z (Activity.Read Read.Key) walked marks = 4 * (z.cells - walked) + 2 * marks + 4

@@ -33,7 +33,7 @@ pub record LeadsOn (upto : ℕ) (l : Local) : Type 0 where
 pub record Streams (s : Shared) (p : Pass) (l : Local) (w : Cursor) (cells : List Cell) : Type 0 where
   pub follows : Follows s p (streaming w cells l)
   pub in_order : AreInOrder cells
-  -- no more than it has met, which are no more than there are
+  -- no more than it has reached, which are no more than there are
   pub few : length cells ≤ w.walked
   pub within : w.walked ≤ CELLS
 

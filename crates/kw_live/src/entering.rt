@@ -12,7 +12,7 @@ ghost use Rattle.kw_follow.specs.Calling.{Closes};
 ghost use Rattle.kw_follow.specs.Following.{Follows, GoesTo, activity_in, held};
 ghost use Rattle.kw_follow.specs.Moving.{Begins};
 ghost use Rattle.kw_follow.specs.Reaching.{Advances, Reaches};
-ghost use Rattle.kw_live.specs.Meeting.{MetClock};
+ghost use Rattle.kw_live.specs.Sights.{SawClock};
 ghost use Rattle.kw_live.specs.Stages.{HasEntered};
 
 use kw_follow::{begin, clear, end, go, go_along, go_draw};
@@ -38,7 +38,7 @@ pub fn enter(shared: &Shared, pass: &mut Pass, local: &mut Local, call: Call)
     requires range { is_call_in_range call ≡ true }
     ensures begins { Begins shared.now pass.old pass.new call local.new }
     ensures entered { HasEntered call local.new.activity }
-    ensures spent { is_scan (Some call) ≡ true → (clock : _) × MetClock pass.old pass.new clock
+    ensures spent { is_scan (Some call) ≡ true → (clock : _) × SawClock pass.old pass.new clock
         × ((local.new.activity ≡ Activity.Leave Answer.Spent) ↔ (SPENT ≤ clock)) }
 {
     begin(shared, pass, local, call);
@@ -74,7 +74,7 @@ fn draw(shared: &Shared, pass: &mut Pass, local: &mut Local)
     ensures entered { IfSome local.old.call (λ call. HasEntered call local.new.activity) }
     ensures call { local.new.call ≡ local.old.call }
     ensures unread { local.new.has_read ≡ local.old.has_read }
-    ensures spent { (clock : _) × MetClock pass.old pass.new clock
+    ensures spent { (clock : _) × SawClock pass.old pass.new clock
         × ((local.new.activity ≡ Activity.Leave Answer.Spent) ↔ (SPENT ≤ clock)) }
 {
     go_draw(shared, pass, local);

@@ -1,9 +1,9 @@
 //! A whole get.
 //!
-//! Mostly a get meets nothing on its way: the row that was guessed for its key serves, nothing is
+//! Mostly a get sees nothing on its way: the row that was guessed for its key serves, nothing is
 //! announced in the entries there, and it goes along the row's list. Then all that it learns lies
 //! in registers, as a `Way` and a `Cursor`, and the local that its pass lent stays at rest from its
-//! begin to its end. Of the cells of its key it keeps the newest alone. Where it meets anything
+//! begin to its end. Of the cells of its key it keeps the newest alone. Where it sees anything
 //! else, its local is brought up to there, and it goes on as every other call does, by `locate`,
 //! `read_row` and `leave`.
 ghost use Rattle.std.specs.Prelude.{◌≡◌, ◌<◌, false, Some};
@@ -24,7 +24,7 @@ use crate::looking::{is_idle, look_along};
 use crate::newest::read_newest;
 use crate::reading::read_row;
 use crate::walking::{linked, locate};
-use kw_follow::{Way, end_resting, load_row_least, load_row_link, meet_entry};
+use kw_follow::{Way, end_resting, load_row_least, load_row_link, see_entry};
 use kw_model::call::{Call, Reply};
 use kw_table::{Pass, Shared};
 use kw_words::plain::unpack_key;
@@ -72,8 +72,8 @@ struct Place {
     way: Way,
 }
 
-// The walk from the guessed row on, as far as no second row is passed: the get has then come to its
-// row, or is still on its way.
+// The walk from the guessed row on, as far as no second row is gone by: the get has then come to
+// its row, or is still on its way.
 #[inline(always)]
 fn set_out(shared: &Shared, pass: &mut Pass, way: Way, guess: Option<u32>) -> Place
     requires { Follows shared.now pass.old (on_way (Activity.Walk Walk.Start) way) }
@@ -178,7 +178,7 @@ fn get_there(shared: &Shared, pass: &mut Pass, local: &mut Local, way: Way) -> O
         return value;
     }
     way.write(local, Activity::Look(Look::Entry(seen.entry)));
-    meet_entry(local, seen.entry, seen.found);
+    see_entry(local, seen.entry, seen.found);
     get_slowly(shared, pass, local, way.key)
 }
 

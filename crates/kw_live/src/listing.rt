@@ -1,15 +1,15 @@
 //! The walk of a reader along the list of its row.
 //!
-//! Most of what a get or a scan does is this: so the cells are passed and gathered in one loop,
+//! Most of what a get or a scan does is this: so the cells are gone by and gathered in one loop,
 //! whose cursor the reader's local gets back once the walk is over. What the reader remembers of
-//! the entries and did not meet here, it reads after it, as `reading` says.
+//! the entries and did not reach here, it reads after it, as `reading` says.
 ghost use Rattle.std.specs.Prelude.{◌≡◌, ◌≤◌, false};
 ghost use Rattle.kw_world.specs.Calls.{first_key, last_key};
 ghost use Rattle.kw_follow.specs.Cursors.{with_cursor};
 ghost use Rattle.kw_follow.specs.Following.{Follows};
 ghost use Rattle.kw_live.specs.Reading.{ReadsOn, is_listing};
 
-use kw_follow::{Cursor, go_to_rest};
+use kw_follow::{Cursor, go_to_left_over};
 use kw_table::{Pass, Shared};
 use kw_words::plain::{unpack_cell_link, unpack_key};
 use kw_world::activity::Activity;
@@ -30,24 +30,24 @@ pub(crate) fn read_listed(shared: &Shared, pass: &mut Pass, local: &mut Local)
     let last = last_key(local.call);
     let mut cursor = Cursor::of(local);
     loop {
-        let link = cursor.load_link(shared, pass);
+        let link = cursor.load_cell_link(shared, pass);
         let Some(cell) = unpack_cell_link(link) else {
             cursor.write(local, Activity::Read(Read::Link));
-            go_to_rest(local);
+            go_to_left_over(local);
             return;
         };
-        let met = cursor.reach(cell);
+        let there = cursor.reach(cell);
         local.remembered.forget(cell);
-        let word = met.load_key(shared, pass);
+        let word = there.load_key(shared, pass);
         let key = unpack_key(word);
         if key < first {
-            cursor = met.past();
+            cursor = there.past();
         } else if key <= last {
-            let ranged = met.with_key(key);
+            let ranged = there.with_key(key);
             cursor = gather_cell(shared, pass, local, ranged);
         } else {
-            met.write(local, Activity::Read(Read::Key));
-            go_to_rest(local);
+            there.write(local, Activity::Read(Read::Key));
+            go_to_left_over(local);
             return;
         }
     }

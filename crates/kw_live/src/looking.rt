@@ -11,7 +11,7 @@ ghost use Rattle.kw_follow.specs.Reaching.{Advances};
 ghost use Rattle.kw_follow.specs.Within.{looking};
 ghost use Rattle.kw_live.specs.Reading.{LooksFurther, LooksOn, LooksUpTo, is_idle, is_looking};
 
-use kw_follow::{go_along, load_entry, meet_entry};
+use kw_follow::{go_along, load_entry, see_entry};
 use kw_table::{Pass, Shared};
 use kw_words::pend::Pend;
 use kw_words::sizes::SEAT_COUNT;
@@ -20,7 +20,7 @@ use kw_world::activity::look::Look;
 use kw_world::activity::read::Read;
 use kw_world::local::Local;
 
-/// Looks at all entries that the reader has yet to look at, and helps the puts that it meets there.
+/// Looks at all entries that the reader has yet to look at, and helps the puts that it sees there.
 /// The reader then stands at the first link of the row's list. Takes no memory.
 pub(crate) fn look_at_entries(shared: &Shared, pass: &mut Pass, local: &mut Local)
     requires follows { Follows shared.now pass.old local.old }
@@ -59,7 +59,7 @@ fn look_from(shared: &Shared, pass: &mut Pass, local: &mut Local, entry: u32)
 {
     let seen = look_along(shared, pass, local.row, entry);
     local.activity = Activity::Look(Look::Entry(seen.entry));
-    meet_entry(local, seen.entry, seen.found);
+    see_entry(local, seen.entry, seen.found);
 }
 
 /// An entry at which a reader has looked, and what it was told there.
@@ -72,7 +72,7 @@ pub(crate) struct Seen {
 }
 
 /// Looks at the entries of this row from that of this seat on, to the first at which something is
-/// announced, or to the last one. What follows from that one is still to be said, by `meet_entry`.
+/// announced, or to the last one. What follows from that one is still to be said, by `see_entry`.
 /// Takes no memory.
 #[inline(always)]
 pub(crate) fn look_along(shared: &Shared, pass: &mut Pass, row: u32, entry: u32) -> Seen

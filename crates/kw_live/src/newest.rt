@@ -27,17 +27,17 @@ pub(crate) fn read_newest(shared: &Shared, pass: &mut Pass, way: Way) -> Option<
     let mut newest: Option<Cell> = None;
     let mut cursor = Cursor::first(way.row);
     loop {
-        let link = cursor.load_link(shared, pass);
+        let link = cursor.load_cell_link(shared, pass);
         let Some(cell) = unpack_cell_link(link) else {
             return shown_by(newest);
         };
-        let met = cursor.reach(cell);
-        let word = met.load_key(shared, pass);
+        let there = cursor.reach(cell);
+        let word = there.load_key(shared, pass);
         let key = unpack_key(word);
         if key < way.key {
-            cursor = met.past();
+            cursor = there.past();
         } else if key <= way.key {
-            let ranged = met.with_key(key);
+            let ranged = there.with_key(key);
             let version = ranged.load_version(shared, pass);
             let read = ranged.with_version(version);
             let value = read.load_value(shared, pass);

@@ -1,7 +1,7 @@
 //! The events of a put or a delete at its row.
 //!
 //! The put asks for a cell, writes and announces it, stamps it, and inserts it in the list of the
-//! row. Each event is made by its own step, but for those by which it passes the cells of lesser
+//! row. Each event is made by its own step, but for those by which it goes by the cells of lesser
 //! keys: these are made in one loop, as `inserting` says.
 ghost use Rattle.std.specs.Prelude.{◌≡◌, false};
 ghost use Rattle.kw_core.specs.Stages.{is_putting};
@@ -9,7 +9,7 @@ ghost use Rattle.kw_follow.specs.Following.{Follows};
 ghost use Rattle.kw_follow.specs.Reaching.{Advances};
 ghost use Rattle.kw_live.specs.Putting.{Tried, stands_after};
 
-use crate::inserting::pass_lesser;
+use crate::inserting::go_by_lesser;
 use kw_follow::go_put;
 use kw_table::{Pass, Shared};
 use kw_world::activity::Activity;
@@ -44,7 +44,7 @@ pub fn try_put(shared: &Shared, pass: &mut Pass, local: &mut Local) -> TryPut
     let row = local.row;
     while is_putting(&local.activity) {
         match local.activity {
-            Activity::Insert(Insert::Link) => pass_lesser(shared, pass, local),
+            Activity::Insert(Insert::Link) => go_by_lesser(shared, pass, local),
             _ => {
                 go_put(shared, pass, local);
             }

@@ -13,8 +13,8 @@ use kw_world::activity::Activity;
 use kw_world::activity::read::Read;
 use kw_world::local::Local;
 
-/// Reads the row that the call stands at: its entries first, helping the puts that it meets there,
-/// and then its list, and what it remembers of the entries and did not meet in the list.
+/// Reads the row that the call stands at: its entries first, helping the puts that it sees there,
+/// and then its list, and what it remembers of the entries and did not reach in the list.
 ///
 /// The call is a get or a scan that has arrived at its row, or has looked at some of the entries
 /// there. A get is then about to leave with what the newest cell of its key shows. A scan has the
@@ -70,8 +70,8 @@ pub fn read_list(shared: &Shared, pass: &mut Pass, local: &mut Local)
     }
 }
 
-// One event at a cell that the reader remembers and did not meet in the list. It does not come back
-// to the list.
+// One event at a cell that the reader remembers and did not reach in the list. It does not come
+// back to the list.
 #[inline(always)]
 fn read_on(shared: &Shared, pass: &mut Pass, local: &mut Local)
     requires follows { Follows shared.now pass.old local.old }
@@ -82,7 +82,7 @@ fn read_on(shared: &Shared, pass: &mut Pass, local: &mut Local)
     go_remembered(shared, pass, local);
 }
 
-// Whether the reader is at a cell that it remembers and did not meet in the list.
+// Whether the reader is at a cell that it remembers and did not reach in the list.
 #[inline(always)]
 fn is_at_remembered(activity: &Activity) -> bool
     ensures { result ≡ is_at_remembered activity.now }

@@ -5,13 +5,13 @@
 //! range, no cell is written down. Whoever reads the row is told one cell after the other, in the
 //! order of the list, and keeps the cursor. That these are the cells that the scan's seat has
 //! gathered, and that the pairs which they show are those that the scan then has, is for the
-//! clauses to say. The walk to the next row is `pass_rows`'s.
+//! clauses to say. The walk to the next row is `go_by_rows`'s.
 ghost use Rattle.std.specs.Prelude.{◌≡◌, ◌≤◌, [], List, IsTrue, MatchOption};
 ghost use Rattle.kw_cells.specs.declared.cell.Cell.{Cell as AnyCell};
 ghost use Rattle.kw_live.specs.Streaming.{EndsRow, LeadsOn, ReadsCell, Streams};
 
 use kw_cells::cell::Cell;
-use kw_follow::{Cursor, go_to_rest};
+use kw_follow::{Cursor, go_to_left_over};
 use kw_model::call::Call;
 use kw_table::{Pass, Shared};
 use kw_words::plain::{unpack_cell_link, unpack_key};
@@ -55,31 +55,31 @@ pub fn next_cell(
     ensures { (cells : List AnyCell) → Streams shared.now pass.old local.old cursor cells →
         MatchOption result
         (EndsRow shared.now pass.old local.old upto cells pass.new local.new)
-        (λ met. (local.new ≡ local.old)
-        × ReadsCell shared.now pass.old local.old upto cursor cells pass.new met.0 met.1) }
+        (λ there. (local.new ≡ local.old)
+        × ReadsCell shared.now pass.old local.old upto cursor cells pass.new there.0 there.1) }
 {
     let mut cursor = cursor;
     loop {
-        let link = cursor.load_link(shared, pass);
+        let link = cursor.load_cell_link(shared, pass);
         let Some(cell) = unpack_cell_link(link) else {
             cursor.write(local, Activity::Read(Read::Link));
-            go_to_rest(local);
+            go_to_left_over(local);
             return None;
         };
-        let met = cursor.reach(cell);
-        let word = met.load_key(shared, pass);
+        let there = cursor.reach(cell);
+        let word = there.load_key(shared, pass);
         let key = unpack_key(word);
         if key < first {
-            cursor = met.past();
+            cursor = there.past();
         } else if key <= upto {
-            let ranged = met.with_key(key);
+            let ranged = there.with_key(key);
             let version = ranged.load_version(shared, pass);
             let read = ranged.with_version(version);
             let value = read.load_value(shared, pass);
             return Some((read.cell(value), read.past()));
         } else {
-            met.write(local, Activity::Read(Read::Key));
-            go_to_rest(local);
+            there.write(local, Activity::Read(Read::Key));
+            go_to_left_over(local);
             return None;
         }
     }

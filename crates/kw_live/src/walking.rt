@@ -6,12 +6,13 @@ ghost use Rattle.kw_world.specs.Transition.{row_linked};
 ghost use Rattle.kw_core.specs.Stages.{is_walking};
 ghost use Rattle.kw_follow.specs.Following.{Follows};
 ghost use Rattle.kw_follow.specs.Reaching.{Advances};
-ghost use Rattle.kw_live.specs.Meeting.{BeginsWith};
+ghost use Rattle.kw_live.specs.Sights.{BeginsWith};
 ghost use Rattle.kw_live.specs.Stages.{arrived, guessing};
 ghost use Rattle.kw_live.specs.Walking.{IsUnderWay, WalksFurther, WalksOn};
 
 use kw_follow::{
-    go_along, go_guess, go_guess_min, load_row_least, load_row_link, meet_row_least, meet_row_link,
+    go_along, go_guess, go_guessed_least, load_row_least, load_row_link, see_row_least,
+    see_row_link,
 };
 use kw_table::{Pass, Shared};
 use kw_words::link::Link;
@@ -85,9 +86,9 @@ fn walk_on(shared: &Shared, pass: &mut Pass, local: &mut Local)
     ensures { WalksFurther shared.now pass.old local.old pass.new local.new }
 {
     match local.activity {
-        Activity::Walk(Walk::Next) => pass_rows(shared, pass, local),
+        Activity::Walk(Walk::Next) => go_by_rows(shared, pass, local),
         Activity::Walk(Walk::GuessedLeast) => {
-            go_guess_min(shared, pass, local);
+            go_guessed_least(shared, pass, local);
         }
         _ => {
             go_along(shared, pass, local);
@@ -96,12 +97,12 @@ fn walk_on(shared: &Shared, pass: &mut Pass, local: &mut Local)
 }
 
 /// Goes from row to row, up to the one whose range holds the wanted key. Of the local the row and
-/// its least key are brought up alone, where the walk passes a row.
+/// its least key are brought up alone, where the walk goes by a row.
 ///
 /// What a get or a scan gathered in the row before, which the walk forgets, need not stand in the
 /// local. Takes no memory.
 #[inline(always)]
-pub fn pass_rows(shared: &Shared, pass: &mut Pass, local: &mut Local)
+pub fn go_by_rows(shared: &Shared, pass: &mut Pass, local: &mut Local)
     requires follows { (cells : List Cell)
         × Follows shared.now pass.old (record local.old { gathered = cells }) }
     requires forgets { (arrived local.old.call ≡ Activity.Look (Look.Entry 0))
@@ -114,7 +115,7 @@ pub fn pass_rows(shared: &Shared, pass: &mut Pass, local: &mut Local)
         let link = load_row_link(shared, pass, local.row);
         let Some(row) = linked(link) else {
             local.activity = Activity::Walk(Walk::Next);
-            meet_row_link(local, link);
+            see_row_link(local, link);
             return;
         };
         local.candidate = row;
@@ -125,7 +126,7 @@ pub fn pass_rows(shared: &Shared, pass: &mut Pass, local: &mut Local)
             local.lower = key;
         } else {
             local.activity = Activity::Walk(Walk::NextLeast);
-            meet_row_least(local, least);
+            see_row_least(local, least);
             return;
         }
     }

@@ -21,12 +21,12 @@ use Rattle.kw_follow.specs.Moving.{WentOn}
 use Rattle.kw_follow.specs.Searches.{seeking_at}
 use Rattle.kw_follow.proofs.Moving.{moves, went_on}
 use Rattle.kw_follow.proofs.OwnEvents.{goes_trans}
-use Rattle.kw_live_rebal.specs.Standing.{GoesOn, HasMet, Rebalances}
-use Rattle.kw_live_rebal.proofs.Meets.{search_on}
-use Rattle.kw_live_rebal.proofs.Stages.{keeps_met, stays_untidied}
+use Rattle.kw_live_rebal.specs.Standing.{GoesOn, HasSeenCause, Rebalances}
+use Rattle.kw_live_rebal.proofs.Sightings.{search_on}
+use Rattle.kw_live_rebal.proofs.Stages.{keeps_seen, stays_untidied}
 
--- nothing was to be met where it stands after a stretch
-built_met : (o q : Pass) (a : Activity) (m : Local) → IsBuildingOn a → HasMet o q a m
+-- nothing was to be reached where it stands after a stretch
+built_met : (o q : Pass) (a : Activity) (m : Local) → IsBuildingOn a → HasSeenCause o q a m
 built_met o q (Activity.Rebalance (Rebalance.Gather _)) m h = tt
 built_met o q (Activity.Rebalance (Rebalance.Write _)) m h = tt
 built_met o q (Activity.Rebalance (Rebalance.Seek Seek.First)) m h = tt
@@ -40,18 +40,18 @@ stretch_goes_on {s} {p} {q} {l} {m} b tidies stands o r = record {
   follows = b.reaches.follows;
   calls = b.reaches.calls ∙ r.calls;
   held = b.held ∙ r.held;
-  met = built_met o q m.activity m stands;
+  saw = built_met o q m.activity m stands;
   untidied = tidies ∙ r.untidied;
 }
 
--- rows in use were passed over
+-- rows in use were gone by
 pub search_goes_on : {s : Shared} {p q : Pass} {l : Local} (x : Search) → l.activity ≡ Activity.Rebalance (Rebalance.Seek Seek.Next) → Builds s p q (seeking_at x l) → GoesOn s p l q (seeking_at x l)
 search_goes_on {s} {p} {q} {l} x is b o r = record {
   goes = goes_trans _ _ _ _ r.goes b.reaches.goes;
   follows = b.reaches.follows;
   calls = b.reaches.calls ∙ r.calls;
   held = b.held ∙ r.held;
-  met = search_on o b.reaches.goes (subst (λ a. HasMet o p a l) is r.met);
+  saw = search_on o b.reaches.goes (subst (λ a. HasSeenCause o p a l) is r.saw);
   untidied = r.untidied;
 }
 
@@ -84,6 +84,6 @@ module _ {s : Shared} {p q r : Pass} {told : ℕ} (x : Search) (l k m : Local) (
         follows = w.follows;
         calls = w.calls ∙ v.calls;
         held = w.held refl ∙ v.held;
-        met = keeps_met s o q r (seeking_at x l) m Go (view q).opening.rows w.told v.goes w.goes w.met w.line v.untidied v.met (λ e. seeks_no_more (Activity.Rebalance (Rebalance.Replace Replace.Normalise)) e tt) (λ e. seeks_no_more Activity.Retry e tt) (λ y e. seeks_no_more (Activity.Leave y) e tt);
-        untidied = stays_untidied o q (seeking_at x l) m Go (view q).opening.rows w.told w.line v.met (λ e. seeks_no_more Activity.Retry e tt) (λ y e. seeks_no_more (Activity.Leave y) e tt) v.untidied;
+        saw = keeps_seen s o q r (seeking_at x l) m Go (view q).opening.rows w.told v.goes w.goes w.saw w.line v.untidied v.saw (λ e. seeks_no_more (Activity.Rebalance (Rebalance.Replace Replace.Normalise)) e tt) (λ e. seeks_no_more Activity.Retry e tt) (λ y e. seeks_no_more (Activity.Leave y) e tt);
+        untidied = stays_untidied o q (seeking_at x l) m Go (view q).opening.rows w.told w.line v.saw (λ e. seeks_no_more Activity.Retry e tt) (λ y e. seeks_no_more (Activity.Leave y) e tt) v.untidied;
       }

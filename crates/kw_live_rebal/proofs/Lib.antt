@@ -1,4 +1,4 @@
-pub mod Meets
+pub mod Sightings
 pub mod Stages
 pub mod Finishing
 pub mod Building

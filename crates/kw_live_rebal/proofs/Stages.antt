@@ -1,4 +1,5 @@
--- Each event of a rebalance keeps what it has met: where it ends, there is a cause for how it ends.
+-- Each event of a rebalance keeps what it has seen: where it ends, there is a cause for how it
+-- ends.
 use Rattle.std.proofs.Common.{◌≡◌, ◌≢◌, ℕ, ◌+◌, ◌≤◌, ◌⊎◌, inl, inr, Bool, true, false, nat_le, nat_lt, ◌==◌, ◌++◌, List, [], ◌∷◌, Option, Some, None, if◌then◌else◌, arith, refl, sym, ◌∙◌, ap, subst, length, eq-eqb, eqb-true}
 use Rattle.std.proofs.lemmas.Bool.Decides.{nat_tests}
 use Rattle.std.proofs.lemmas.Option.{same_Some}
@@ -37,18 +38,18 @@ use Rattle.kw_world.specs.declared.marks.Mark.{Mark}
 use Rattle.kw_world.specs.declared.opening.Opening.{Opening}
 use Rattle.kw_world.specs.declared.rebalance.Afterwards.{Afterwards}
 use Rattle.kw_world.specs.declared.rebalance.Afterwards.TheVariants.{TryAgain, Refuse, MoveLeft}
-use Rattle.kw_world.specs.EngageTransitions.{again, decided, engaged, is_alone, refuse, state_met}
+use Rattle.kw_world.specs.EngageTransitions.{again, decided, engaged, is_alone, refuse, state_seen}
 use Rattle.kw_world.specs.Local.{without_rebalance, without_rows}
 use Rattle.kw_world.specs.declared.answer.Answer.TheVariants.{Done, NoRows, Spent}
-use Rattle.kw_world.specs.FreezeTransitions.{entry_tried, freeze_met, marking, needing, scan_helped, scan_met, to_freeze_look, to_scan_look}
+use Rattle.kw_world.specs.FreezeTransitions.{entry_tried, freeze_seen, marking, needing, scan_helped, scan_seen, to_freeze_look, to_scan_look}
 use Rattle.kw_world.specs.Marks.{least_mark}
 use Rattle.kw_world.specs.Operation.{told_by}
 use Rattle.kw_world.specs.ReplaceTransitions.{before_transition, first_before, guess_before, link_before, replaced, row_before, row_replaced}
-use Rattle.kw_world.specs.SeekTransitions.{give_back, given_back, has_more, pass_met, seek_first_transition, seek_met, seeking, take_row, to_pass, to_seek, with_row}
+use Rattle.kw_world.specs.SeekTransitions.{give_back, given_back, has_more, pass_seen, seek_first_transition, seek_seen, seeking, take_row, to_pass, to_seek, with_row}
 use Rattle.kw_world.specs.Sizes.{product}
 use Rattle.kw_world.specs.Step.{next_of, transition_of, word}
 use Rattle.kw_world.specs.Table.{transition}
-use Rattle.kw_world.specs.TakeTransitions.{keeping, left_of, take_met}
+use Rattle.kw_world.specs.TakeTransitions.{keeping, left_of, take_reached}
 use Rattle.kw_world.specs.Transition.{Outcome, leave, outcome, row_linked, row_or_first, to}
 use Rattle.kw_world.specs.WalkTransitions.{offered}
 use Rattle.kw_world.specs.WorldView.{WorldView}
@@ -56,8 +57,8 @@ use Rattle.kw_world.specs.WriteTransitions.{infant_cells, row_written, to_write_
 use Rattle.kw_core.specs.Events.{event, local_of, world}
 use Rattle.kw_core.specs.Run.{history}
 use Rattle.kw_core.proofs.Runs.{history-world}
-use Rattle.kw_laws.specs.Laws.{IsMetState, IsStated}
-use Rattle.kw_shape.specs.MetRows.{IsMet}
+use Rattle.kw_laws.specs.Laws.{IsReachedState, IsStated}
+use Rattle.kw_shape.specs.ReachedRows.{IsReached}
 use Rattle.kw_shape.specs.RowsIn.{has_mark}
 use Rattle.kw_puts.proofs.Owners.{true_false}
 use Rattle.kw_table.specs.declared.pass.Pass.{Pass}
@@ -65,28 +66,28 @@ use Rattle.kw_table.specs.declared.shared.Shared.{Shared}
 use Rattle.kw_table.specs.Passes.{view}
 use Rattle.kw_table.proofs.Prefixes.{prefix_trans}
 use Rattle.kw_follow.specs.Following.{GoesTo}
-use Rattle.kw_follow.specs.OwnEvents.{Met, MetAs, knew, transition_after}
-use Rattle.kw_follow.proofs.Fronts.{local_at, met_laws, met_local, met_told}
-use Rattle.kw_live_rebal.specs.Rebalancing.{IsRetired, IsWalkEnd, MetReplaced, MetSpent, MetWon, TellsReplaced}
-use Rattle.kw_live_rebal.specs.Standing.{HasMet, MetSearch}
+use Rattle.kw_follow.specs.OwnEvents.{Saw, SawAs, knew, transition_after}
+use Rattle.kw_follow.proofs.Fronts.{local_at, saw_laws, saw_local, saw_told}
+use Rattle.kw_live_rebal.specs.Rebalancing.{IsRetired, IsWalkEnd, SawReplaced, SawSpent, SawWon, TellsReplaced}
+use Rattle.kw_live_rebal.specs.Standing.{HasSeenCause, SawSearch}
 use Rattle.kw_follow.proofs.Untidied.{IsAtWork, balancing_works, keeps}
-use Rattle.kw_live_rebal.proofs.Meets.{replaced_on, search_on}
+use Rattle.kw_live_rebal.proofs.Sightings.{replaced_on, search_on}
 
 -- what an event is told by the line of this table, for this seat and this choice, after these
 -- events
 abbrev tells : Opening → ℕ → List Event → Choice → ℕ
 tells o n es c = told_by (transition_after o es n c).operation.action (word product (world product o es) (transition_after o es n c).operation.name)
 
--- what has been met where this outcome stands
+-- what has been reached where this outcome stands
 pub record Stands (o q : Pass) (x : Outcome) : Type 0 where
-  pub met : HasMet o q x.local.activity x.local
+  pub saw : HasSeenCause o q x.local.activity x.local
 
-module _ (s : Shared) (o p q : Pass) (l m : Local) (c : Choice) (rows told : ℕ) (was : GoesTo s o p) (goes : GoesTo s p q) (met : MetAs p q l c told) (line : outcome m Moved ≡ next_of product rows (offered rows c) l told) (undone : l.tidies ≡ false) where
+module _ (s : Shared) (o p q : Pass) (l m : Local) (c : Choice) (rows told : ℕ) (was : GoesTo s o p) (goes : GoesTo s p q) (saw : SawAs p q l c told) (line : outcome m Moved ≡ next_of product rows (offered rows c) l told) (undone : l.tidies ≡ false) where
   abbrev Then : Outcome → Type 0
   Then x = Stands o q x
 
-  so : (x : Outcome) → outcome m Moved ≡ x → Then x → HasMet o q m.activity m
-  so x f t = subst (λ (y : Outcome). HasMet o q y.local.activity y.local) (sym f) t.met
+  so : (x : Outcome) → outcome m Moved ≡ x → Then x → HasSeenCause o q m.activity m
+  so x f t = subst (λ (y : Outcome). HasSeenCause o q y.local.activity y.local) (sym f) t.saw
 
   -- both ways of a test
   both : (b : Bool) (x y : Outcome) → (b ≡ true → Then x) → (b ≡ false → Then y) → Then (if b then x else y)
@@ -100,171 +101,171 @@ module _ (s : Shared) (o p q : Pass) (l m : Local) (c : Choice) (rows told : ℕ
   -- The event, since the pass was at the first place.
 
   -- its seat knew the same
-  knew_same : knew o met.met.front ≡ knew p met.met.front
-  knew_same = ap (λ n. local_of (world product (view o).opening met.met.front) n) (sym was.number) ∙ ap (λ x. local_of (world product x met.met.front) (view p).number) (sym was.opening)
+  knew_same : knew o saw.saw.front ≡ knew p saw.saw.front
+  knew_same = ap (λ n. local_of (world product (view o).opening saw.saw.front) n) (sym was.number) ∙ ap (λ x. local_of (world product x saw.saw.front) (view p).number) (sym was.opening)
 
-  here : (a : Activity) → l.activity ≡ a → Met p q a c told
-  here a is = record { front = met.met.front; later = met.met.later; here = met.met.here; activity = met.met.activity ∙ is; tells = met.met.tells }
+  here : (a : Activity) → l.activity ≡ a → Saw p q a c told
+  here a is = record { front = saw.saw.front; later = saw.saw.later; here = saw.saw.here; activity = saw.saw.activity ∙ is; tells = saw.saw.tells }
 
-  since : (a : Activity) → l.activity ≡ a → Met o q a c told
+  since : (a : Activity) → l.activity ≡ a → Saw o q a c told
   since a is = record {
-    front = met.met.front;
-    later = prefix_trans _ _ _ was.seen met.met.later;
-    here = subst (λ n. IsPrefix (met.met.front ++ event n c ∷ []) (view q).seen) was.number met.met.here;
-    activity = ap (λ (k : Local). k.activity) knew_same ∙ (met.met.activity ∙ is);
-    tells = subst (λ n. told ≡ tells (view o).opening n met.met.front c) was.number (subst (λ x. told ≡ tells x (view p).number met.met.front c) was.opening met.met.tells);
+    front = saw.saw.front;
+    later = prefix_trans _ _ _ was.seen saw.saw.later;
+    here = subst (λ n. IsPrefix (saw.saw.front ++ event n c ∷ []) (view q).seen) was.number saw.saw.here;
+    activity = ap (λ (k : Local). k.activity) knew_same ∙ (saw.saw.activity ∙ is);
+    tells = subst (λ n. told ≡ tells (view o).opening n saw.saw.front c) was.number (subst (λ x. told ≡ tells x (view p).number saw.saw.front c) was.opening saw.saw.tells);
   }
 
-  knew_row : (knew o met.met.front).row ≡ l.row
-  knew_row = ap (λ (k : Local). k.row) knew_same ∙ ap (λ (k : Local). k.row) met.knew
+  knew_row : (knew o saw.saw.front).row ≡ l.row
+  knew_row = ap (λ (k : Local). k.row) knew_same ∙ ap (λ (k : Local). k.row) saw.knew
 
-  knew_lower : (knew o met.met.front).lower ≡ l.lower
-  knew_lower = ap (λ (k : Local). k.lower) knew_same ∙ ap (λ (k : Local). k.lower) met.knew
+  knew_lower : (knew o saw.saw.front).lower ≡ l.lower
+  knew_lower = ap (λ (k : Local). k.lower) knew_same ∙ ap (λ (k : Local). k.lower) saw.knew
 
   -- The causes.
 
-  spent_here : (a : Activity) → l.activity ≡ a → (a ≡ Activity.Rebalance (Rebalance.Engage Engage.Clock)) ⊎ (a ≡ Activity.Rebalance (Rebalance.Engage Engage.Epoch)) → SPENT ≤ told → MetSpent o q
-  spent_here a is at more = record { activity = a; at = at; choice = c; told = told; met = since a is; spent = more }
+  spent_here : (a : Activity) → l.activity ≡ a → (a ≡ Activity.Rebalance (Rebalance.Engage Engage.Clock)) ⊎ (a ≡ Activity.Rebalance (Rebalance.Engage Engage.Epoch)) → SPENT ≤ told → SawSpent o q
+  spent_here a is at more = record { activity = a; at = at; choice = c; told = told; saw = since a is; spent = more }
 
-  searches_here : l.activity ≡ Activity.Rebalance (Rebalance.Seek Seek.First) → MetSearch o q
-  searches_here is = record { choice = c; told = told; met = since (Activity.Rebalance (Rebalance.Seek Seek.First)) is }
+  searches_here : l.activity ≡ Activity.Rebalance (Rebalance.Seek Seek.First) → SawSearch o q
+  searches_here is = record { choice = c; told = told; saw = since (Activity.Rebalance (Rebalance.Seek Seek.First)) is }
 
-  -- a row that is met in the world before the event, as the pass knew it at first, is met in the
-  -- world of its laws
-  met_there : IsMet (word product (world product (view o).opening met.met.front)) (knew o met.met.front).row → IsMet (word product (history product (view p).opening met.met.front).world) (local_at p met.met.front).row
-  met_there x =
-      let at : IsMet (word product (world product (view o).opening met.met.front)) (local_at p met.met.front).row = subst (λ (k : Local). IsMet (word product (world product (view o).opening met.met.front)) k.row) knew_same x in
-      let of : IsMet (word product (world product (view p).opening met.met.front)) (local_at p met.met.front).row = subst (λ y. IsMet (word product (world product y met.met.front)) (local_at p met.met.front).row) (sym was.opening) at in
-      subst (λ (w : WorldView). IsMet (word product w) (local_at p met.met.front).row) (sym (history-world product (view p).opening met.met.front)) of
+  -- a row that is reached in the world before the event, as the pass knew it at first, is reached
+  -- in the world of its laws
+  reached_there : IsReached (word product (world product (view o).opening saw.saw.front)) (knew o saw.saw.front).row → IsReached (word product (history product (view p).opening saw.saw.front).world) (local_at p saw.saw.front).row
+  reached_there x =
+      let at : IsReached (word product (world product (view o).opening saw.saw.front)) (local_at p saw.saw.front).row = subst (λ (k : Local). IsReached (word product (world product (view o).opening saw.saw.front)) k.row) knew_same x in
+      let of : IsReached (word product (world product (view p).opening saw.saw.front)) (local_at p saw.saw.front).row = subst (λ y. IsReached (word product (world product y saw.saw.front)) (local_at p saw.saw.front).row) (sym was.opening) at in
+      subst (λ (w : WorldView). IsReached (word product w) (local_at p saw.saw.front).row) (sym (history-world product (view p).opening saw.saw.front)) of
 
   -- the row was found replaced
   abbrev IsUnlinked : Activity → Type 0
-  IsUnlinked a = IsWalkEnd a → IsMet (word product (world product (view o).opening met.met.front)) (knew o met.met.front).row → ⊥
+  IsUnlinked a = IsWalkEnd a → IsReached (word product (world product (view o).opening saw.saw.front)) (knew o saw.saw.front).row → ⊥
 
-  replaced_here : (a : Activity) → l.activity ≡ a → TellsReplaced a told (knew o met.met.front) → IsUnlinked a → MetReplaced o q
+  replaced_here : (a : Activity) → l.activity ≡ a → TellsReplaced a told (knew o saw.saw.front) → IsUnlinked a → SawReplaced o q
   unfolding since
-  replaced_here a is found gone = record { activity = a; choice = c; told = told; met = since a is; replaced = found; unlinked = gone }
+  replaced_here a is found gone = record { activity = a; choice = c; told = told; saw = since a is; replaced = found; unlinked = gone }
 
-  won_here : (is : l.activity ≡ Activity.Rebalance (Rebalance.Replace Replace.Exchange)) → link_of told ≡ Some (unmarked_link (Some l.row)) → MetWon o q
+  won_here : (is : l.activity ≡ Activity.Rebalance (Rebalance.Replace Replace.Exchange)) → link_of told ≡ Some (unmarked_link (Some l.row)) → SawWon o q
   unfolding since
-  won_here is e = record { choice = c; told = told; met = since (Activity.Rebalance (Rebalance.Replace Replace.Exchange)) is; leads = ap row_linked e ∙ ap Some (sym knew_row); unmarked = ap has_mark e }
+  won_here is e = record { choice = c; told = told; saw = since (Activity.Rebalance (Rebalance.Replace Replace.Exchange)) is; leads = ap row_linked e ∙ ap Some (sym knew_row); unmarked = ap has_mark e }
 
   -- What the laws say of what was found.
 
-  stated_here : (a : Activity) → l.activity ≡ a → IsStated a → (told ≡ word product (history product (view p).opening met.met.front).world (name.State (local_at p met.met.front).row)) → IsMetState a (state_of told)
+  stated_here : (a : Activity) → l.activity ≡ a → IsStated a → (told ≡ word product (history product (view p).opening saw.saw.front).world (name.State (local_at p saw.saw.front).row)) → IsReachedState a (state_of told)
   unfolding here
   stated_here a is matters tells =
-      let law = (met_laws s p q a c told goes (here a is)).stated (view p).number (local_at p met.met.front) (met_local p q a c told (here a is)) in
-      let at : (local_at p met.met.front).activity ≡ a = met.met.activity ∙ is in
-      subst (λ w. IsMetState a (state_of w)) (sym tells) (subst (λ b. IsMetState b (state_of (word product (history product (view p).opening met.met.front).world (name.State (local_at p met.met.front).row)))) at (law (subst IsStated (sym at) matters)))
+      let law = (saw_laws s p q a c told goes (here a is)).stated (view p).number (local_at p saw.saw.front) (saw_local p q a c told (here a is)) in
+      let at : (local_at p saw.saw.front).activity ≡ a = saw.saw.activity ∙ is in
+      subst (λ w. IsReachedState a (state_of w)) (sym tells) (subst (λ b. IsReachedState b (state_of (word product (history product (view p).opening saw.saw.front).world (name.State (local_at p saw.saw.front).row)))) at (law (subst IsStated (sym at) matters)))
 
-  -- where the walk to the row before the full one meets the end of the list, the full row is in it
-  -- no more
+  -- where the walk to the row before the full one reaches the end of the list, the full row is in
+  -- it no more
   walk_ends_here : (is : l.activity ≡ Activity.Rebalance (Rebalance.Replace Replace.Next)) → row_linked (link_of told) ≡ None → IsUnlinked (Activity.Rebalance (Rebalance.Replace Replace.Next))
   unfolding here
   walk_ends_here is none = λ u x.
-      (met_laws s p q (Activity.Rebalance (Rebalance.Replace Replace.Next)) c told goes (here (Activity.Rebalance (Rebalance.Replace Replace.Next)) is)).ends_before (view p).number (local_at p met.met.front) (met_local p q (Activity.Rebalance (Rebalance.Replace Replace.Next)) c told (here (Activity.Rebalance (Rebalance.Replace Replace.Next)) is)) (met.met.activity ∙ is)
-      (ap (λ w. row_linked (link_of w)) (sym (met_told p q (Activity.Rebalance (Rebalance.Replace Replace.Next)) c told (here (Activity.Rebalance (Rebalance.Replace Replace.Next)) is) _ refl)) ∙ none) (met_there x)
+      (saw_laws s p q (Activity.Rebalance (Rebalance.Replace Replace.Next)) c told goes (here (Activity.Rebalance (Rebalance.Replace Replace.Next)) is)).ends_before (view p).number (local_at p saw.saw.front) (saw_local p q (Activity.Rebalance (Rebalance.Replace Replace.Next)) c told (here (Activity.Rebalance (Rebalance.Replace Replace.Next)) is)) (saw.saw.activity ∙ is)
+      (ap (λ w. row_linked (link_of w)) (sym (saw_told p q (Activity.Rebalance (Rebalance.Replace Replace.Next)) c told (here (Activity.Rebalance (Rebalance.Replace Replace.Next)) is) _ refl)) ∙ none) (reached_there x)
 
-  -- nor is it where the walk passes it
-  walk_passes_here : (is : l.activity ≡ Activity.Rebalance (Rebalance.Replace Replace.NextLeast)) → l.lower ≤ key_of_word told → IsUnlinked (Activity.Rebalance (Rebalance.Replace Replace.NextLeast))
+  -- nor is it where the walk goes by it
+  walk_goes_by_here : (is : l.activity ≡ Activity.Rebalance (Rebalance.Replace Replace.NextLeast)) → l.lower ≤ key_of_word told → IsUnlinked (Activity.Rebalance (Rebalance.Replace Replace.NextLeast))
   unfolding here
-  walk_passes_here is more = λ u x.
-      (met_laws s p q (Activity.Rebalance (Rebalance.Replace Replace.NextLeast)) c told goes (here (Activity.Rebalance (Rebalance.Replace Replace.NextLeast)) is)).passes_full (view p).number (local_at p met.met.front) (met_local p q (Activity.Rebalance (Rebalance.Replace Replace.NextLeast)) c told (here (Activity.Rebalance (Rebalance.Replace Replace.NextLeast)) is)) (met.met.activity ∙ is)
-      (subst (λ w. (local_at p met.met.front).lower ≤ key_of_word w) (met_told p q (Activity.Rebalance (Rebalance.Replace Replace.NextLeast)) c told (here (Activity.Rebalance (Rebalance.Replace Replace.NextLeast)) is) _ refl) (subst (λ n. n ≤ key_of_word told) (sym (ap (λ (k : Local). k.lower) met.knew)) more)) (met_there x)
+  walk_goes_by_here is more = λ u x.
+      (saw_laws s p q (Activity.Rebalance (Rebalance.Replace Replace.NextLeast)) c told goes (here (Activity.Rebalance (Rebalance.Replace Replace.NextLeast)) is)).goes_by_full (view p).number (local_at p saw.saw.front) (saw_local p q (Activity.Rebalance (Rebalance.Replace Replace.NextLeast)) c told (here (Activity.Rebalance (Rebalance.Replace Replace.NextLeast)) is)) (saw.saw.activity ∙ is)
+      (subst (λ w. (local_at p saw.saw.front).lower ≤ key_of_word w) (saw_told p q (Activity.Rebalance (Rebalance.Replace Replace.NextLeast)) c told (here (Activity.Rebalance (Rebalance.Replace Replace.NextLeast)) is) _ refl) (subst (λ n. n ≤ key_of_word told) (sym (ap (λ (k : Local). k.lower) saw.knew)) more)) (reached_there x)
 
   -- What follows without an event of its own.
 
   -- a put that is not done tries again where its rebalance is over
-  begins_anew : (k : Local) → k.tidies ≡ false → MetReplaced o q → Then (again k)
+  begins_anew : (k : Local) → k.tidies ≡ false → SawReplaced o q → Then (again k)
   begins_anew k t h = undone_by k.tidies t
     where
       undone_by : (b : Bool) → b ≡ false → Then (to (if b then (Activity.Leave Done) else Activity.Retry) (without_rows (without_rebalance k)))
       undone_by true e = let x : true ≡ false = e in absurd (cc)
-      undone_by false e = record { met = h }
+      undone_by false e = record { saw = h }
 
   -- or is refused
-  is_refused : (x : Answer) (k : Local) → k.tidies ≡ false → HasMet o q (Activity.Leave x) (leave x (without_rebalance k)).local → Then (refuse x k)
+  is_refused : (x : Answer) (k : Local) → k.tidies ≡ false → HasSeenCause o q (Activity.Leave x) (leave x (without_rebalance k)).local → Then (refuse x k)
   is_refused x k t h = undone_by k.tidies t
     where
       undone_by : (b : Bool) → b ≡ false → Then (leave (if b then Done else x) (without_rebalance k))
       undone_by true e = let x : true ≡ false = e in absurd (cc)
-      undone_by false e = record { met = h }
+      undone_by false e = record { saw = h }
 
   -- rows that were taken are given back, and the call is refused
-  gives_up : (k : Local) → k.tidies ≡ false → MetSearch o q → Then (give_back Refuse k)
-  gives_up k t h = both (nat_lt 0 (length k.rebalance.taken)) _ _ (λ e. record { met = (λ i. h, λ i. let x : Refuse ≡ TryAgain = i in absurd (cc)) }) (λ e. is_refused NoRows k t h)
+  gives_up : (k : Local) → k.tidies ≡ false → SawSearch o q → Then (give_back Refuse k)
+  gives_up k t h = both (nat_lt 0 (length k.rebalance.taken)) _ _ (λ e. record { saw = (λ i. h, λ i. let x : Refuse ≡ TryAgain = i in absurd (cc)) }) (λ e. is_refused NoRows k t h)
 
   -- or the call tries again
-  tries_again : MetReplaced o q → Then (give_back TryAgain l)
-  tries_again h = both (nat_lt 0 (length l.rebalance.taken)) _ _ (λ e. record { met = (λ i. let x : TryAgain ≡ Refuse = i in absurd (cc), λ i. h) }) (λ e. begins_anew l undone h)
+  tries_again : SawReplaced o q → Then (give_back TryAgain l)
+  tries_again h = both (nat_lt 0 (length l.rebalance.taken)) _ _ (λ e. record { saw = (λ i. let x : TryAgain ≡ Refuse = i in absurd (cc), λ i. h) }) (λ e. begins_anew l undone h)
 
   -- or the rebalance begins anew, at the row before
   moves_left : (k : Local) → Then (give_back MoveLeft k)
-  moves_left k = both (nat_lt 0 (length k.rebalance.taken)) _ _ (λ e. record { met = (λ i. let x : MoveLeft ≡ Refuse = i in absurd (cc), λ i. let x : MoveLeft ≡ TryAgain = i in absurd (cc)) }) (λ e. record { met = tt })
+  moves_left k = both (nat_lt 0 (length k.rebalance.taken)) _ _ (λ e. record { saw = (λ i. let x : MoveLeft ≡ Refuse = i in absurd (cc), λ i. let x : MoveLeft ≡ TryAgain = i in absurd (cc)) }) (λ e. record { saw = tt })
 
   -- the next row is asked, or all were
-  goes_on : (k : Local) → k.tidies ≡ false → MetSearch o q → Then (to_seek rows k)
-  goes_on k t h = both (nat_lt k.rebalance.asked rows) _ _ (λ e. record { met = h }) (λ e. gives_up k t h)
+  goes_on : (k : Local) → k.tidies ≡ false → SawSearch o q → Then (to_seek rows k)
+  goes_on k t h = both (nat_lt k.rebalance.asked rows) _ _ (λ e. record { saw = h }) (λ e. gives_up k t h)
 
-  seeks : (x : Option State) (k : Local) → k.tidies ≡ false → MetSearch o q → Then (seek_met rows x k)
-  seeks (Some Free) k t h = record { met = h }
+  seeks : (x : Option State) (k : Local) → k.tidies ≡ false → SawSearch o q → Then (seek_seen rows x k)
+  seeks (Some Free) k t h = record { saw = h }
   seeks (Some (Infant seat)) k t h = goes_on k t h
   seeks (Some Normal) k t h = goes_on k t h
   seeks (Some (Leader count)) k t h = goes_on k t h
   seeks (Some (Follower leader)) k t h = goes_on k t h
-  seeks (Some (Retired number)) k t h = record { met = h }
+  seeks (Some (Retired number)) k t h = record { saw = h }
   seeks None k t h = goes_on k t h
 
-  first_seeks : (d : Choice) → MetSearch o q → Then ((seek_first_transition d l).next rows told)
+  first_seeks : (d : Choice) → SawSearch o q → Then ((seek_first_transition d l).next rows told)
   first_seeks (Begin call) h = seeks (state_of told) _ undone h
   first_seeks Go h = seeks (state_of told) _ undone h
   first_seeks (Guess r) h = seeks (state_of told) _ undone h
   first_seeks Stop h = seeks (state_of told) _ undone h
 
-  passes_on : (i : ℕ) → MetSearch o q → Then (to_pass product i l)
-  passes_on i h = both (nat_lt i product.seats) _ _ (λ e. record { met = h }) (λ e. record { met = h })
+  passes_on : (i : ℕ) → SawSearch o q → Then (to_pass product i l)
+  passes_on i h = both (nat_lt i product.seats) _ _ (λ e. record { saw = h }) (λ e. record { saw = h })
 
-  passes : (i : ℕ) (x : Option ℕ) → MetSearch o q → Then (pass_met product i rows x l)
+  passes : (i : ℕ) (x : Option ℕ) → SawSearch o q → Then (pass_seen product i rows x l)
   passes i (Some epoch) h = both (nat_le epoch l.rebalance.number) _ _ (λ e. goes_on l undone h) (λ e. passes_on (i + 1) h)
   passes i None h = passes_on (i + 1) h
 
-  takes : (b : Bool) → MetSearch o q → Then (take_row rows b l)
-  takes true h = both (nat_lt (length (with_row l).rebalance.taken) (length (with_row l).rebalance.starts)) _ _ (λ e. goes_on (with_row l) undone h) (λ e. record { met = tt })
+  takes : (b : Bool) → SawSearch o q → Then (take_row rows b l)
+  takes true h = both (nat_lt (length (with_row l).rebalance.taken) (length (with_row l).rebalance.starts)) _ _ (λ e. goes_on (with_row l) undone h) (λ e. record { saw = tt })
   takes false h = goes_on l undone h
 
   -- all taken rows are given back
-  gives_on : (a : Afterwards) → (a ≡ Refuse → MetSearch o q) × (a ≡ TryAgain → MetReplaced o q) → Then (given_back a l)
+  gives_on : (a : Afterwards) → (a ≡ Refuse → SawSearch o q) × (a ≡ TryAgain → SawReplaced o q) → Then (given_back a l)
   gives_on TryAgain h = begins_anew l undone (h.1 refl)
   gives_on Refuse h = is_refused NoRows l undone (h.0 refl)
-  gives_on MoveLeft h = record { met = tt }
+  gives_on MoveLeft h = record { saw = tt }
 
-  -- Tests and lists that lead to activities of a rebalance, whatever they meet.
+  -- Tests and lists that lead to activities of a rebalance, whatever they see.
 
   engages : (b : Bool) → Then (engaged b l)
-  engages true = record { met = tt }
-  engages false = record { met = tt }
+  engages true = record { saw = tt }
+  engages false = record { saw = tt }
 
   looks_on : (i : ℕ) (k : Local) → Then (to_freeze_look product i k)
-  looks_on i k = both (nat_lt i product.seats) _ _ (λ e. record { met = tt }) (λ e. record { met = tt })
+  looks_on i k = both (nat_lt i product.seats) _ _ (λ e. record { saw = tt }) (λ e. record { saw = tt })
 
-  freezes : (i : ℕ) (x : Option Pend) → Then (freeze_met product i x l)
-  freezes i (Some pend.Idle) = record { met = tt }
-  freezes i (Some (pend.Pending cell)) = record { met = tt }
+  freezes : (i : ℕ) (x : Option Pend) → Then (freeze_seen product i x l)
+  freezes i (Some pend.Idle) = record { saw = tt }
+  freezes i (Some (pend.Pending cell)) = record { saw = tt }
   freezes i (Some (pend.Stamped cell version)) = looks_on (i + 1) (marking cell version l)
   freezes i (Some pend.Frozen) = looks_on (i + 1) l
   freezes i None = looks_on (i + 1) l
 
   tries_entry : (i : ℕ) (b : Bool) → Then (entry_tried product i b l)
   tries_entry i true = looks_on (i + 1) l
-  tries_entry i false = record { met = tt }
+  tries_entry i false = record { saw = tt }
 
   scans_on : (i : ℕ) (k : Local) → Then (to_scan_look product i k)
-  scans_on i k = both (nat_lt i product.seats) _ _ (λ e. record { met = tt }) (λ e. record { met = tt })
+  scans_on i k = both (nat_lt i product.seats) _ _ (λ e. record { saw = tt }) (λ e. record { saw = tt })
 
-  scans : (i : ℕ) (x : Option ScanWord) → Then (scan_met product i x l)
+  scans : (i : ℕ) (x : Option ScanWord) → Then (scan_seen product i x l)
   scans i (Some Quiet) = scans_on (i + 1) l
-  scans i (Some (Waiting clock)) = record { met = tt }
+  scans i (Some (Waiting clock)) = record { saw = tt }
   scans i (Some (Drawn version)) = scans_on (i + 1) (needing version l)
   scans i None = scans_on (i + 1) l
 
@@ -275,33 +276,33 @@ module _ (s : Shared) (o p q : Pass) (l m : Local) (c : Choice) (rows told : ℕ
   helps i None = scans_on (i + 1) l
 
   left : (x : Option Mark) (k : Local) → Then (left_of product x k)
-  left (Some mark) k = record { met = tt }
-  left None k = record { met = tt }
+  left (Some mark) k = record { saw = tt }
+  left None k = record { saw = tt }
 
-  takes_cell : (x : Option ℕ) → Then (take_met product x l)
-  takes_cell (Some cell) = record { met = tt }
+  takes_cell : (x : Option ℕ) → Then (take_reached product x l)
+  takes_cell (Some cell) = record { saw = tt }
   takes_cell None = left (least_mark l.rebalance.marks) l
 
   rows_on : (k : Local) → Then (row_written k)
-  rows_on k = both (has_more k) _ _ (λ e. record { met = tt }) (λ e. record { met = tt })
+  rows_on k = both (has_more k) _ _ (λ e. record { saw = tt }) (λ e. record { saw = tt })
 
   writes_cell : (j : ℕ) (k : Local) → Then (to_write_cell product j k)
-  writes_cell j k = both (nat_lt j product.cells) _ _ (λ e. both (nat_lt j (length (infant_cells k))) _ _ (λ f. record { met = tt }) (λ f. record { met = tt })) (λ e. rows_on k)
+  writes_cell j k = both (nat_lt j product.cells) _ _ (λ e. both (nat_lt j (length (infant_cells k))) _ _ (λ f. record { saw = tt }) (λ f. record { saw = tt })) (λ e. rows_on k)
 
   writes_entry : (i : ℕ) (k : Local) → Then (to_write_entry product i k)
-  writes_entry i k = both (nat_lt i product.seats) _ _ (λ e. record { met = tt }) (λ e. writes_cell 0 k)
+  writes_entry i k = both (nat_lt i product.seats) _ _ (λ e. record { saw = tt }) (λ e. writes_cell 0 k)
 
   firsts : (r : ℕ) → Then (first_before r l)
-  firsts r = both (r == l.row) _ _ (λ e. record { met = tt }) (λ e. record { met = tt })
+  firsts r = both (r == l.row) _ _ (λ e. record { saw = tt }) (λ e. record { saw = tt })
 
   guesses : (r : ℕ) (x : Option State) → Then (guess_before r x l)
-  guesses r (Some Free) = record { met = tt }
-  guesses r (Some (Infant seat)) = record { met = tt }
-  guesses r (Some Normal) = record { met = tt }
-  guesses r (Some (Leader count)) = record { met = tt }
-  guesses r (Some (Follower leader)) = record { met = tt }
-  guesses r (Some (Retired number)) = record { met = tt }
-  guesses r None = record { met = tt }
+  guesses r (Some Free) = record { saw = tt }
+  guesses r (Some (Infant seat)) = record { saw = tt }
+  guesses r (Some Normal) = record { saw = tt }
+  guesses r (Some (Leader count)) = record { saw = tt }
+  guesses r (Some (Follower leader)) = record { saw = tt }
+  guesses r (Some (Retired number)) = record { saw = tt }
+  guesses r None = record { saw = tt }
 
   befores : (d : Choice) → Then ((before_transition d l).next rows told)
   befores (Begin call) = firsts _
@@ -311,20 +312,20 @@ module _ (s : Shared) (o p q : Pass) (l m : Local) (c : Choice) (rows told : ℕ
 
   -- What the row's state and the list tell.
 
-  states : (x : Option State) → state_of told ≡ x → l.activity ≡ Activity.Rebalance (Rebalance.Engage Engage.State) → IsMetState (Activity.Rebalance (Rebalance.Engage Engage.State)) x → Then (state_met x l)
+  states : (x : Option State) → state_of told ≡ x → l.activity ≡ Activity.Rebalance (Rebalance.Engage Engage.State) → IsReachedState (Activity.Rebalance (Rebalance.Engage Engage.State)) x → Then (state_seen x l)
   states (Some Free) f is y = absurd y
-  states (Some (Infant seat)) f is y = record { met = tt }
-  states (Some Normal) f is y = record { met = tt }
-  states (Some (Leader count)) f is y = both (is_alone count) _ _ (λ e. record { met = tt }) (λ e. absurd (let few : count ≤ 1 = y in let many : nat_le count 1 ≡ false = e in grind (arith, nat_tests)))
+  states (Some (Infant seat)) f is y = record { saw = tt }
+  states (Some Normal) f is y = record { saw = tt }
+  states (Some (Leader count)) f is y = both (is_alone count) _ _ (λ e. record { saw = tt }) (λ e. absurd (let few : count ≤ 1 = y in let many : nat_le count 1 ≡ false = e in grind (arith, nat_tests)))
   states (Some (Follower leader)) f is y = absurd y
   states (Some (Retired number)) f is y = begins_anew l undone (replaced_here (Activity.Rebalance (Rebalance.Engage Engage.State)) is (subst IsRetired (sym f) tt) (λ u. absurd u))
   states None f is y = absurd y
 
-  decides : (n : ℕ) (x : Option State) → state_of told ≡ x → l.activity ≡ Activity.Rebalance (Rebalance.Engage (Engage.Decide n)) → IsMetState (Activity.Rebalance (Rebalance.Engage (Engage.Decide n))) x → Then (decided x l)
+  decides : (n : ℕ) (x : Option State) → state_of told ≡ x → l.activity ≡ Activity.Rebalance (Rebalance.Engage (Engage.Decide n)) → IsReachedState (Activity.Rebalance (Rebalance.Engage (Engage.Decide n))) x → Then (decided x l)
   decides n (Some Free) f is y = absurd y
   decides n (Some (Infant seat)) f is y = absurd y
   decides n (Some Normal) f is y = absurd y
-  decides n (Some (Leader count)) f is y = both (is_alone count) _ _ (λ e. record { met = tt }) (λ e. absurd (let few : count ≤ 1 = y in let many : nat_le count 1 ≡ false = e in grind (arith, nat_tests)))
+  decides n (Some (Leader count)) f is y = both (is_alone count) _ _ (λ e. record { saw = tt }) (λ e. absurd (let few : count ≤ 1 = y in let many : nat_le count 1 ≡ false = e in grind (arith, nat_tests)))
   decides n (Some (Follower leader)) f is y = absurd y
   decides n (Some (Retired number)) f is y = begins_anew l undone (replaced_here (Activity.Rebalance (Rebalance.Engage (Engage.Decide n))) is (subst IsRetired (sym f) tt) (λ u. absurd u))
   decides n None f is y = absurd y
@@ -334,7 +335,7 @@ module _ (s : Shared) (o p q : Pass) (l m : Local) (c : Choice) (rows told : ℕ
   ends is none = tries_again (replaced_here (Activity.Rebalance (Rebalance.Replace Replace.Next)) is none (walk_ends_here is none))
 
   links : (r : Option ℕ) (marked : Bool) → row_linked (link_of told) ≡ r → l.activity ≡ Activity.Rebalance (Rebalance.Replace Replace.Next) → Then (row_before r marked l)
-  links (Some r) marked f is = both (r == l.row) _ _ (λ e. both marked _ _ (λ g. moves_left l) (λ g. record { met = tt })) (λ e. record { met = tt })
+  links (Some r) marked f is = both (r == l.row) _ _ (λ e. both marked _ _ (λ g. moves_left l) (λ g. record { saw = tt })) (λ e. record { saw = tt })
   links None marked f is = ends is f
 
   link : (x : Option Link) → link_of told ≡ x → l.activity ≡ Activity.Rebalance (Rebalance.Replace Replace.Next) → Then (link_before x l)
@@ -347,7 +348,7 @@ module _ (s : Shared) (o p q : Pass) (l m : Local) (c : Choice) (rows told : ℕ
 
   replaces_row : (r : Option ℕ) (marked : Bool) → link_of told ≡ Some (record { row = r; marked = marked }) → l.activity ≡ Activity.Rebalance (Rebalance.Replace Replace.Exchange) → Then (row_replaced r marked l)
   replaces_row (Some r) true f is = both (r == l.row) _ _ (λ e. moves_left l) (λ e. loses is (λ g. true_false (eq-eqb r l.row (same_Some r l.row (sym (ap row_linked f) ∙ g))) e))
-  replaces_row (Some r) false f is = both (r == l.row) _ _ (λ e. record { met = won_here is (f ∙ ap (λ n. Some (unmarked_link (Some n))) (eqb-true r l.row e)) }) (λ e. loses is (λ g. true_false (eq-eqb r l.row (same_Some r l.row (sym (ap row_linked f) ∙ g))) e))
+  replaces_row (Some r) false f is = both (r == l.row) _ _ (λ e. record { saw = won_here is (f ∙ ap (λ n. Some (unmarked_link (Some n))) (eqb-true r l.row e)) }) (λ e. loses is (λ g. true_false (eq-eqb r l.row (same_Some r l.row (sym (ap row_linked f) ∙ g))) e))
   replaces_row None marked f is = loses is (λ g. let x : None ≡ Some l.row = sym (ap row_linked f) ∙ g in absurd (cc))
 
   replaces : (x : Option Link) → link_of told ≡ x → l.activity ≡ Activity.Rebalance (Rebalance.Replace Replace.Exchange) → Then (replaced x l)
@@ -356,53 +357,53 @@ module _ (s : Shared) (o p q : Pass) (l m : Local) (c : Choice) (rows told : ℕ
 
   -- Each event.
 
-  event_at : (a : Activity) → l.activity ≡ a → HasMet o p a l → (a ≡ Activity.Rebalance (Rebalance.Replace Replace.Normalise) → ⊥) → (a ≡ Activity.Retry → ⊥) → ((x : Answer) → a ≡ Activity.Leave x → ⊥) → HasMet o q m.activity m
+  event_at : (a : Activity) → l.activity ≡ a → HasSeenCause o p a l → (a ≡ Activity.Rebalance (Rebalance.Replace Replace.Normalise) → ⊥) → (a ≡ Activity.Retry → ⊥) → ((x : Answer) → a ≡ Activity.Leave x → ⊥) → HasSeenCause o q m.activity m
   unfolding here
-  event_at (Activity.Rebalance (Rebalance.Engage Engage.Clock)) is h n g e = so _ (next_is (Activity.Rebalance (Rebalance.Engage Engage.Clock)) is) (both (nat_le SPENT told) _ _ (λ f. is_refused Spent l undone (spent_here (Activity.Rebalance (Rebalance.Engage Engage.Clock)) is (inl refl) (let full : nat_le SPENT told ≡ true = f in grind (arith, nat_tests)))) (λ f. record { met = tt }))
-  event_at (Activity.Rebalance (Rebalance.Engage Engage.Epoch)) is h n g e = so _ (next_is (Activity.Rebalance (Rebalance.Engage Engage.Epoch)) is) (both (nat_le SPENT told) _ _ (λ f. is_refused Spent l undone (spent_here (Activity.Rebalance (Rebalance.Engage Engage.Epoch)) is (inr refl) (let full : nat_le SPENT told ≡ true = f in grind (arith, nat_tests)))) (λ f. record { met = tt }))
-  event_at (Activity.Rebalance (Rebalance.Engage Engage.State)) is h n g e = so _ (next_is (Activity.Rebalance (Rebalance.Engage Engage.State)) is) (states (state_of told) refl is (stated_here (Activity.Rebalance (Rebalance.Engage Engage.State)) is tt (met_told p q (Activity.Rebalance (Rebalance.Engage Engage.State)) c told (here (Activity.Rebalance (Rebalance.Engage Engage.State)) is) _ refl)))
-  event_at (Activity.Rebalance (Rebalance.Engage (Engage.Normal seat))) is h n g e = so _ (next_is (Activity.Rebalance (Rebalance.Engage (Engage.Normal seat))) is) record { met = tt }
+  event_at (Activity.Rebalance (Rebalance.Engage Engage.Clock)) is h n g e = so _ (next_is (Activity.Rebalance (Rebalance.Engage Engage.Clock)) is) (both (nat_le SPENT told) _ _ (λ f. is_refused Spent l undone (spent_here (Activity.Rebalance (Rebalance.Engage Engage.Clock)) is (inl refl) (let full : nat_le SPENT told ≡ true = f in grind (arith, nat_tests)))) (λ f. record { saw = tt }))
+  event_at (Activity.Rebalance (Rebalance.Engage Engage.Epoch)) is h n g e = so _ (next_is (Activity.Rebalance (Rebalance.Engage Engage.Epoch)) is) (both (nat_le SPENT told) _ _ (λ f. is_refused Spent l undone (spent_here (Activity.Rebalance (Rebalance.Engage Engage.Epoch)) is (inr refl) (let full : nat_le SPENT told ≡ true = f in grind (arith, nat_tests)))) (λ f. record { saw = tt }))
+  event_at (Activity.Rebalance (Rebalance.Engage Engage.State)) is h n g e = so _ (next_is (Activity.Rebalance (Rebalance.Engage Engage.State)) is) (states (state_of told) refl is (stated_here (Activity.Rebalance (Rebalance.Engage Engage.State)) is tt (saw_told p q (Activity.Rebalance (Rebalance.Engage Engage.State)) c told (here (Activity.Rebalance (Rebalance.Engage Engage.State)) is) _ refl)))
+  event_at (Activity.Rebalance (Rebalance.Engage (Engage.Normal seat))) is h n g e = so _ (next_is (Activity.Rebalance (Rebalance.Engage (Engage.Normal seat))) is) record { saw = tt }
   event_at (Activity.Rebalance (Rebalance.Engage Engage.Lead)) is h n g e = so _ (next_is (Activity.Rebalance (Rebalance.Engage Engage.Lead)) is) (engages (told == state_word Normal))
-  event_at (Activity.Rebalance (Rebalance.Engage (Engage.MarkLink count))) is h n g e = so _ (next_is (Activity.Rebalance (Rebalance.Engage (Engage.MarkLink count))) is) (both (count == 0) _ _ (λ f. record { met = tt }) (λ f. record { met = tt }))
-  event_at (Activity.Rebalance (Rebalance.Engage (Engage.Decide count))) is h n g e = so _ (next_is (Activity.Rebalance (Rebalance.Engage (Engage.Decide count))) is) (decides count (state_of told) refl is (stated_here (Activity.Rebalance (Rebalance.Engage (Engage.Decide count))) is tt (met_told p q (Activity.Rebalance (Rebalance.Engage (Engage.Decide count))) c told (here (Activity.Rebalance (Rebalance.Engage (Engage.Decide count))) is) _ refl)))
-  event_at (Activity.Rebalance (Rebalance.Freeze Freeze.Count)) is h n g e = so _ (next_is (Activity.Rebalance (Rebalance.Freeze Freeze.Count)) is) record { met = tt }
+  event_at (Activity.Rebalance (Rebalance.Engage (Engage.MarkLink count))) is h n g e = so _ (next_is (Activity.Rebalance (Rebalance.Engage (Engage.MarkLink count))) is) (both (count == 0) _ _ (λ f. record { saw = tt }) (λ f. record { saw = tt }))
+  event_at (Activity.Rebalance (Rebalance.Engage (Engage.Decide count))) is h n g e = so _ (next_is (Activity.Rebalance (Rebalance.Engage (Engage.Decide count))) is) (decides count (state_of told) refl is (stated_here (Activity.Rebalance (Rebalance.Engage (Engage.Decide count))) is tt (saw_told p q (Activity.Rebalance (Rebalance.Engage (Engage.Decide count))) c told (here (Activity.Rebalance (Rebalance.Engage (Engage.Decide count))) is) _ refl)))
+  event_at (Activity.Rebalance (Rebalance.Freeze Freeze.Count)) is h n g e = so _ (next_is (Activity.Rebalance (Rebalance.Freeze Freeze.Count)) is) record { saw = tt }
   event_at (Activity.Rebalance (Rebalance.Freeze (Freeze.Look i))) is h n g e = so _ (next_is (Activity.Rebalance (Rebalance.Freeze (Freeze.Look i))) is) (freezes i (pend_of told))
   event_at (Activity.Rebalance (Rebalance.Freeze (Freeze.Entry i))) is h n g e = so _ (next_is (Activity.Rebalance (Rebalance.Freeze (Freeze.Entry i))) is) (tries_entry i (told == pend_word l.rebalance.entry))
   event_at (Activity.Rebalance (Rebalance.Freeze (Freeze.Scan i))) is h n g e = so _ (next_is (Activity.Rebalance (Rebalance.Freeze (Freeze.Scan i))) is) (scans i (scan_of told))
-  event_at (Activity.Rebalance (Rebalance.Freeze (Freeze.Draw i))) is h n g e = so _ (next_is (Activity.Rebalance (Rebalance.Freeze (Freeze.Draw i))) is) record { met = tt }
+  event_at (Activity.Rebalance (Rebalance.Freeze (Freeze.Draw i))) is h n g e = so _ (next_is (Activity.Rebalance (Rebalance.Freeze (Freeze.Draw i))) is) record { saw = tt }
   event_at (Activity.Rebalance (Rebalance.Freeze (Freeze.Settle i))) is h n g e = so _ (next_is (Activity.Rebalance (Rebalance.Freeze (Freeze.Settle i))) is) (helps i (scan_of told))
   event_at (Activity.Rebalance (Rebalance.Gather Gather.Link)) is h n g e = so _ (next_is (Activity.Rebalance (Rebalance.Gather Gather.Link)) is) (takes_cell (cell_of_link_word told))
-  event_at (Activity.Rebalance (Rebalance.Gather Gather.Key)) is h n g e = so _ (next_is (Activity.Rebalance (Rebalance.Gather Gather.Key)) is) record { met = tt }
-  event_at (Activity.Rebalance (Rebalance.Gather Gather.Version)) is h n g e = so _ (next_is (Activity.Rebalance (Rebalance.Gather Gather.Version)) is) record { met = tt }
-  event_at (Activity.Rebalance (Rebalance.Gather Gather.Value)) is h n g e = so _ (next_is (Activity.Rebalance (Rebalance.Gather Gather.Value)) is) record { met = tt }
-  event_at (Activity.Rebalance (Rebalance.Gather Gather.LeftOverKey)) is h n g e = so _ (next_is (Activity.Rebalance (Rebalance.Gather Gather.LeftOverKey)) is) record { met = tt }
+  event_at (Activity.Rebalance (Rebalance.Gather Gather.Key)) is h n g e = so _ (next_is (Activity.Rebalance (Rebalance.Gather Gather.Key)) is) record { saw = tt }
+  event_at (Activity.Rebalance (Rebalance.Gather Gather.Version)) is h n g e = so _ (next_is (Activity.Rebalance (Rebalance.Gather Gather.Version)) is) record { saw = tt }
+  event_at (Activity.Rebalance (Rebalance.Gather Gather.Value)) is h n g e = so _ (next_is (Activity.Rebalance (Rebalance.Gather Gather.Value)) is) record { saw = tt }
+  event_at (Activity.Rebalance (Rebalance.Gather Gather.LeftOverKey)) is h n g e = so _ (next_is (Activity.Rebalance (Rebalance.Gather Gather.LeftOverKey)) is) record { saw = tt }
   event_at (Activity.Rebalance (Rebalance.Gather Gather.LeftOverValue)) is h n g e = so _ (next_is (Activity.Rebalance (Rebalance.Gather Gather.LeftOverValue)) is) (left (least_mark l.rebalance.marks) (keeping product (value_of_word told) l))
   event_at (Activity.Rebalance (Rebalance.Seek Seek.First)) is h n g e = so _ (next_is (Activity.Rebalance (Rebalance.Seek Seek.First)) is) (first_seeks (offered rows c) (searches_here is))
   event_at (Activity.Rebalance (Rebalance.Seek Seek.Next)) is h n g e = so _ (next_is (Activity.Rebalance (Rebalance.Seek Seek.Next)) is) (seeks (state_of told) (seeking l.rebalance.sought l) undone (search_on o goes h))
   event_at (Activity.Rebalance (Rebalance.Seek (Seek.Pass i))) is h n g e = so _ (next_is (Activity.Rebalance (Rebalance.Seek (Seek.Pass i))) is) (passes i (pass_of_word told) (search_on o goes h))
-  event_at (Activity.Rebalance (Rebalance.Seek Seek.Reclaim)) is h n g e = so _ (next_is (Activity.Rebalance (Rebalance.Seek Seek.Reclaim)) is) (record { met = search_on o goes h })
+  event_at (Activity.Rebalance (Rebalance.Seek Seek.Reclaim)) is h n g e = so _ (next_is (Activity.Rebalance (Rebalance.Seek Seek.Reclaim)) is) (record { saw = search_on o goes h })
   event_at (Activity.Rebalance (Rebalance.Seek Seek.Take)) is h n g e = so _ (next_is (Activity.Rebalance (Rebalance.Seek Seek.Take)) is) (takes (told == state_word Free) (search_on o goes h))
   event_at (Activity.Rebalance (Rebalance.Seek Seek.GiveBack)) is h n g e =
-      let kept : (l.rebalance.afterwards ≡ Refuse → MetSearch o q) × (l.rebalance.afterwards ≡ TryAgain → MetReplaced o q) = (λ f. search_on o goes (h.0 f), λ f. replaced_on o goes (h.1 f)) in
-      so _ (next_is (Activity.Rebalance (Rebalance.Seek Seek.GiveBack)) is) (both (has_more l) _ _ (λ f. record { met = kept }) (λ f. gives_on l.rebalance.afterwards kept))
-  event_at (Activity.Rebalance (Rebalance.Write Write.Count)) is h n g e = so _ (next_is (Activity.Rebalance (Rebalance.Write Write.Count)) is) record { met = tt }
-  event_at (Activity.Rebalance (Rebalance.Write Write.Least)) is h n g e = so _ (next_is (Activity.Rebalance (Rebalance.Write Write.Least)) is) record { met = tt }
-  event_at (Activity.Rebalance (Rebalance.Write Write.Next)) is h n g e = so _ (next_is (Activity.Rebalance (Rebalance.Write Write.Next)) is) record { met = tt }
+      let kept : (l.rebalance.afterwards ≡ Refuse → SawSearch o q) × (l.rebalance.afterwards ≡ TryAgain → SawReplaced o q) = (λ f. search_on o goes (h.0 f), λ f. replaced_on o goes (h.1 f)) in
+      so _ (next_is (Activity.Rebalance (Rebalance.Seek Seek.GiveBack)) is) (both (has_more l) _ _ (λ f. record { saw = kept }) (λ f. gives_on l.rebalance.afterwards kept))
+  event_at (Activity.Rebalance (Rebalance.Write Write.Count)) is h n g e = so _ (next_is (Activity.Rebalance (Rebalance.Write Write.Count)) is) record { saw = tt }
+  event_at (Activity.Rebalance (Rebalance.Write Write.Least)) is h n g e = so _ (next_is (Activity.Rebalance (Rebalance.Write Write.Least)) is) record { saw = tt }
+  event_at (Activity.Rebalance (Rebalance.Write Write.Next)) is h n g e = so _ (next_is (Activity.Rebalance (Rebalance.Write Write.Next)) is) record { saw = tt }
   event_at (Activity.Rebalance (Rebalance.Write Write.First)) is h n g e = so _ (next_is (Activity.Rebalance (Rebalance.Write Write.First)) is) (writes_entry 0 l)
   event_at (Activity.Rebalance (Rebalance.Write (Write.Entry i))) is h n g e = so _ (next_is (Activity.Rebalance (Rebalance.Write (Write.Entry i))) is) (writes_entry (i + 1) l)
-  event_at (Activity.Rebalance (Rebalance.Write (Write.Key j))) is h n g e = so _ (next_is (Activity.Rebalance (Rebalance.Write (Write.Key j))) is) record { met = tt }
-  event_at (Activity.Rebalance (Rebalance.Write (Write.Value j))) is h n g e = so _ (next_is (Activity.Rebalance (Rebalance.Write (Write.Value j))) is) record { met = tt }
-  event_at (Activity.Rebalance (Rebalance.Write (Write.Version j))) is h n g e = so _ (next_is (Activity.Rebalance (Rebalance.Write (Write.Version j))) is) record { met = tt }
+  event_at (Activity.Rebalance (Rebalance.Write (Write.Key j))) is h n g e = so _ (next_is (Activity.Rebalance (Rebalance.Write (Write.Key j))) is) record { saw = tt }
+  event_at (Activity.Rebalance (Rebalance.Write (Write.Value j))) is h n g e = so _ (next_is (Activity.Rebalance (Rebalance.Write (Write.Value j))) is) record { saw = tt }
+  event_at (Activity.Rebalance (Rebalance.Write (Write.Version j))) is h n g e = so _ (next_is (Activity.Rebalance (Rebalance.Write (Write.Version j))) is) record { saw = tt }
   event_at (Activity.Rebalance (Rebalance.Write (Write.After j))) is h n g e = so _ (next_is (Activity.Rebalance (Rebalance.Write (Write.After j))) is) (writes_cell (j + 1) l)
   event_at (Activity.Rebalance (Rebalance.Replace Replace.Start)) is h n g e = so _ (next_is (Activity.Rebalance (Rebalance.Replace Replace.Start)) is) (befores (offered rows c))
-  event_at (Activity.Rebalance (Rebalance.Replace Replace.GuessedLeast)) is h n g e = so _ (next_is (Activity.Rebalance (Rebalance.Replace Replace.GuessedLeast)) is) (both (nat_lt (key_of_word told) l.lower) _ _ (λ f. record { met = tt }) (λ f. record { met = tt }))
+  event_at (Activity.Rebalance (Rebalance.Replace Replace.GuessedLeast)) is h n g e = so _ (next_is (Activity.Rebalance (Rebalance.Replace Replace.GuessedLeast)) is) (both (nat_lt (key_of_word told) l.lower) _ _ (λ f. record { saw = tt }) (λ f. record { saw = tt }))
   event_at (Activity.Rebalance (Rebalance.Replace Replace.First)) is h n g e = so _ (next_is (Activity.Rebalance (Rebalance.Replace Replace.First)) is) (firsts (row_or_first (row_linked (link_of told))))
   event_at (Activity.Rebalance (Rebalance.Replace Replace.Next)) is h n g e = so _ (next_is (Activity.Rebalance (Rebalance.Replace Replace.Next)) is) (link (link_of told) refl is)
   event_at (Activity.Rebalance (Rebalance.Replace Replace.NextLeast)) is h n g e = so _ (next_is (Activity.Rebalance (Rebalance.Replace Replace.NextLeast)) is)
-      (both (nat_lt (key_of_word told) l.lower) _ _ (λ f. record { met = tt }) (λ f.
+      (both (nat_lt (key_of_word told) l.lower) _ _ (λ f. record { saw = tt }) (λ f.
       let past : nat_lt (key_of_word told) l.lower ≡ false = f in
       let more : l.lower ≤ key_of_word told = grind (arith, nat_tests) in
-      tries_again (replaced_here (Activity.Rebalance (Rebalance.Replace Replace.NextLeast)) is (subst (λ n. n ≤ key_of_word told) (sym knew_lower) more) (walk_passes_here is more))))
+      tries_again (replaced_here (Activity.Rebalance (Rebalance.Replace Replace.NextLeast)) is (subst (λ n. n ≤ key_of_word told) (sym knew_lower) more) (walk_goes_by_here is more))))
   event_at (Activity.Rebalance (Rebalance.Replace Replace.Exchange)) is h n g e = so _ (next_is (Activity.Rebalance (Rebalance.Replace Replace.Exchange)) is) (replaces (link_of told) refl is)
   event_at (Activity.Rebalance (Rebalance.Replace Replace.Normalise)) is h n g e = absurd (n refl)
   event_at Activity.Retry is h n g e = absurd (g refl)
@@ -410,12 +411,12 @@ module _ (s : Shared) (o p q : Pass) (l m : Local) (c : Choice) (rows told : ℕ
   event_at (Activity.Look Look.Key) is h n g e = absurd h
   event_at _ is h n g e = absurd h
 
-  -- an event of a rebalance that is not over, and has not won, keeps what it has met
-  pub keeps_met : HasMet o p l.activity l → (l.activity ≡ Activity.Rebalance (Rebalance.Replace Replace.Normalise) → ⊥) → (l.activity ≡ Activity.Retry → ⊥) → ((x : Answer) → l.activity ≡ Activity.Leave x → ⊥) → HasMet o q m.activity m
-  keeps_met = event_at l.activity refl
+  -- an event of a rebalance that is not over, and has not won, keeps what it has seen
+  pub keeps_seen : HasSeenCause o p l.activity l → (l.activity ≡ Activity.Rebalance (Rebalance.Replace Replace.Normalise) → ⊥) → (l.activity ≡ Activity.Retry → ⊥) → ((x : Answer) → l.activity ≡ Activity.Leave x → ⊥) → HasSeenCause o q m.activity m
+  keeps_seen = event_at l.activity refl
 
 -- it is at work there
-works : (o p : Pass) (l : Local) (a : Activity) → HasMet o p a l → (a ≡ Activity.Retry → ⊥) → ((x : Answer) → a ≡ Activity.Leave x → ⊥) → IsAtWork a
+works : (o p : Pass) (l : Local) (a : Activity) → HasSeenCause o p a l → (a ≡ Activity.Retry → ⊥) → ((x : Answer) → a ≡ Activity.Leave x → ⊥) → IsAtWork a
 works o p l (Activity.Leave x) h g e = absurd (e x refl)
 works o p l Activity.Retry h g e = absurd (g refl)
 works o p l (Activity.Rebalance (Rebalance.Seek Seek.Next)) h g e = tt
@@ -435,5 +436,5 @@ pub work_on : (l m : Local) (c : Choice) (rows told : ℕ) → outcome m Moved �
 unfolding transition_of
 work_on l m c rows told line work = ap (λ (x : Outcome). x.local.tidies) line ∙ keeps product l.activity 0 (offered rows c) l rows told work
 
-pub stays_untidied : (o p : Pass) (l m : Local) (c : Choice) (rows told : ℕ) → outcome m Moved ≡ next_of product rows (offered rows c) l told → HasMet o p l.activity l → (l.activity ≡ Activity.Retry → ⊥) → ((x : Answer) → l.activity ≡ Activity.Leave x → ⊥) → l.tidies ≡ false → m.tidies ≡ false
+pub stays_untidied : (o p : Pass) (l m : Local) (c : Choice) (rows told : ℕ) → outcome m Moved ≡ next_of product rows (offered rows c) l told → HasSeenCause o p l.activity l → (l.activity ≡ Activity.Retry → ⊥) → ((x : Answer) → l.activity ≡ Activity.Leave x → ⊥) → l.tidies ≡ false → m.tidies ≡ false
 stays_untidied o p l m c rows told line h g e undone = work_on l m c rows told line (works o p l l.activity h g e) ∙ undone

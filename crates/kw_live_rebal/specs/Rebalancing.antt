@@ -1,7 +1,7 @@
--- How a rebalance ends, and what it met that is the cause of it.
+-- How a rebalance ends, and what it saw that is the cause of it.
 --
--- What is met is said over an opening, a seat and two lists of events, as single events are
--- (`MetIn`), so that it can be carried to other passes' lists.
+-- What is seen is said over an opening, a seat and two lists of events, as single events are
+-- (`SawIn`), so that it can be carried to other passes' lists.
 use Rattle.std.specs.Prelude.{◌≡◌, ◌≢◌, ◌⊎◌, ℕ, ◌≤◌, false, List, Option, Some, None}
 use Rattle.kw_words.specs.declared.sizes.TheConstants.{SPENT}
 use Rattle.kw_words.specs.declared.state.State.{State}
@@ -22,13 +22,13 @@ use Rattle.kw_world.specs.Sizes.{product}
 use Rattle.kw_world.specs.Step.{word}
 use Rattle.kw_world.specs.Transition.{row_linked}
 use Rattle.kw_core.specs.Events.{local_of, world}
-use Rattle.kw_shape.specs.MetRows.{IsMet}
+use Rattle.kw_shape.specs.ReachedRows.{IsReached}
 use Rattle.kw_shape.specs.RowsIn.{has_mark}
 use Rattle.kw_laws.specs.Causes.{AskedAll}
 use Rattle.kw_table.specs.declared.pass.Pass.{Pass}
 use Rattle.kw_table.specs.Passes.{view}
 use Rattle.kw_follow.specs.Calling.{now_in}
-use Rattle.kw_follow.specs.OwnEvents.{Met, MetIn}
+use Rattle.kw_follow.specs.OwnEvents.{Saw, SawIn}
 use Rattle.kw_live_rebal.specs.declared.rebalancing.Rebalanced.{Rebalanced}
 use Rattle.kw_live_rebal.specs.declared.rebalancing.Rebalanced.TheVariants.{Done, Again, NoRows, Spent}
 
@@ -40,25 +40,25 @@ stands_after NoRows = Activity.Leave answer.NoRows
 stands_after Spent = Activity.Leave answer.Spent
 
 -- the pass found the clock or the epoch at its bound
-pub record MetSpent (p q : Pass) : Type 0 where
+pub record SawSpent (p q : Pass) : Type 0 where
   pub activity : Activity
   pub at : (activity ≡ Activity.Rebalance (Rebalance.Engage Engage.Clock)) ⊎ (activity ≡ Activity.Rebalance (Rebalance.Engage Engage.Epoch))
   pub choice : Choice
   pub told : ℕ
-  pub met : Met p q activity choice told
+  pub saw : Saw p q activity choice told
   pub spent : SPENT ≤ told
 
--- the seat linked new rows in place of a full one: its exchange met a link that led to that row and
+-- the seat linked new rows in place of a full one: its exchange saw a link that led to that row and
 -- was not marked
 pub record WonIn (o : Opening) (n : ℕ) (old new : List Event) : Type 0 where
   pub choice : Choice
   pub told : ℕ
-  pub met : MetIn o n old new (Activity.Rebalance (Rebalance.Replace Replace.Exchange)) choice told
-  pub leads : row_linked (link_of told) ≡ Some (local_of (world product o met.front) n).row
+  pub saw : SawIn o n old new (Activity.Rebalance (Rebalance.Replace Replace.Exchange)) choice told
+  pub leads : row_linked (link_of told) ≡ Some (local_of (world product o saw.front) n).row
   pub unmarked : has_mark (link_of told) ≡ false
 
-abbrev pub MetWon : Pass → Pass → Type 0
-MetWon p q = WonIn (view p).opening (view p).number (view p).seen (view q).seen
+abbrev pub SawWon : Pass → Pass → Type 0
+SawWon p q = WonIn (view p).opening (view p).number (view p).seen (view q).seen
 
 -- the state is that of a retired row
 abbrev pub IsRetired : Option State → Type 0
@@ -88,23 +88,23 @@ pub record ReplacedIn (o : Opening) (n : ℕ) (old new : List Event) : Type 0 wh
   pub activity : Activity
   pub choice : Choice
   pub told : ℕ
-  pub met : MetIn o n old new activity choice told
-  pub replaced : TellsReplaced activity told (local_of (world product o met.front) n)
-  pub unlinked : IsWalkEnd activity → IsMet (word product (world product o met.front)) (local_of (world product o met.front) n).row → ⊥
+  pub saw : SawIn o n old new activity choice told
+  pub replaced : TellsReplaced activity told (local_of (world product o saw.front) n)
+  pub unlinked : IsWalkEnd activity → IsReached (word product (world product o saw.front)) (local_of (world product o saw.front) n).row → ⊥
 
-abbrev pub MetReplaced : Pass → Pass → Type 0
-MetReplaced p q = ReplacedIn (view p).opening (view p).number (view p).seen (view q).seen
+abbrev pub SawReplaced : Pass → Pass → Type 0
+SawReplaced p q = ReplacedIn (view p).opening (view p).number (view p).seen (view q).seen
 
 -- the pass began a search since that asked for each row of the table, its last one, and took fewer
 -- rows than it needed
-pub record MetNoRows (p q : Pass) : Type 0 where
+pub record SawNoRows (p q : Pass) : Type 0 where
   pub first : ℕ
   pub asked : AskedAll product (view q).opening (view q).seen (view q).number (view q).opening.rows first (now_in q)
   pub since : now_in p ≤ asked.begun
 
 -- the cause of how a rebalance ended
 abbrev pub HasEnded : Pass → Pass → Rebalanced → Type 0
-HasEnded p q Done = MetWon p q
-HasEnded p q Again = MetReplaced p q
-HasEnded p q NoRows = MetNoRows p q
-HasEnded p q Spent = MetSpent p q
+HasEnded p q Done = SawWon p q
+HasEnded p q Again = SawReplaced p q
+HasEnded p q NoRows = SawNoRows p q
+HasEnded p q Spent = SawSpent p q

@@ -1,4 +1,4 @@
--- What a rebalance has met where it stands, and what stays while it goes on.
+-- What a rebalance has seen where it stands, and what stays while it goes on.
 use Rattle.std.specs.Prelude.{◌≡◌, ℕ, false}
 use Rattle.kw_world.specs.declared.answer.Answer.TheVariants as answer
 use Rattle.kw_world.specs.declared.activity.Activity.{Activity}
@@ -13,30 +13,30 @@ use Rattle.kw_table.specs.declared.pass.Pass.{Pass}
 use Rattle.kw_table.specs.declared.shared.Shared.{Shared}
 use Rattle.kw_follow.specs.Calling.{KeepsCalls}
 use Rattle.kw_follow.specs.Following.{Follows, GoesTo, held}
-use Rattle.kw_follow.specs.OwnEvents.{Met}
-use Rattle.kw_live_rebal.specs.Rebalancing.{MetReplaced, MetSpent, MetWon}
+use Rattle.kw_follow.specs.OwnEvents.{Saw}
+use Rattle.kw_live_rebal.specs.Rebalancing.{SawReplaced, SawSpent, SawWon}
 
 -- it began a search for rows
-pub record MetSearch (p q : Pass) : Type 0 where
+pub record SawSearch (p q : Pass) : Type 0 where
   pub choice : Choice
   pub told : ℕ
-  pub met : Met p q (Activity.Rebalance (Rebalance.Seek Seek.First)) choice told
+  pub saw : Saw p q (Activity.Rebalance (Rebalance.Seek Seek.First)) choice told
 
--- what it has met where it stands. It stands at no activity but these, and those of a rebalance:
+-- what it has seen where it stands. It stands at no activity but these, and those of a rebalance:
 -- whoever makes its events sees to it that it does not come to the end of one that won
-abbrev pub HasMet : Pass → Pass → Activity → Local → Type 0
-HasMet o p (Activity.Leave answer.Spent) l = MetSpent o p
-HasMet o p (Activity.Leave answer.NoRows) l = MetSearch o p
-HasMet o p Activity.Retry l = MetReplaced o p
-HasMet o p (Activity.Rebalance (Rebalance.Seek Seek.Next)) l = MetSearch o p
-HasMet o p (Activity.Rebalance (Rebalance.Seek (Seek.Pass i))) l = MetSearch o p
-HasMet o p (Activity.Rebalance (Rebalance.Seek Seek.Reclaim)) l = MetSearch o p
-HasMet o p (Activity.Rebalance (Rebalance.Seek Seek.Take)) l = MetSearch o p
-HasMet o p (Activity.Rebalance (Rebalance.Seek Seek.GiveBack)) l = (l.rebalance.afterwards ≡ Refuse → MetSearch o p) × (l.rebalance.afterwards ≡ TryAgain → MetReplaced o p)
-HasMet o p (Activity.Rebalance (Rebalance.Replace Replace.Normalise)) l = MetWon o p
-HasMet o p (Activity.Rebalance (Rebalance.Replace Replace.Number)) l = ⊥
-HasMet o p (Activity.Rebalance (Rebalance.Replace Replace.Retire)) l = ⊥
-HasMet o p a l = IsBalancing a
+abbrev pub HasSeenCause : Pass → Pass → Activity → Local → Type 0
+HasSeenCause o p (Activity.Leave answer.Spent) l = SawSpent o p
+HasSeenCause o p (Activity.Leave answer.NoRows) l = SawSearch o p
+HasSeenCause o p Activity.Retry l = SawReplaced o p
+HasSeenCause o p (Activity.Rebalance (Rebalance.Seek Seek.Next)) l = SawSearch o p
+HasSeenCause o p (Activity.Rebalance (Rebalance.Seek (Seek.Pass i))) l = SawSearch o p
+HasSeenCause o p (Activity.Rebalance (Rebalance.Seek Seek.Reclaim)) l = SawSearch o p
+HasSeenCause o p (Activity.Rebalance (Rebalance.Seek Seek.Take)) l = SawSearch o p
+HasSeenCause o p (Activity.Rebalance (Rebalance.Seek Seek.GiveBack)) l = (l.rebalance.afterwards ≡ Refuse → SawSearch o p) × (l.rebalance.afterwards ≡ TryAgain → SawReplaced o p)
+HasSeenCause o p (Activity.Rebalance (Rebalance.Replace Replace.Normalise)) l = SawWon o p
+HasSeenCause o p (Activity.Rebalance (Rebalance.Replace Replace.Number)) l = ⊥
+HasSeenCause o p (Activity.Rebalance (Rebalance.Replace Replace.Retire)) l = ⊥
+HasSeenCause o p a l = IsBalancing a
 
 -- what stays through all events of a rebalance
 pub record Rebalances (s : Shared) (o p : Pass) (l : Local) : Type 0 where
@@ -44,7 +44,7 @@ pub record Rebalances (s : Shared) (o p : Pass) (l : Local) : Type 0 where
   pub follows : Follows s p l
   pub calls : KeepsCalls o p
   pub held : held p ≡ held o
-  pub met : HasMet o p l.activity l
+  pub saw : HasSeenCause o p l.activity l
   pub untidied : l.tidies ≡ false
 
 -- since whatever event it is told of, what stayed up to the one pass and local stays up to the

@@ -1,6 +1,6 @@
 //! The rebalance of a full row, over the table that threads share.
 //!
-//! A put or a delete that has met a full row makes the events of the core until its row is
+//! A put or a delete that has seen a full row makes the events of the core until its row is
 //! replaced, or it learns that this was done by another seat, or it is refused. What the events are
 //! stands in the table of events; `kw_follow` makes them. Whoever stands above knows how it ended,
 //! where the call then stands, and the event by which it ended so; by the way the index is told of

@@ -5,7 +5,7 @@
 //! rows are published once they are normal, since a walk begins at no other row; and before the
 //! seat forgets them, which it does as it retires the full one.
 use kw_index::change::Change;
-use kw_index::entries::Entry;
+use kw_index::entries::IndexEntry;
 use kw_index::hints::Hints;
 use kw_index::index::Index;
 use kw_world::activity::Activity;
@@ -36,8 +36,8 @@ fn change_of(local: &Local) -> Change {
     let mut change = Change::without(local.row);
     let mut number: usize = 0;
     for row in local.rebalance.taken.as_slice() {
-        change.place(Entry {
-            min: least_key(local, number),
+        change.place(IndexEntry {
+            least: least_key(local, number),
             row: *row,
         });
         number = number.saturating_add(1);

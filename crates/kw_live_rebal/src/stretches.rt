@@ -29,10 +29,10 @@ pub(crate) fn gather_row<R: Wait>(rt: &R, shared: &Shared, pass: &mut Pass, loca
 {
     let mut cursor = Cursor::of(local);
     for _ in rt.forever() {
-        let Some(met) = meet_next(shared, pass, local, cursor) else {
+        let Some(saw) = meet_next(shared, pass, local, cursor) else {
             return;
         };
-        cursor = gather_cell(shared, pass, local, met);
+        cursor = gather_cell(shared, pass, local, saw);
     }
     unreachable!()
 }

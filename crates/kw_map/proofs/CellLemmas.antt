@@ -11,11 +11,11 @@ use Rattle.kw_cells.proofs.Next.{pairs_of-none}
 
 -- what a version shows is the value of a cell
 pub shown_is_value : (cells : List Cell) (version key value : ℕ) → All (λ c. IsValue c.value) cells → shown_at cells version key ≡ Some value → value < VALUE_END
-shown_is_value cells version key value h e = met (best_of cells key version) refl e
+shown_is_value cells version key value h e = saw (best_of cells key version) refl e
   where
-    met : (o : Option Cell) → best_of cells key version ≡ o → value_in o ≡ Some value → value < VALUE_END
-    met (Some c) y x = subst IsValue x (All-contains (λ d. IsValue d.value) cells c h (best_is cells key version c y).among)
-    met None y x = let f : None ≡ Some value = x in absurd (cc)
+    saw : (o : Option Cell) → best_of cells key version ≡ o → value_in o ≡ Some value → value < VALUE_END
+    saw (Some c) y x = subst IsValue x (All-contains (λ d. IsValue d.value) cells c h (best_is cells key version c y).among)
+    saw None y x = let f : None ≡ Some value = x in absurd (cc)
 
 -- behind the last key of a range there are no pairs
 pub pairs_of-behind : (cells : List Cell) (version key upto : ℕ) → key ≡ upto → pairs_of cells (key + 1) upto version ≡ []

@@ -47,18 +47,18 @@ wants_from s p l from upto f call start =
 -- a scan that has entered, and does not leave, is between rows
 pub entered_between : {S : Type 0} (last : S → Option ℕ) (into : S) (s : Shared) (p : Pass) (l : Local) (from upto : ℕ) → Follows s p l → l.call ≡ Some (Scan from upto) → HasEntered (Scan from upto) l.activity →
     ((x : Answer) → l.activity ≡ Activity.Leave x → ⊥) → IsBelow (last into) from → IsBetween last into l
-entered_between {S} last into s p l from upto f call entered stays above = met l.activity refl entered
+entered_between {S} last into s p l from upto f call entered stays above = saw l.activity refl entered
   where
-    met : (a : Activity) → l.activity ≡ a → HasEntered (Scan from upto) a → IsBetween last into l
-    met (Activity.Walk Walk.Start) is h = inl (ap is_walking is, IsBelow-le (last into) from l.want (wants_from s p l from upto f call is) above)
-    met (Activity.EndScan answer.Pairs) is h = inr is
-    met (Activity.Leave r) is h = absurd (stays r is)
-    met _ is h = absurd h
+    saw : (a : Activity) → l.activity ≡ a → HasEntered (Scan from upto) a → IsBetween last into l
+    saw (Activity.Walk Walk.Start) is h = inl (ap is_walking is, IsBelow-le (last into) from l.want (wants_from s p l from upto f call is) above)
+    saw (Activity.EndScan answer.Pairs) is h = inr is
+    saw (Activity.Leave r) is h = absurd (stays r is)
+    saw _ is h = absurd h
 
 -- one that leaves has found the versions spent
 pub entered_spent : (from upto : ℕ) (l : Local) (r : Answer) → l.activity ≡ Activity.Leave r → HasEntered (Scan from upto) l.activity → l.activity ≡ Activity.Leave answer.Spent
-entered_spent from upto l r is entered = is ∙ ap Activity.Leave (met r (subst (HasEntered (Scan from upto)) is entered))
+entered_spent from upto l r is entered = is ∙ ap Activity.Leave (saw r (subst (HasEntered (Scan from upto)) is entered))
   where
-    met : (x : Answer) → HasEntered (Scan from upto) (Activity.Leave x) → x ≡ answer.Spent
-    met answer.Spent h = refl
-    met _ h = absurd h
+    saw : (x : Answer) → HasEntered (Scan from upto) (Activity.Leave x) → x ≡ answer.Spent
+    saw answer.Spent h = refl
+    saw _ h = absurd h

@@ -22,10 +22,10 @@ use Rattle.kw_map.specs.Kiwi.{IsIdle, put_reply, stands_after}
 use Rattle.kw_follow.specs.Following.{GoesTo}
 use Rattle.kw_live.specs.declared.putting.TryPut.{TryPut}
 use Rattle.kw_live.specs.declared.putting.TryPut.TheVariants as try_put
-use Rattle.kw_live.specs.Meeting.{MetClock}
+use Rattle.kw_live.specs.Sights.{SawClock}
 use Rattle.kw_live.specs.Putting.{stands_after as put_stands}
 use Rattle.kw_live.specs.Stages.{HasEntered}
-use Rattle.kw_follow.proofs.OwnEvents.{met_later}
+use Rattle.kw_follow.proofs.OwnEvents.{saw_later}
 
 -- The begin.
 
@@ -57,8 +57,8 @@ begins_anew (Some end) a none e = absurd (none end refl)
 -- What it met.
 
 -- a clock that a scan loaded before was its clock
-pub clock_later : {s : Shared} {p q r : Pass} {clock : ℕ} → MetClock p q clock → GoesTo s q r → MetClock p r clock
-clock_later {s} {p} {q} {r} m after = record { met = met_later p q r m.met after.seen }
+pub clock_later : {s : Shared} {p q r : Pass} {clock : ℕ} → SawClock p q clock → GoesTo s q r → SawClock p r clock
+clock_later {s} {p} {q} {r} m after = record { saw = saw_later p q r m.saw after.seen }
 
 -- What it replies.
 

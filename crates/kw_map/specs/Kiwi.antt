@@ -26,7 +26,7 @@ use Rattle.kw_table.specs.declared.pass.View.{View}
 use Rattle.kw_table.specs.Passes.{IsPassOf, view}
 use Rattle.kw_follow.specs.Calling.{Calls}
 use Rattle.kw_follow.specs.Following.{activity_in}
-use Rattle.kw_live.specs.Meeting.{MetClock}
+use Rattle.kw_live.specs.Sights.{SawClock}
 use Rattle.kw_map.specs.declared.kiwi.Kiwi.{Kiwi}
 use Rattle.kw_map.specs.declared.kiwi.PutEnd.{PutEnd}
 use Rattle.kw_map.specs.declared.kiwi.PutEnd.TheVariants as put_end
@@ -89,5 +89,5 @@ pub record AnswersScan (Took : Pairs → Type 0) (Counted Same : Type 0) (p q : 
   pub calls : Calls p q (Scan from upto) reply
   pub gave : ScanGave Took Counted Same p q (Scan from upto) reply result
   pub clock : ℕ
-  pub met : MetClock p q clock
+  pub saw : SawClock p q clock
   pub spent : (result ≡ Err Spent) ↔ (SPENT ≤ clock)

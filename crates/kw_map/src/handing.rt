@@ -15,7 +15,7 @@ ghost use Rattle.kw_map.specs.Handing.{HandsOn, more_of, next_low};
 use crate::gather::{Gather, Stop};
 use kw_cells::cell::Cell;
 use kw_follow::Cursor;
-use kw_live::{leads_on, look_at_row, next_cell, pass_rows};
+use kw_live::{go_by_rows, leads_on, look_at_row, next_cell};
 use kw_model::call::Call;
 use kw_table::{Pass, Shared};
 use kw_world::activity::Activity;
@@ -89,7 +89,7 @@ fn hand_row<G: Gather>(
         cursor = next;
         ended = hand_cell(into, &mut low, version, cell, ended);
     }
-    pass_rows(shared, pass, local);
+    go_by_rows(shared, pass, local);
     ended
 }
 

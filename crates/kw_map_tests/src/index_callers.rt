@@ -5,7 +5,7 @@
 ghost use Rattle.std.specs.Prelude.{◌≤◌};
 
 use crate::index_edits::{LAST_KEY, change, entry};
-use kw_index::entries::Entry;
+use kw_index::entries::IndexEntry;
 use kw_index::index::Index;
 use kw_index::own::OwnEntries;
 use kw_model::memory::Memory;
@@ -18,13 +18,13 @@ use std::test::Fail;
 pub(crate) enum Turn<'a> {
     /// It publishes that these rows, each with its least key, come in the place of one, and is told
     /// whether it did.
-    Publishes(u32, &'a [Entry], bool),
+    Publishes(u32, &'a [IndexEntry], bool),
     /// It guesses the row of this key.
     Guesses(u32, Option<u32>),
     /// It does so anew.
     GuessesAnew(u32, Option<u32>),
     /// Its entries are these, of which the first has the least key.
-    Has(&'a [Entry]),
+    Has(&'a [IndexEntry]),
 }
 
 /// Takes a turn by these entries, and expects what is told.
@@ -54,12 +54,18 @@ pub(crate) fn expect_turn(
 
 /// Expects that a caller's entries are these. No row comes twice in entries, so they are the ones
 /// that guess each row at its least key and at the last key before the next row's.
-fn expect_entries(rt: &impl Abort, index: &Index, own: &OwnEntries, list: &[Entry], place: usize) {
+fn expect_entries(
+    rt: &impl Abort,
+    index: &Index,
+    own: &OwnEntries,
+    list: &[IndexEntry],
+    place: usize,
+) {
     let mut last = LAST_KEY;
     for entry in list.iter().rev() {
-        let guessed = [own.guess(index, entry.min), own.guess(index, last)];
+        let guessed = [own.guess(index, entry.least), own.guess(index, last)];
         assert_eq!(rt; guessed, [Some(entry.row); 2], "at turn {place}");
-        last = entry.min.saturating_sub(1);
+        last = entry.least.saturating_sub(1);
     }
 }
 
@@ -193,7 +199,7 @@ fn own_publications_are_made_over_those_of_others(rt: HostRuntime) -> Result<(),
     Ok(expect_anew(&rt, rt.alloc(), 9, &[9, 9, 9], &turns)?)
 }
 
-// While the ledger is out, a change has to wait, and the own entries stay. It is published with the
+// While the log is out, a change has to wait, and the own entries stay. It is published with the
 // caller's next one, and before that.
 #[test]
 fn a_change_that_has_to_wait_is_published_with_the_next_one(rt: HostRuntime) -> Result<(), Fail> {
@@ -201,14 +207,14 @@ fn a_change_that_has_to_wait_is_published_with_the_next_one(rt: HostRuntime) -> 
     let mut callers = callers_of(rt.alloc(), &[4])?;
     let held = index.take();
     expect_a_wait(&rt, &index, callers.as_mut_slice());
-    if let Some(ledger) = held {
-        index.give(ledger);
+    if let Some(log) = held {
+        index.give(log);
     }
     expect_a_publication(&rt, &index, callers.as_mut_slice());
     Ok(())
 }
 
-// The ledger is held elsewhere: a change waits, and the caller finds no row by it.
+// The log is held elsewhere: a change waits, and the caller finds no row by it.
 fn expect_a_wait(rt: &impl Abort, index: &Index, callers: &mut [OwnEntries]) {
     let both = [entry(0, 1), entry(100, 3)];
     let waits = [
@@ -235,7 +241,7 @@ fn expect_a_publication(rt: &impl Abort, index: &Index, callers: &mut [OwnEntrie
 pub(crate) fn publish_by_turns(
     own: &mut OwnEntries,
     index: &Index,
-    min: u32,
+    least: u32,
     rows: [u32; 2],
     turn: u32,
 ) -> bool {
@@ -245,7 +251,7 @@ pub(crate) fn publish_by_turns(
     } else {
         (other, one)
     };
-    own.publish(index, change(gone, &[entry(min, placed)]))
+    own.publish(index, change(gone, &[entry(least, placed)]))
 }
 
 /// Publishes so many changes, by each of which one of two rows gives its place to the other, and
@@ -253,13 +259,13 @@ pub(crate) fn publish_by_turns(
 pub(crate) fn publish_many(
     own: &mut OwnEntries,
     index: &Index,
-    min: u32,
+    least: u32,
     rows: [u32; 2],
     times: u32,
 ) -> u32 {
     let mut published: u32 = 0;
     for time in 0..times {
-        if publish_by_turns(own, index, min, rows, time) {
+        if publish_by_turns(own, index, least, rows, time) {
             published = published.saturating_add(1);
         }
     }

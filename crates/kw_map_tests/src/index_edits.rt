@@ -2,7 +2,7 @@
 ghost use Rattle.std.specs.Prelude.{◌≡◌, IfOk};
 
 use kw_index::change::Change;
-use kw_index::entries::{Entries, Entry};
+use kw_index::entries::{Entries, IndexEntry};
 use kw_model::memory::Memory;
 use std::alloc::Global;
 use std::test::Fail;
@@ -11,12 +11,12 @@ use std::test::Fail;
 pub(crate) const LAST_KEY: u32 = 4_294_967_295;
 
 /// An entry: the least key of this row.
-pub(crate) fn entry(min: u32, row: u32) -> Entry {
-    Entry { min, row }
+pub(crate) fn entry(least: u32, row: u32) -> IndexEntry {
+    IndexEntry { least, row }
 }
 
 /// Entries of a map of four rows, placed one after the other.
-pub(crate) fn entries_of(alloc: Global, list: &[Entry]) -> Result<Entries, Memory>
+pub(crate) fn entries_of(alloc: Global, list: &[IndexEntry]) -> Result<Entries, Memory>
     ensures { IfOk result (λ entries. entries.rows ≡ 4) }
 {
     let mut entries = Entries::new(alloc, 4)?;
@@ -27,7 +27,7 @@ pub(crate) fn entries_of(alloc: Global, list: &[Entry]) -> Result<Entries, Memor
 }
 
 /// A change by which these rows, each with its least key, come in the place of one.
-pub(crate) fn change(gone: u32, placed: &[Entry]) -> Change {
+pub(crate) fn change(gone: u32, placed: &[IndexEntry]) -> Change {
     let mut change = Change::without(gone);
     for entry in placed {
         change.place(*entry);
@@ -36,10 +36,10 @@ pub(crate) fn change(gone: u32, placed: &[Entry]) -> Change {
 }
 
 #[test]
-fn an_entry_stands_at_its_minimum(rt: HostRuntime) -> Result<(), Fail> {
+fn an_entry_stands_at_its_least_key(rt: HostRuntime) -> Result<(), Fail> {
     let mut entries = Entries::new(rt.alloc(), 8)?;
     let new = (entries.rows(), entries.list().is_empty());
-    entries.insert(Entry { min: 20, row: 5 });
+    entries.insert(IndexEntry { least: 20, row: 5 });
     for placed in [entry(0, 0), entry(10, 3), entry(10, 6)] {
         entries.place(placed);
     }

@@ -71,13 +71,13 @@ fn one_thread_guesses_what_another_publishes(rt: HostRuntime) -> Result<(), Fail
 
 /// Publishes by turns that one of two rows takes the other's place, so many times, each once the
 /// one before it was published.
-fn publish_all(own: &mut OwnEntries, index: &Index, min: u32, rows: [u32; 2], times: u32) {
+fn publish_all(own: &mut OwnEntries, index: &Index, least: u32, rows: [u32; 2], times: u32) {
     let mut left = times;
     for _ in 0..MOST_TRIES {
         if left == 0 {
             break;
         }
-        let published = publish_by_turns(own, index, min, rows, left);
+        let published = publish_by_turns(own, index, least, rows, left);
         left = left.saturating_sub(u32::from(published));
     }
 }

@@ -92,7 +92,7 @@ fn kinds_on_the_way(
 // row, its first event loads the link to that.
 #[test]
 fn a_guess_is_taken_at_the_live_row_alone(rt: HostRuntime) -> Result<(), Fail> {
-    let taken = [Kind::LoadMin, Kind::LoadLink];
+    let taken = [Kind::LoadLeast, Kind::LoadLink];
     let refused = [Kind::LoadHead, Kind::LoadLink];
     let none = [Kind::LoadLink];
     for (guess, wanted) in [

@@ -23,7 +23,7 @@ use kw_model::memory::Memory;
 use kw_table::{
     Pass, Shared, add_count, announce, clear_pass, clear_pend, clear_scan, decide, draw, engage,
     freeze_count, freeze_pend, give_back, help_draw, help_settle, help_stamp, insert, load_after,
-    load_clock, load_count, load_epoch, load_head, load_key, load_link, load_min, load_pass,
+    load_clock, load_count, load_epoch, load_head, load_key, load_least, load_link, load_pass,
     load_pend, load_scan, load_state, load_value, load_version, make, mark_link, normalise, number,
     reclaim, replace, settle, stamp, store_after, store_infant, store_key, store_pass,
     store_retired, store_value, store_version, store_waiting, take_row,
@@ -59,7 +59,7 @@ fn load(shared: &Shared, pass: &mut Pass, choice: Choice, does: Operation) -> u6
         Kind::LoadAfter => load_after(shared, pass, choice, word),
         Kind::LoadHead => load_head(shared, pass, choice, word),
         Kind::LoadLink => load_link(shared, pass, choice, word),
-        Kind::LoadMin => load_min(shared, pass, choice, word),
+        Kind::LoadLeast => load_least(shared, pass, choice, word),
         Kind::LoadState => load_state(shared, pass, choice, word),
         Kind::LoadScan => load_scan(shared, pass, choice, word),
         Kind::LoadPass => load_pass(shared, pass, choice, word),
@@ -546,7 +546,7 @@ fn a_put_and_the_scan_that_helps_it_find_the_words_of_their_kinds(
 // A get that guesses row 0, whose least key is 0. It finds the entries idle and the put's cell 0 as
 // the list's first, which is 1 as a link, and the key, version and value that the put stored.
 const GET_BY_ITS_GUESS: [(Kind, u64); 14] = [
-    (Kind::LoadMin, 0),
+    (Kind::LoadLeast, 0),
     (Kind::LoadLink, 0),
     (Kind::LoadPend, 0),
     (Kind::LoadPend, 0),

@@ -42,7 +42,7 @@ fn words_of_no_row_lie_before_the_rows(rt: HostRuntime) {
 fn a_row_has_its_head_and_then_its_cells(rt: HostRuntime) {
     let head = [
         place(2, Name::Count(0)),
-        place(2, Name::Min(0)),
+        place(2, Name::Least(0)),
         place(2, Name::Next(0)),
         place(2, Name::First(0)),
         place(2, Name::Pend(0, 0)),

@@ -6,12 +6,12 @@ use Rattle.kw_core.specs.declared.history.Drawn.{Drawn}
 use Rattle.kw_core.specs.declared.history.CallLog.{CallLog}
 use Rattle.kw_core.specs.HistoryLaws.{HistoryLaws, IsPut, IsGapOf, EndsWith, Answers, shows, Got}
 use Rattle.kw_core.proofs.Attempts.{called_read}
-use Rattle.kw_order.specs.Order.{IsPoint, Meets, IsGap, Rank, IsPlaced, HasRank, behind, at_first, of_scan, of_refused}
+use Rattle.kw_order.specs.Order.{IsPoint, Serves, IsGap, Rank, IsPlaced, HasRank, behind, at_first, of_scan, of_refused}
 use Rattle.kw_order.specs.Puts.{HasGap}
 use Rattle.kw_order.specs.Points.{IsRankBehind, rank_at}
 use Rattle.kw_order.proofs.PutPoints.{point_unique}
 use Rattle.kw_order.proofs.Keys.{point_of}
-use Rattle.kw_order.proofs.Gaps.{get_clears, meets_from}
+use Rattle.kw_order.proofs.Gaps.{get_clears, serves_from}
 use Rattle.kw_order.proofs.Calls.{absent_shows}
 
 -- the first event of a call is in the log
@@ -37,19 +37,19 @@ gap_rank h l x key at reply (Some p) r e g s b = which (point_of h p s)
 -- of a get that found nothing, by the gap that the table gives
 pub absent_rank : (h : History) → HistoryLaws h → (x key at : ℕ) (g : Option ℕ) (r : Rank) → EndsWith h x (Get key) at Absent → HasGap h key (called h x).first g → IsRankBehind h (called h x).first g r → HasRank h x r
 absent_rank h l x key at None r e (o, g, i) b = subst (HasRank h x) (sym b) (at_first key at Absent o e g i)
-absent_rank h l x key at (Some p) r e g b = gap_rank h l x key at Absent (Some p) r e g.0 g.0.meets.gap.is_put b
+absent_rank h l x key at (Some p) r e g b = gap_rank h l x key at Absent (Some p) r e g.0 g.0.serves.gap.is_put b
 
 -- the put behind which it stands is one
 pub gap_put : (h : History) (key f : ℕ) (g : Option ℕ) → HasGap h key f g → IfSome g (IsPut h)
 gap_put h key f None g = tt
-gap_put h key f (Some p) g = g.0.meets.gap.is_put
+gap_put h key f (Some p) g = g.0.serves.gap.is_put
 
 -- such a get has a gap
-pub absent_meets : (h : History) → HistoryLaws h → (x key at : ℕ) → EndsWith h x (Get key) at Absent → (o : Option ℕ) × Meets h key (called h x).first o
-absent_meets h l x key at e = from (l.got x key at Absent e)
+pub absent_serves : (h : History) → HistoryLaws h → (x key at : ℕ) → EndsWith h x (Get key) at Absent → (o : Option ℕ) × Serves h key (called h x).first o
+absent_serves h l x key at e = from (l.got x key at Absent e)
   where
-    from : Got h x key at Absent → (o : Option ℕ) × Meets h key (called h x).first o
-    from k = (k.gap, meets_from h key (called h x).first k.gap k.knows.gap (absent_shows (shows h k.gap) k.knows.reply) (get_clears h l key (called h x).first Absent k.gap k.knows))
+    from : Got h x key at Absent → (o : Option ℕ) × Serves h key (called h x).first o
+    from k = (k.gap, serves_from h key (called h x).first k.gap k.knows.gap (absent_shows (shows h k.gap) k.knows.reply) (get_clears h l key (called h x).first Absent k.gap k.knows))
 
 -- a get that found a value answered a put
 pub value_put : (h : History) → HistoryLaws h → (x key at v : ℕ) → EndsWith h x (Get key) at (Value v) → IfSome (called h x).answer (IsPut h)

@@ -7,10 +7,10 @@ use Rattle.kw_core.specs.declared.history.CallLog.{CallLog}
 use Rattle.kw_core.specs.declared.history.End.{End}
 use Rattle.kw_words.specs.declared.kind.Kind.TheVariants.{LoadEpoch}
 use Rattle.kw_core.specs.HistoryLaws.{IsPut, IsPutOf, StandsBefore, shows, IsGapOf, HistoryLaws, EndsWith, Got, answer_of, Makes}
-use Rattle.kw_order.specs.Order.{IsPoint, Meets, GapBefore, IsGap}
+use Rattle.kw_order.specs.Order.{IsPoint, Serves, GapBefore, IsGap}
 use Rattle.kw_order.proofs.PutPoints.{times, timed, point_order, point_placed, point_unique, load_not_begin}
 use Rattle.kw_order.proofs.Keys.{StandsAtMost, upto_from, before_cases, point_of}
-use Rattle.kw_order.proofs.Gaps.{Clears, get_clears, meets_from, meets_clears}
+use Rattle.kw_order.proofs.Gaps.{Clears, get_clears, serves_from, serves_clears}
 
 -- a call that ended is one of the list
 pub ended_within : (h : History) (x : ℕ) (e : End) → (called h x).end ≡ Some e → x < length h.calls
@@ -72,9 +72,9 @@ known_facts h l x key at reply g = record {
 pub gap_facts : (h : History) → HistoryLaws h → (x key at : ℕ) (reply : Reply) (g : Option ℕ) → EndsWith h x (Get key) at reply → IsGap h x key reply g → GapFacts h x key at reply g
 gap_facts h l x key at (Value v) g e i = let k = l.got x key at (Value v) e in subst (GapFacts h x key at (Value v)) (sym (i ∙ k.answer v refl)) (known_facts h l x key at (Value v) k)
 gap_facts h l x key at Absent g e i = record {
-  gap = i.meets.gap;
-  clears = meets_clears h l key (called h x).first g i.meets;
-  reply = ap answer_of (sym i.meets.shows);
+  gap = i.serves.gap;
+  clears = serves_clears h l key (called h x).first g i.serves;
+  reply = ap answer_of (sym i.serves.shows);
   end = λ p a q j. at_end p a q j k.gap refl;
 }
   where
@@ -84,15 +84,15 @@ gap_facts h l x key at Absent g e i = record {
     f : GapFacts h x key at Absent k.gap
     f = known_facts h l x key at Absent k
 
-    m : Meets h key (called h x).first k.gap
-    m = meets_from h key (called h x).first k.gap f.gap (absent_shows (shows h k.gap) f.reply) f.clears
+    m : Serves h key (called h x).first k.gap
+    m = serves_from h key (called h x).first k.gap f.gap (absent_shows (shows h k.gap) f.reply) f.clears
 
     at_end : (p a : ℕ) → g ≡ Some p → IsPoint h p a → (o : Option ℕ) → k.gap ≡ o → a < at
     at_end p a q j None n = absurd (i.first k.gap m (subst (λ y. GapBefore h y g) (sym n) (subst (GapBefore h None) (sym q) tt)))
     at_end p a q j (Some u) n = which (before_cases h u p)
       where
         s : IsPutOf h key p
-        s = subst (IsGapOf h key) q i.meets.gap
+        s = subst (IsGapOf h key) q i.serves.gap
 
         t : IsPutOf h key u
         t = subst (IsGapOf h key) n f.gap

@@ -5,12 +5,12 @@ use Rattle.std.proofs.lemmas.Bool.{cases_lt, cases_eq}
 use Rattle.std.proofs.lemmas.Option.{same_Some}
 use Rattle.kw_core.specs.History.{History, attempt}
 use Rattle.kw_core.specs.HistoryLaws.{HistoryLaws, IsPutOf, StandsBefore}
-use Rattle.kw_order.specs.Order.{IsPoint, Meets, GapBefore, IsFirstGap}
+use Rattle.kw_order.specs.Order.{IsPoint, Serves, GapBefore, IsFirstGap}
 use Rattle.kw_order.specs.declared.puts.StampedPut.{StampedPut}
 use Rattle.kw_order.specs.Puts.{put_at, AreAllPuts, AreAllDeletes, IsListed, HavePoints, IsSplit, HasGap}
 use Rattle.kw_order.proofs.PutPoints.{point_order, point_unique}
 use Rattle.kw_order.proofs.Keys.{not_upto, IsAfter, past_gap}
-use Rattle.kw_order.proofs.Gaps.{Clears, meets_from, meets_clears, first_gap}
+use Rattle.kw_order.proofs.Gaps.{Clears, serves_from, serves_clears, first_gap}
 use Rattle.kw_order.proofs.PutLists.{list_before, keys_rise}
 
 -- what a test of a value says
@@ -52,7 +52,7 @@ module _ (h : History) (l : HistoryLaws h) (puts : List StampedPut) (points : Li
 
   -- no put of the key is reached: the get stands before all of them
   pub none_reached : ((i : ℕ) → i < n → (put_at puts i).key ≡ key → ⊥) → HasGap h key f None
-  none_reached none = (None, record { meets = meets_from h key f None tt refl (past_clears None (λ i w v k t. none i v k)); first = λ other m z. z }, λ p c e. let z : None ≡ Some p = e in absurd (cc))
+  none_reached none = (None, record { serves = serves_from h key f None tt refl (past_clears None (λ i w v k t. none i v k)); first = λ other m z. z }, λ p c e. let z : None ≡ Some p = e in absurd (cc))
 
   -- where the last put before the split is of another key, none is
   pub other_key : 0 < n → ((put_at puts (n - 1)).key ≡ key → ⊥) → HasGap h key f None
@@ -84,9 +84,9 @@ module _ (h : History) (l : HistoryLaws h) (puts : List StampedPut) (points : Li
       at (inl x) = absurd (omega (arith, x, r.key_is))
       at (inr x) = let e = point_unique h p c _ i (subst (λ u. IsPoint h u (get_or points (put_at puts (n - 1)).place 0)) r.is (has_point (n - 1) (last_within p r))) in omega (arith, e, x.1)
 
-  -- no gap before it is met
-  no_earlier : (p : ℕ) → IsLastReached p → (other : Option ℕ) → Meets h key f other → GapBefore h other (Some p) → ⊥
-  no_earlier p r other m z = omega (arith, last_reached p _ r (b.each p (last_put p r).is_put), meets_clears h l key f other m p _ (after other z) (b.each p (last_put p r).is_put))
+  -- no gap before it serves
+  no_earlier : (p : ℕ) → IsLastReached p → (other : Option ℕ) → Serves h key f other → GapBefore h other (Some p) → ⊥
+  no_earlier p r other m z = omega (arith, last_reached p _ r (b.each p (last_put p r).is_put), serves_clears h l key f other m p _ (after other z) (b.each p (last_put p r).is_put))
     where
       after : (other : Option ℕ) → GapBefore h other (Some p) → IsAfter h key other p
       after None z = record { put = last_put p r; after = λ x. x }
@@ -102,7 +102,7 @@ module _ (h : History) (l : HistoryLaws h) (puts : List StampedPut) (points : Li
 
   -- it is a delete: the get stands behind it, at its own first event
   delete_reached : (p : ℕ) → IsLastReached p → (attempt h p).value ≡ None → HasGap h key f None
-  delete_reached p r v = (Some p, record { meets = meets_from h key f (Some p) (last_put p r) v (past_clears (Some p) (λ i w x k t. t.after (upto_last p r i x k))); first = no_earlier p r }, λ q c e i. last_reached q c (subst IsLastReached (same_Some p q e) r) i)
+  delete_reached p r v = (Some p, record { serves = serves_from h key f (Some p) (last_put p r) v (past_clears (Some p) (λ i w x k t. t.after (upto_last p r i x k))); first = no_earlier p r }, λ q c e i. last_reached q c (subst IsLastReached (same_Some p q e) r) i)
 
   -- in the words of the code
   pub after_delete : 0 < n → (put_at puts (n - 1)).key ≡ key → is_some (attempt h (put_at puts (n - 1)).place).value ≡ false → HasGap h key f None
@@ -117,44 +117,44 @@ module _ (h : History) (l : HistoryLaws h) (puts : List StampedPut) (points : Li
     past : n ≤ place
 
   -- where the last put that is reached shows a value
-  first_past : (p v : ℕ) → IsLastReached p → (attempt h p).value ≡ Some v → (o : Option ℕ) × Meets h key f o → (g : ℕ) × IsPastDelete g
+  first_past : (p v : ℕ) → IsLastReached p → (attempt h p).value ≡ Some v → (o : Option ℕ) × Serves h key f o → (g : ℕ) × IsPastDelete g
   first_past p v r e (o, m) = which (first_gap h l key f o m)
     where
       which : (g : Option ℕ) × IsFirstGap h key f g → (g : ℕ) × IsPastDelete g
-      which (None, i) = absurd (no_earlier p r None i.meets tt)
-      which (Some g, i) = at (a.every g i.meets.gap.is_put)
+      which (None, i) = absurd (no_earlier p r None i.serves tt)
+      which (Some g, i) = at (a.every g i.serves.gap.is_put)
         where
           at : IsListed puts g → (g : ℕ) × IsPastDelete g
           at (j, w, q) = side (cases_lt j n)
             where
               k : (put_at puts j).key ≡ key
-              k = (a.are.each j w).key ∙ ap (λ u. (attempt h u).key) q ∙ i.meets.gap.key
+              k = (a.are.each j w).key ∙ ap (λ u. (attempt h u).key) q ∙ i.serves.gap.key
 
               not_it : (g ≡ p) ⊎ StandsBefore h g p → ⊥
-              not_it (inl x) = let y : None ≡ Some v = sym i.meets.shows ∙ ap (λ u. (attempt h u).value) x ∙ e in cc
-              not_it (inr x) = no_earlier p r (Some g) i.meets x
+              not_it (inl x) = let y : None ≡ Some v = sym i.serves.shows ∙ ap (λ u. (attempt h u).value) x ∙ e in cc
+              not_it (inr x) = no_earlier p r (Some g) i.serves x
 
               side : (j < n) ⊎ (n ≤ j) → (g : ℕ) × IsPastDelete g
               side (inl x) = absurd (not_it (subst (λ u. (u ≡ p) ⊎ StandsBefore h u p) q (upto_last p r j x k)))
               side (inr x) = (g, record { gap = i; place = j; within = w; is = q; past = x })
 
-  -- a delete whose point is after f is met
-  later_meets : (d : ℕ) → IsPutOf h key d → (attempt h d).value ≡ None → (c : ℕ) → IsPoint h d c → f < c → Meets h key f (Some d)
-  later_meets d t v c i w = meets_from h key f (Some d) t v (λ q e u j. let o = point_order h l d q c e t.is_put u.put.is_put (t.key ∙ sym u.put.key) (past_gap h l d q t.is_put u.put.is_put u.after) i j in omega (arith, o.0, w))
+  -- a delete whose point is after f serves
+  later_serves : (d : ℕ) → IsPutOf h key d → (attempt h d).value ≡ None → (c : ℕ) → IsPoint h d c → f < c → Serves h key f (Some d)
+  later_serves d t v c i w = serves_from h key f (Some d) t v (λ q e u j. let o = point_order h l d q c e t.is_put u.put.is_put (t.key ∙ sym u.put.key) (past_gap h l d q t.is_put u.put.is_put u.after) i j in omega (arith, o.0, w))
 
   module _ (deletes : List StampedPut) (d : AreAllDeletes h deletes) (m : ℕ) (t : IsSplit deletes points key f m) where
     -- a delete of the key with its point after f is listed past the split of the deletes
     delete_listed : (g : ℕ) → IsPastDelete g → (j : ℕ) × (m ≤ j) × (j < length deletes) × ((put_at deletes j).place ≡ g)
-    delete_listed g x = at (d.every g x.gap.meets.gap.is_put x.gap.meets.shows)
+    delete_listed g x = at (d.every g x.gap.serves.gap.is_put x.gap.serves.shows)
       where
         at : IsListed deletes g → (j : ℕ) × (m ≤ j) × (j < length deletes) × ((put_at deletes j).place ≡ g)
         at (j, w, e) = which (cases_lt j m)
           where
             k : (put_at deletes j).key ≡ key
-            k = (d.are.each j w).key ∙ ap (λ u. (attempt h u).key) e ∙ x.gap.meets.gap.key
+            k = (d.are.each j w).key ∙ ap (λ u. (attempt h u).key) e ∙ x.gap.serves.gap.key
 
             late : f < get_or points g 0
-            late = past_point x.place _ x.past x.within ((a.are.each x.place x.within).key ∙ ap (λ u. (attempt h u).key) x.is ∙ x.gap.meets.gap.key) (subst (λ u. IsPoint h u (get_or points g 0)) (sym x.is) (b.each g x.gap.meets.gap.is_put))
+            late = past_point x.place _ x.past x.within ((a.are.each x.place x.within).key ∙ ap (λ u. (attempt h u).key) x.is ∙ x.gap.serves.gap.key) (subst (λ u. IsPoint h u (get_or points g 0)) (sym x.is) (b.each g x.gap.serves.gap.is_put))
 
             not_until : ((put_at deletes j).key < key) ⊎ (((put_at deletes j).key ≡ key) × (get_or points (put_at deletes j).place 0 ≤ f)) → ⊥
             not_until (inl y) = omega (arith, y, k)
@@ -180,7 +180,7 @@ module _ (h : History) (l : HistoryLaws h) (puts : List StampedPut) (points : Li
             within = omega arith
 
             k : (put_at deletes j).key ≡ key
-            k = (d.are.each j w).key ∙ ap (λ u. (attempt h u).key) e ∙ x.gap.meets.gap.key
+            k = (d.are.each j w).key ∙ ap (λ u. (attempt h u).key) e ∙ x.gap.serves.gap.key
 
             up : (put_at deletes m).key ≤ key
             up = omega (arith, keys_rise h deletes d.are m j y w, k)
@@ -204,15 +204,15 @@ module _ (h : History) (l : HistoryLaws h) (puts : List StampedPut) (points : Li
             its = record { is_put = (d.are.each m within).is_put; key = sym (d.are.each m within).key ∙ same }
 
             which : (m < j) ⊎ (j ≤ m) → IsFirstDelete g
-            which (inl z) = absurd (x.gap.first (Some (put_at deletes m).place) (later_meets (put_at deletes m).place its (d.delete m within) _ (b.each _ its.is_put) late) (subst (λ u. StandsBefore h (put_at deletes m).place u) e (list_before h deletes d.are m j z w (same ∙ sym k))))
+            which (inl z) = absurd (x.gap.first (Some (put_at deletes m).place) (later_serves (put_at deletes m).place its (d.delete m within) _ (b.each _ its.is_put) late) (subst (λ u. StandsBefore h (put_at deletes m).place u) e (list_before h deletes d.are m j z w (same ∙ sym k))))
             which (inr z) = let q : m ≡ j = omega arith in let r : (put_at deletes m).place ≡ g = ap (λ u. (put_at deletes u).place) q ∙ e in
                 record { within = within; is = r; late = omega (arith, late, ap (λ u. get_or points u 0) r) }
 
     -- the last put that is reached shows a value: the get stands behind the first later delete
-    value_reached : (p v : ℕ) → IsLastReached p → (attempt h p).value ≡ Some v → (o : Option ℕ) × Meets h key f o → (m < length deletes) × HasGap h key f (Some (put_at deletes m).place)
+    value_reached : (p v : ℕ) → IsLastReached p → (attempt h p).value ≡ Some v → (o : Option ℕ) × Serves h key f o → (m < length deletes) × HasGap h key f (Some (put_at deletes m).place)
     value_reached p v r e o = let g = first_past p v r e o in let x = first_delete g.0 g.1 in
-        (x.within, subst (λ u. HasGap h key f (Some u)) (sym x.is) (g.1.gap, λ c i. omega (arith, x.late, point_unique h g.0 c _ i (b.each g.0 g.1.gap.meets.gap.is_put))))
+        (x.within, subst (λ u. HasGap h key f (Some u)) (sym x.is) (g.1.gap, λ c i. omega (arith, x.late, point_unique h g.0 c _ i (b.each g.0 g.1.gap.serves.gap.is_put))))
 
     -- in the words of the code
-    pub after_value : 0 < n → (put_at puts (n - 1)).key ≡ key → is_some (attempt h (put_at puts (n - 1)).place).value ≡ true → (o : Option ℕ) × Meets h key f o → (m < length deletes) × HasGap h key f (Some (put_at deletes m).place)
+    pub after_value : 0 < n → (put_at puts (n - 1)).key ≡ key → is_some (attempt h (put_at puts (n - 1)).place).value ≡ true → (o : Option ℕ) × Serves h key f o → (m < length deletes) × HasGap h key f (Some (put_at deletes m).place)
     after_value w k v o = let x = some_of (attempt h (put_at puts (n - 1)).place).value v in value_reached (put_at puts (n - 1)).place x.0 (record { some = w; is = refl; key_is = k }) x.1 o

@@ -9,7 +9,7 @@ use Rattle.kw_core.specs.HistoryLaws.{IsPut, StandsBefore, shows, IsGapOf, Histo
 use Rattle.kw_order.specs.Order.{IsPoint, IsGap, Rank, Below, HasRank, of_put, behind, at_first, of_scan, of_refused, put_rank, IsPlaced, Inside}
 use Rattle.kw_order.proofs.PutPoints.{times, point_order, point_placed, point_unique}
 use Rattle.kw_order.proofs.Keys.{StandsAtMost, upto_from, before_cases, point_of, same_add}
-use Rattle.kw_order.proofs.Gaps.{meets_from, first_gap}
+use Rattle.kw_order.proofs.Gaps.{serves_from, first_gap}
 use Rattle.kw_order.proofs.Calls.{gap_facts, known_facts, absent_shows, ended_within}
 use Rattle.kw_order.proofs.Separate.{rises_by_add}
 
@@ -142,8 +142,8 @@ ended_ranked h l x at (Get k) (Value v) e a = let g = l.got x k at (Value v) e i
 ended_ranked h l x at (Get k) Absent e a =
     let g = l.got x k at Absent e in
     let f = known_facts h l x k at Absent g in
-    let m = first_gap h l k (called h x).first g.gap (meets_from h k (called h x).first g.gap f.gap (absent_shows (shows h g.gap) f.reply) f.clears) in
-    get_ranked h x k at Absent m.0 e m.1 m.1.meets.gap
+    let m = first_gap h l k (called h x).first g.gap (serves_from h k (called h x).first g.gap f.gap (absent_shows (shows h g.gap) f.reply) f.clears) in
+    get_ranked h x k at Absent m.0 e m.1 m.1.serves.gap
 ended_ranked h l x at (Scan from to) (Pairs ps) e a = let s = l.scanned x from to at ps e in (_, of_scan from to at ps s.draw e s.drawn)
 ended_ranked h l x at c NoRows e a = (_, of_refused c at NoRows e tt)
 ended_ranked h l x at c Spent e a = (_, of_refused c at Spent e tt)

@@ -24,7 +24,7 @@ use Rattle.kw_laws.proofs.LawProofs.{laws_hold}
 use Rattle.kw_order.specs.Order.{IsOrder, IsPlaced}
 use Rattle.kw_order.specs.SeatOrder.{calls_before, IsTurn, AllEnded}
 use Rattle.kw_order.proofs.OrderProofs.{order_has_laws}
-use Rattle.kw_order.proofs.Turns.{filtered_at, place_of, counted_once}
+use Rattle.kw_order.proofs.Turns.{filtered_at, index_of, counted_once}
 
 -- a call of the record, at its place
 called_here : (h : History) (x : ℕ) → x < length h.calls → slice_get h.calls x ≡ Some (called h x)
@@ -80,7 +80,7 @@ name_of z o es s k c e = go (slice_get_cases (filter (λ (c : CallLog). c.seat =
 
     go : ((d : CallLog) × (k < length of) × (slice_get of k ≡ Some d) × (get_or of k d ≡ d)) ⊎ ((length of ≤ k) × (slice_get of k ≡ None)) → IsNamed h s k c
     go (inl w) =
-        let p = place_of (λ (c : CallLog). c.seat == s) h.calls k w.0 w.2 in
+        let p = index_of (λ (c : CallLog). c.seat == s) h.calls k w.0 w.2 in
         let d = called_is h p.place w.0 p.here in
         let shown : Some (seen w.0) ≡ Some c = sym (seen_at z o es s k ∙ ap (option_map seen) w.2) ∙ e in
         record {

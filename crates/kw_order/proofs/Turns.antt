@@ -32,9 +32,9 @@ module _ {X : Type 0} (f : X → Bool) where
     pub before : counted xs place ≡ k
 
   -- each stands somewhere
-  pub place_of : (xs : List X) (k : ℕ) (c : X) → slice_get (filter f xs) k ≡ Some c → IsCounted xs k c
-  place_of [] k c e = absurd (cc)
-  place_of (y ∷ xs) k c e = go (f y) refl k e (λ j. place_of xs j c)
+  pub index_of : (xs : List X) (k : ℕ) (c : X) → slice_get (filter f xs) k ≡ Some c → IsCounted xs k c
+  index_of [] k c e = absurd (cc)
+  index_of (y ∷ xs) k c e = go (f y) refl k e (λ j. index_of xs j c)
     where
       more : (b : Bool) → f y ≡ b → (x : ℕ) → counted (y ∷ xs) (suc x) ≡ cond b 1 0 + counted xs x
       more true t x = ap (λ b. length (cond b (y ∷ filter f (take x xs)) (filter f (take x xs)))) t ∙ omega arith

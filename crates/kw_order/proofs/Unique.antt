@@ -14,14 +14,14 @@ use Rattle.kw_order.proofs.Separate.{same_get, get_not_refused}
 -- of two first gaps neither is before the other
 pub first_gap_unique : (h : History) → HistoryLaws h → (key f : ℕ) (g g' : Option ℕ) → IsFirstGap h key f g → IsFirstGap h key f g' → g ≡ g'
 first_gap_unique h l key f None None a b = refl
-first_gap_unique h l key f None (Some q) a b = absurd (b.first None a.meets tt)
-first_gap_unique h l key f (Some p) None a b = absurd (a.first None b.meets tt)
+first_gap_unique h l key f None (Some q) a b = absurd (b.first None a.serves tt)
+first_gap_unique h l key f (Some p) None a b = absurd (a.first None b.serves tt)
 first_gap_unique h l key f (Some p) (Some q) a b = which (before_cases h p q) (before_cases h q p)
   where
     which : StandsAtMost h q p ⊎ StandsBefore h p q → StandsAtMost h p q ⊎ StandsBefore h q p → Some p ≡ Some q
-    which (inl x) (inl y) = ap Some (same_add h l p q a.meets.gap.is_put b.meets.gap.is_put (omega (arith, x, y)))
-    which (inr x) _ = absurd (b.first (Some p) a.meets x)
-    which (inl x) (inr y) = absurd (a.first (Some q) b.meets y)
+    which (inl x) (inl y) = ap Some (same_add h l p q a.serves.gap.is_put b.serves.gap.is_put (omega (arith, x, y)))
+    which (inr x) _ = absurd (b.first (Some p) a.serves x)
+    which (inl x) (inr y) = absurd (a.first (Some q) b.serves y)
 
 -- a get has one gap
 pub gap_unique : (h : History) → HistoryLaws h → (x key : ℕ) (r : Reply) (g g' : Option ℕ) → IsGap h x key r g → IsGap h x key r g' → g ≡ g'

@@ -27,7 +27,7 @@ pub record IsNext (h : History) (key : ℕ) (o : Option ℕ) (q : ℕ) : Type 0 
   pub first : (u : ℕ) → IsPutOf h key u → (StandsUpTo h o u → ⊥) → (u ≡ q) ⊎ StandsBefore h q u
 
 -- the gap behind o shows nothing, and its next put, if any, has its point after f
-pub record Meets (h : History) (key f : ℕ) (o : Option ℕ) : Type 0 where
+pub record Serves (h : History) (key f : ℕ) (o : Option ℕ) : Type 0 where
   pub gap : IsGapOf h key o
   pub shows : shows h o ≡ None
   pub next : (q a : ℕ) → IsNext h key o q → IsPoint h q a → f < a
@@ -40,8 +40,8 @@ GapBefore h (Some p) (Some q) = StandsBefore h p q
 
 -- the first gap that a get of this key which began at f and found nothing may stand in
 pub record IsFirstGap (h : History) (key f : ℕ) (o : Option ℕ) : Type 0 where
-  pub meets : Meets h key f o
-  pub first : (other : Option ℕ) → Meets h key f other → GapBefore h other o → ⊥
+  pub serves : Serves h key f o
+  pub first : (other : Option ℕ) → Serves h key f other → GapBefore h other o → ⊥
 
 -- the gap of a get that ended with this reply
 abbrev pub IsGap : History → ℕ → ℕ → Reply → Option ℕ → Type 0

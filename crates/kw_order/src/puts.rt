@@ -5,7 +5,7 @@
 //! the last put that a get has reached.
 ghost use Rattle.std.specs.Prelude.{ℕ, ◌≡◌, ◌+◌, ◌<◌, ◌≤◌, ◌⊎◌, Option, IfOk, length, get_or};
 ghost use Rattle.kw_core.specs.HistoryLaws.{HistoryLaws, IsPut};
-ghost use Rattle.kw_order.specs.Order.{IsPoint, Meets};
+ghost use Rattle.kw_order.specs.Order.{IsPoint, Serves};
 ghost use Rattle.kw_order.specs.Puts.{AreAllPuts, AreAllDeletes, HavePoints, HavePointsFrom, CanSplit, IsSplit, IsTable, HasGap, put_at};
 
 use kw_core::history::History;
@@ -61,7 +61,7 @@ impl PutTable {
     pub fn gap(&self, history: &History, key: u32, first: u64) -> Option<usize>
         requires laws { HistoryLaws history.now }
         requires table { IsTable history.now self.now }
-        requires met { (o : Option ℕ) × Meets history.now key first o }
+        requires serving { (o : Option ℕ) × Serves history.now key first o }
         ensures { HasGap history.now key first result }
     {
         let until = count_until(&self.puts, &self.points, key, first);

@@ -77,9 +77,9 @@ clear_published (Activity.Put Put.Clear) x = (tt, tt)
 clear_published _ x = absurd x
 
 -- only a get or a scan helps
-met_reads : (a : Activity) (l : Local) → IsHelp a → IsKind a l → IsReadCall l.call
-met_reads (Activity.Look Look.Help) l x k = k
-met_reads _ l x k = absurd x
+saw_reads : (a : Activity) (l : Local) → IsHelp a → IsKind a l → IsReadCall l.call
+saw_reads (Activity.Look Look.Help) l x k = k
+saw_reads _ l x k = absurd x
 
 -- a get or a scan puts nothing
 read_makes_none : (c : Call) (key : ℕ) (value : Option ℕ) → IsReadCall (Some c) → MakesPut c key value → ⊥
@@ -195,7 +195,7 @@ module _ (z : Sizes) (r r' : Run) (s : ℕ) (choice : Choice) (l : Local) (a : A
       let t = k.laws.is_put (r.seats s).call p q in
       let m = (k.laws.attempted p (in_range r'.history p t.0)).makes in
       let c : (called r'.history (attempt r'.history p).call).call ≡ (called r.history (r.seats s).call).call = ap (λ y. (called r'.history y).call) t.1 ∙ same.call in
-      read_makes_none (called r.history (r.seats s).call).call (attempt r'.history p).key (attempt r'.history p).value (subst IsReadCall x.call (met_reads a l y kind)) (subst (λ y. MakesPut y (attempt r'.history p).key (attempt r'.history p).value) c m)
+      read_makes_none (called r.history (r.seats s).call).call (attempt r'.history p).key (attempt r'.history p).value (subst IsReadCall x.call (saw_reads a l y kind)) (subst (λ y. MakesPut y (attempt r'.history p).key (attempt r'.history p).value) c m)
 
   -- the put of the call was there, or the seat has stamped it now
   its_put : (p : ℕ) → (called r'.history (r.seats s).call).put ≡ Some p → ((called r.history (r.seats s).call).put ≡ Some p) ⊎ IsStamp a × ((r.seats s).own ≡ p)

@@ -40,7 +40,7 @@ use Rattle.kw_core.specs.Stages.{IsAtRow}
 use Rattle.kw_core.specs.Step.{Step}
 use Rattle.kw_core.specs.Words.{Words}
 use Rattle.kw_core.proofs.Attempts.{in_range}
-use Rattle.kw_core.proofs.Arrows.{builds, Arrow, NextLook, looks, lists, NextRest, rests, answers, ends_scan, scans_on, meets_stamped, meets_neither, is_passed, helps, finds_stamped, finds_other, list_ends, key_above, rest_passed, gathers_rest}
+use Rattle.kw_core.proofs.Arrows.{builds, Arrow, NextLook, looks, lists, NextLeftOver, goes_to_left_over, answers, ends_scan, scans_on, sees_stamped, sees_neither, is_gone_by, helps, finds_stamped, finds_other, list_ends, key_above, left_over_gone_by, gathers_left_over}
 use Rattle.kw_core.proofs.Building.{Building, first_is_free, first_is_taken, sought_is_free, sought_is_taken, first_is_retired, sought_is_retired, pass_is_old, pass_is_young, frees_row, takes_row, loses_row, gives_one_back, gives_last_back, writes_link, begins_before, guesses_before, guess_before_fails, before_serves, before_is_above, takes_head_before, leads_to_full, leads_on_marked, leads_to_other, leads_nowhere, walks_before, walks_past, replaces_row, is_marked_before, is_replaced, makes_normal, makes_last_normal, draws_number, retires_row, retires_and_leaves}
 use Rattle.kw_core.proofs.Building as built
 use Rattle.kw_core.proofs.Copies.{ChangesListed, ChangesOrigin, copy_listed, listed_stays, none_listed_yet, origin_copied, origin_stays, rest_unlisted}
@@ -56,7 +56,7 @@ use Rattle.kw_shape.proofs.LinkedRows.{fresh_linked, hand_infant, infants_at}
 use Rattle.kw_puts.specs.Below.{Below}
 use Rattle.kw_puts.specs.Builds.{Builds, Copied, HasPlanned, IsCellOf, IsGathered}
 use Rattle.kw_puts.proofs.BuiltLists.{all_part}
-use Rattle.kw_puts.proofs.Gathering.{HasPassedAll, passed_same, planned_passed}
+use Rattle.kw_puts.proofs.Gathering.{HasGoneByAll, gone_by_same, planned_gone_by}
 use Rattle.kw_puts.proofs.Owners.{full_linked}
 
 -- a cell is that of its attempt for ever
@@ -434,7 +434,7 @@ module _ {z : Sizes} {r r' : Run} {s : ℕ} {choice : Choice} {l l' : Local} {e 
   -- its full row is none that it writes
   row_apart : (a : Activity) → Happens z r r' s choice l l' a → IsWriting (nursing_of a) → l.row ≡ infant l → ⊥
   row_apart a h w e =
-      let p : HasPassedAll z l.activity = planned_passed z l.activity (subst (λ b. HasPlanned (nursing_of b)) (sym h.activity) (writing_planned (nursing_of a) w)) in
+      let p : HasGoneByAll z l.activity = planned_gone_by z l.activity (subst (λ b. HasPlanned (nursing_of b)) (sym h.activity) (writing_planned (nursing_of a) w)) in
       linked_not_infant r.ledger.rows s (infant l) (subst (WasLinked r.ledger.rows) e (full_linked z r i.shape s l h.knows p.balances)) (hand_infant a h i.shape (writing_hand (nursing_of a) w))
 
   -- after an event of its own that takes, writes or links rows
@@ -446,7 +446,7 @@ module _ {z : Sizes} {r r' : Run} {s : ℕ} {choice : Choice} {l l' : Local} {e 
   copying_other a h t k d g =
       let b = i.puts.builds t k g in
       let n = i.shape.infants t k g in
-      copies_stable z r.history r'.history e r.origin r'.origin r.listed r'.listed r.ledger.rows t k.activity k st (λ q c x. infants_untouched a h i.shape t d q c x) n.owned n.hand (λ x. passed_same z r r' s choice l a l' h i t k g (planned_passed z k.activity x)) (record { whole = b.whole; words = b.words })
+      copies_stable z r.history r'.history e r.origin r'.origin r.listed r'.listed r.ledger.rows t k.activity k st (λ q c x. infants_untouched a h i.shape t d q c x) n.owned n.hand (λ x. gone_by_same z r r' s choice l a l' h i t k g (planned_gone_by z k.activity x)) (record { whole = b.whole; words = b.words })
 
 -- What a look, or a cell, leads to writes no row.
 
@@ -454,25 +454,25 @@ copies_look : (z : Sizes) (h : History) (o : Origins) (f : Listed) (j : ℕ) (a 
 copies_look z h o f j a k (looks u) = copies_nowhere z h o f _ k (λ i w. w) (λ w. w)
 copies_look z h o f j a k (lists u) = copies_nowhere z h o f _ k (λ i w. w) (λ w. w)
 
-copies_rest : (z : Sizes) (h : History) (o : Origins) (f : Listed) (l n : Local) → NextRest l n → Copying z h o f n.activity n
-copies_rest z h o f l n (rests m u) = copies_nowhere z h o f _ _ (λ i w. w) (λ w. w)
-copies_rest z h o f l n (answers u c) = copies_nowhere z h o f _ _ (λ i w. w) (λ w. w)
-copies_rest z h o f l n (ends_scan u c d) = copies_nowhere z h o f _ _ (λ i w. w) (λ w. w)
-copies_rest z h o f l n (scans_on q u c d m) = copies_nowhere z h o f _ _ (λ i w. w) (λ w. w)
+copies_left_over : (z : Sizes) (h : History) (o : Origins) (f : Listed) (l n : Local) → NextLeftOver l n → Copying z h o f n.activity n
+copies_left_over z h o f l n (goes_to_left_over m u) = copies_nowhere z h o f _ _ (λ i w. w) (λ w. w)
+copies_left_over z h o f l n (answers u c) = copies_nowhere z h o f _ _ (λ i w. w) (λ w. w)
+copies_left_over z h o f l n (ends_scan u c d) = copies_nowhere z h o f _ _ (λ i w. w) (λ w. w)
+copies_left_over z h o f l n (scans_on q u c d m) = copies_nowhere z h o f _ _ (λ i w. w) (λ w. w)
 
 -- nor does any other event that neither takes nor writes nor links rows
 copies_by : (z : Sizes) (v : Words) (s : ℕ) (choice : Choice) (l : Local) (a : Activity) (l' : Local) (h : History) (o : Origins) (f : Listed) → Arrow z v s choice l a l' → (Building z v choice l a l' → Copying z h o f l'.activity l') → Copying z h o f l'.activity l'
 copies_by z v s choice l a l' h o f (builds b next y t) built = built t
-copies_by z v s choice l a l' h o f (meets_stamped j c version next e n) built = copies_look z h o f _ next _ n
-copies_by z v s choice l a l' h o f (meets_neither j next e n) built = copies_look z h o f _ next _ n
-copies_by z v s choice l a l' h o f (is_passed next e n) built = copies_look z h o f _ next _ n
+copies_by z v s choice l a l' h o f (sees_stamped j c version next e n) built = copies_look z h o f _ next _ n
+copies_by z v s choice l a l' h o f (sees_neither j next e n) built = copies_look z h o f _ next _ n
+copies_by z v s choice l a l' h o f (is_gone_by next e n) built = copies_look z h o f _ next _ n
 copies_by z v s choice l a l' h o f (helps next e n) built = copies_look z h o f _ next _ n
 copies_by z v s choice l a l' h o f (finds_stamped c version next e n) built = copies_look z h o f _ next _ n
 copies_by z v s choice l a l' h o f (finds_other next e n) built = copies_look z h o f _ next _ n
-copies_by z v s choice l a l' h o f (list_ends next e n) built = copies_rest z h o f _ next n
-copies_by z v s choice l a l' h o f (key_above next e n) built = copies_rest z h o f _ next n
-copies_by z v s choice l a l' h o f (rest_passed next e n) built = copies_rest z h o f _ next n
-copies_by z v s choice l a l' h o f (gathers_rest next n) built = copies_rest z h o f _ next n
+copies_by z v s choice l a l' h o f (list_ends next e n) built = copies_left_over z h o f _ next n
+copies_by z v s choice l a l' h o f (key_above next e n) built = copies_left_over z h o f _ next n
+copies_by z v s choice l a l' h o f (left_over_gone_by next e n) built = copies_left_over z h o f _ next n
+copies_by z v s choice l a l' h o f (gathers_left_over next n) built = copies_left_over z h o f _ next n
 copies_by z v s choice l a l' h o f _ built = copies_nowhere z h o f _ _ (λ i w. w) (λ w. w)
 
 -- So every event keeps it, for each seat.

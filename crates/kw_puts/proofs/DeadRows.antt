@@ -1,7 +1,7 @@
 -- Every event keeps what holds of the positions at which rows were linked and unlinked, and of the
 -- entries of dead rows.
 --
--- A row is dead from the event on that replaces it, by a seat that has passed all its entries: so
+-- A row is dead from the event on that replaces it, by a seat that has gone by all its entries: so
 -- no attempt of the row is stamped from then on, and each one that is was stamped before.
 use Rattle.std.proofs.Common.{ℕ, ◌≡◌, ◌⊎◌, inl, inr, ◌+◌, ◌<◌, ◌≤◌, true, false, Some, arith, refl, sym, ◌∙◌, ap, subst, length, slice_get}
 use Rattle.std.proofs.lemmas.Bool.{cases_eq}

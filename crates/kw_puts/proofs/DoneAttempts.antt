@@ -27,7 +27,7 @@ use Rattle.kw_core.proofs.Happens.{log_entry}
 use Rattle.kw_core.proofs.Happens.{Happens, knows_next, knows_other, not_chosen}
 use Rattle.kw_core.proofs.Building.{IsBuilding}
 use Rattle.kw_core.proofs.Arrows.{builds, Arrow, takes_full, announces_full, stamps_full, IsNotOwn, tidies}
-use Rattle.kw_core.proofs.Arrows.{takes_cell, stores_key, stores_value, announces, loads_clock, stamps, is_stamped, stores_version, meets_cell, meets_none, key_before, key_same, key_after, version_before, version_after, stores_after, inserts, loses, clears}
+use Rattle.kw_core.proofs.Arrows.{takes_cell, stores_key, stores_value, announces, loads_clock, stamps, is_stamped, stores_version, reaches_cell, sees_none, key_before, key_same, key_after, version_before, version_after, stores_after, inserts, loses, clears}
 use Rattle.kw_core.proofs.InfantFrames.{version_stays}
 use Rattle.kw_puts.proofs.Owners.{true_false}
 use Rattle.kw_puts.proofs.Rely.{SameAttempt}
@@ -90,8 +90,8 @@ own_goes z r r' s choice l a l' (stamps e) h i p = inl (tt, ap (λ g. g.own) h.l
 own_goes z r r' s choice l a l' (is_stamped version e) h i p = inl (tt, ap (λ g. g.own) h.log)
 own_goes z r r' s choice l a l' (stamps_full n) h i p = inr (inr (lost_now z r r' s choice l l' n h i))
 own_goes z r r' s choice l a l' stores_version h i p = inl (tt, ap (λ g. g.own) h.log)
-own_goes z r r' s choice l a l' (meets_cell c y) h i p = inl (tt, ap (λ g. g.own) h.log)
-own_goes z r r' s choice l a l' (meets_none y) h i p = inl (tt, ap (λ g. g.own) h.log)
+own_goes z r r' s choice l a l' (reaches_cell c y) h i p = inl (tt, ap (λ g. g.own) h.log)
+own_goes z r r' s choice l a l' (sees_none y) h i p = inl (tt, ap (λ g. g.own) h.log)
 own_goes z r r' s choice l a l' (key_before y) h i p = inl (tt, ap (λ g. g.own) h.log)
 own_goes z r r' s choice l a l' (key_same y) h i p = inl (tt, ap (λ g. g.own) h.log)
 own_goes z r r' s choice l a l' (key_after y) h i p = inl (tt, ap (λ g. g.own) h.log)
@@ -153,15 +153,15 @@ module _ (z : Sizes) (r r' : Run) (s : ℕ) (choice : Choice) (l : Local) (a : A
   -- the own attempt of a seat that puts stays current, or its seat has cleared its entry, or it
   -- never gets a version: what holds of it then
   own_current : (P : ℕ → Type 0) → (a ≡ Activity.Put Put.Clear → P (r.seats s).own) → (IsOver r'.history (r.seats s).own → P (r.seats s).own) → (p : ℕ) → p < length r.history.attempts → (attempt r.history p).seat ≡ s → p ≡ (r.seats s).own → IsPutting a → IsCurrent (slice_get r'.world.locals) r'.seats r'.history p ⊎ P p
-  own_current P cleared over p w e f m = met (own_goes z r r' s choice l a l' h.arrow h i m)
+  own_current P cleared over p w e f m = saw (own_goes z r r' s choice l a l' h.arrow h i m)
     where
       same : SameAttempt r.history r'.history p
       same = (goes_on_by z r r' s choice l a l' h i st).attempts p w
 
-      met : IsPutting l'.activity × ((r'.seats s).own ≡ (r.seats s).own) ⊎ (a ≡ Activity.Put Put.Clear) ⊎ IsOver r'.history (r.seats s).own → IsCurrent (slice_get r'.world.locals) r'.seats r'.history p ⊎ P p
-      met (inl x) = inl (record { local = l'; knows = rw (same.seat, e) (knows_next h); putting = x.0; own = rw (same.seat, e) (x.1 ∙ sym f) })
-      met (inr (inl x)) = inr (subst P (sym f) (cleared x))
-      met (inr (inr x)) = inr (subst P (sym f) (over x))
+      saw : IsPutting l'.activity × ((r'.seats s).own ≡ (r.seats s).own) ⊎ (a ≡ Activity.Put Put.Clear) ⊎ IsOver r'.history (r.seats s).own → IsCurrent (slice_get r'.world.locals) r'.seats r'.history p ⊎ P p
+      saw (inl x) = inl (record { local = l'; knows = rw (same.seat, e) (knows_next h); putting = x.0; own = rw (same.seat, e) (x.1 ∙ sym f) })
+      saw (inr (inl x)) = inr (subst P (sym f) (cleared x))
+      saw (inr (inr x)) = inr (subst P (sym f) (over x))
 
   -- an attempt that is current stays so, or one of these holds
   pub current_goes : (P : ℕ → Type 0) → (a ≡ Activity.Put Put.Clear → P (r.seats s).own) → (IsOver r'.history (r.seats s).own → P (r.seats s).own) → (p : ℕ) → p < length r.history.attempts → IsCurrent (slice_get r.world.locals) r.seats r.history p → IsCurrent (slice_get r'.world.locals) r'.seats r'.history p ⊎ P p

@@ -25,7 +25,7 @@ use Rattle.kw_world.specs.Sane.{IsActivity}
 use Rattle.kw_world.specs.Step.{word}
 use Rattle.kw_core.specs.History.{attempt}
 use Rattle.kw_core.specs.Run.{Run}
-use Rattle.kw_core.specs.Stages.{IsAtRow, IsBalancing, IsPutting, IsPublished, IsStamped, IsPutClear, HasMet, IsToHelp}
+use Rattle.kw_core.specs.Stages.{IsAtRow, IsBalancing, IsPutting, IsPublished, IsStamped, IsPutClear, HasSeenPending, IsToHelp}
 use Rattle.kw_puts.specs.Puts.{OwnsAttempt, Helps, IsPublishedAt, key_in}
 use Rattle.kw_puts.proofs.CellsOf.{cell_key}
 use Rattle.kw_puts.specs.Freezes.{IsToFreeze}
@@ -36,8 +36,8 @@ use Rattle.kw_core.proofs.Steps.{announced_within, new_stands}
 use Rattle.kw_core.proofs.Happens.{Happens, knows_next, knows_other, not_exchanged}
 use Rattle.kw_core.proofs.Building.{IsBuilding}
 use Rattle.kw_core.proofs.BuiltNext.{IsAfterBuilding, built_next}
-use Rattle.kw_core.proofs.Arrows.{builds, Arrow, NextLook, looks, lists, NextRest, rests, answers, ends_scan, scans_on, announces_full, stamps_full, IsNotOwn, tidies}
-use Rattle.kw_core.proofs.Arrows.{meets_pending, meets_stamped, meets_neither, is_wanted, is_passed, loads_to_help, helps, finds_stamped, finds_other, list_ends, key_above, rest_passed, gathers_rest, announces, loads_clock, stamps, is_stamped, stores_version, meets_cell, meets_none, key_before, key_same, key_after, version_before, version_after, stores_after, inserts, loses, clears}
+use Rattle.kw_core.proofs.Arrows.{builds, Arrow, NextLook, looks, lists, NextLeftOver, goes_to_left_over, answers, ends_scan, scans_on, announces_full, stamps_full, IsNotOwn, tidies}
+use Rattle.kw_core.proofs.Arrows.{sees_pending, sees_stamped, sees_neither, is_wanted, is_gone_by, loads_to_help, helps, finds_stamped, finds_other, list_ends, key_above, left_over_gone_by, gathers_left_over, announces, loads_clock, stamps, is_stamped, stores_version, reaches_cell, sees_none, key_before, key_same, key_after, version_before, version_after, stores_after, inserts, loses, clears}
 use Rattle.kw_core.proofs.FreezeFrame.{entry_frozen, entry_left}
 use Rattle.kw_core.proofs.InfantFrames.{ChangesEntry, entry_stays, entry_written}
 use Rattle.kw_rows.specs.Rows.{WasLinked}
@@ -57,7 +57,7 @@ idle_stays z r r' s choice l (Activity.Look Look.Help) l' h i q j w o n e = whic
     which : (q ≡ l.row) ⊎ (q ≡ l.row → ⊥) → (j ≡ l.looked) ⊎ (j ≡ l.looked → ⊥) → (word z r'.world (name.Pend q j) ≡ pend_word pend.Idle) ⊎ (word z r'.world (name.Pend q j) ≡ pend_word pend.Frozen)
     which (inl f) (inl g) =
         let was : word z r.world (name.Pend l.row l.looked) ≡ pend_word pend.Idle = rw (f, g) at e in
-        let lost : word z r.world (name.Pend l.row l.looked) ≢ pend_word (pend.Pending l.met) = λ k. let x : pend_word pend.Idle ≡ pend_word (pend.Pending l.met) = sym was ∙ k in omega (arith, x) in
+        let lost : word z r.world (name.Pend l.row l.looked) ≢ pend_word (pend.Pending l.saw) = λ k. let x : pend_word pend.Idle ≡ pend_word (pend.Pending l.saw) = sym was ∙ k in omega (arith, x) in
         inl (rw (f, g) (not_exchanged _ _ _ _ h.changed.same lost ∙ was))
     which (inr d) g = inl (entry_stays (Activity.Look Look.Help) h q j w o (λ x. d x.0) ∙ e)
     which (inl f) (inr d) = inl (entry_stays (Activity.Look Look.Help) h q j w o (λ x. d x.1) ∙ e)
@@ -155,8 +155,8 @@ published_goes z r r' s choice l a l' (stamps e) h i p = inr (inr (tt, refl))
 published_goes z r r' s choice l a l' (is_stamped version e) h i p = inr (inr (tt, refl))
 published_goes z r r' s choice l a l' (stamps_full n) h i p = inr (inl (unstamped_frozen z r r' s choice l l' n h i))
 published_goes z r r' s choice l a l' stores_version h i p = inr (inr (tt, refl))
-published_goes z r r' s choice l a l' (meets_cell c y) h i p = inr (inr (tt, refl))
-published_goes z r r' s choice l a l' (meets_none y) h i p = inr (inr (tt, refl))
+published_goes z r r' s choice l a l' (reaches_cell c y) h i p = inr (inr (tt, refl))
+published_goes z r r' s choice l a l' (sees_none y) h i p = inr (inr (tt, refl))
 published_goes z r r' s choice l a l' (key_before y) h i p = inr (inr (tt, refl))
 published_goes z r r' s choice l a l' (key_same y) h i p = inr (inr (tt, refl))
 published_goes z r r' s choice l a l' (key_after y) h i p = inr (inr (tt, refl))
@@ -195,7 +195,7 @@ entry_keeps z r r' s choice l a l' b h i q j o e = which (cases_eq j s) (i.puts.
     idle x k f = idle_or_frozen (idle_stays z r r' s choice l a l' h i q j below e (λ u g m. let y : k ≡ (Activity.Put Put.Announce) = sym f ∙ u in absurd (cc)) x)
 
     mine : j ≡ s → IsPublishedAt (slice_get r.world.locals) q j → (word z r'.world (name.Pend q j) ≡ pend_word pend.Idle) ⊎ (word z r'.world (name.Pend q j) ≡ pend_word pend.Frozen) ⊎ IsPublishedAt (slice_get r'.world.locals) q j
-    mine f p = met (published_goes z r r' s choice l a l' b h i (subst IsPublished h.activity (subst (λ (x : Local). IsPublished x.activity) is p.published)))
+    mine f p = saw (published_goes z r r' s choice l a l' b h i (subst IsPublished h.activity (subst (λ (x : Local). IsPublished x.activity) is p.published)))
       where
         is : p.local ≡ l
         is = same_Some p.local l (sym p.knows ∙ rw f h.knows)
@@ -203,10 +203,10 @@ entry_keeps z r r' s choice l a l' b h i q j o e = which (cases_eq j s) (i.puts.
         row : l.row ≡ q
         row = ap (λ x. x.row) (sym is) ∙ p.row
 
-        met : (word z r'.world (name.Pend l.row s) ≡ pend_word pend.Idle) ⊎ (word z r'.world (name.Pend l.row s) ≡ pend_word pend.Frozen) ⊎ IsPublished l'.activity × (l'.row ≡ l.row) → (word z r'.world (name.Pend q j) ≡ pend_word pend.Idle) ⊎ (word z r'.world (name.Pend q j) ≡ pend_word pend.Frozen) ⊎ IsPublishedAt (slice_get r'.world.locals) q j
-        met (inl x) = inl (rw (← row, f) x)
-        met (inr (inl x)) = inr (inl (rw (← row, f) x))
-        met (inr (inr x)) = inr (inr (here f x.0 (x.1 ∙ row)))
+        saw : (word z r'.world (name.Pend l.row s) ≡ pend_word pend.Idle) ⊎ (word z r'.world (name.Pend l.row s) ≡ pend_word pend.Frozen) ⊎ IsPublished l'.activity × (l'.row ≡ l.row) → (word z r'.world (name.Pend q j) ≡ pend_word pend.Idle) ⊎ (word z r'.world (name.Pend q j) ≡ pend_word pend.Frozen) ⊎ IsPublishedAt (slice_get r'.world.locals) q j
+        saw (inl x) = inl (rw (← row, f) x)
+        saw (inr (inl x)) = inr (inl (rw (← row, f) x))
+        saw (inr (inr x)) = inr (inr (here f x.0 (x.1 ∙ row)))
 
     which : (j ≡ s) ⊎ (j ≡ s → ⊥) → (word z r.world (name.Pend q j) ≡ pend_word pend.Idle) ⊎ (word z r.world (name.Pend q j) ≡ pend_word pend.Frozen) ⊎ IsPublishedAt (slice_get r.world.locals) q j → (word z r'.world (name.Pend q j) ≡ pend_word pend.Idle) ⊎ (word z r'.world (name.Pend q j) ≡ pend_word pend.Frozen) ⊎ IsPublishedAt (slice_get r'.world.locals) q j
     which f (inl x) = idle x a refl
@@ -220,11 +220,11 @@ look_tries : (z : Sizes) (j : ℕ) (a : Activity) (k : Local) → NextLook z j a
 look_tries z j a k (looks o) = tt
 look_tries z j a k (lists o) = tt
 
-rest_tries : (l : Local) (n : Local) → NextRest l n → IsToFreeze n.activity n
-rest_tries l n (rests m o) = tt
-rest_tries l n (answers o e) = tt
-rest_tries l n (ends_scan o e f) = tt
-rest_tries l n (scans_on q o e f g) = tt
+left_over_tries : (l : Local) (n : Local) → NextLeftOver l n → IsToFreeze n.activity n
+left_over_tries l n (goes_to_left_over m o) = tt
+left_over_tries l n (answers o e) = tt
+left_over_tries l n (ends_scan o e f) = tt
+left_over_tries l n (scans_on q o e f g) = tt
 
 -- a seat that builds new rows freezes no entry
 built_tries : (a : Activity) (k : Local) → IsAfterBuilding a → IsToFreeze a k
@@ -234,41 +234,41 @@ built_tries _ k n = tt
 -- the acting seat is to freeze an entry only where it found it idle or pending
 pub tries_own : (z : Sizes) (r r' : Run) (s : ℕ) (choice : Choice) (l : Local) (a : Activity) (l' : Local) → Arrow z (word z r.world) s choice l a l' → IsToFreeze l'.activity l'
 tries_own z r r' s choice l a l' (builds b next y t) = built_tries next.activity next (built_next z (word z r.world) choice l b next t)
-tries_own z r r' s choice l a l' (meets_stamped j c version next e n) = look_tries z _ next _ n
-tries_own z r r' s choice l a l' (meets_neither j next e n) = look_tries z _ next _ n
-tries_own z r r' s choice l a l' (is_passed next e n) = look_tries z _ next _ n
+tries_own z r r' s choice l a l' (sees_stamped j c version next e n) = look_tries z _ next _ n
+tries_own z r r' s choice l a l' (sees_neither j next e n) = look_tries z _ next _ n
+tries_own z r r' s choice l a l' (is_gone_by next e n) = look_tries z _ next _ n
 tries_own z r r' s choice l a l' (helps next e n) = look_tries z _ next _ n
 tries_own z r r' s choice l a l' (finds_stamped c version next e n) = look_tries z _ next _ n
 tries_own z r r' s choice l a l' (finds_other next e n) = look_tries z _ next _ n
-tries_own z r r' s choice l a l' (list_ends next e n) = rest_tries _ next n
-tries_own z r r' s choice l a l' (key_above next e n) = rest_tries _ next n
-tries_own z r r' s choice l a l' (rest_passed next e n) = rest_tries _ next n
-tries_own z r r' s choice l a l' (gathers_rest next n) = rest_tries _ next n
+tries_own z r r' s choice l a l' (list_ends next e n) = left_over_tries _ next n
+tries_own z r r' s choice l a l' (key_above next e n) = left_over_tries _ next n
+tries_own z r r' s choice l a l' (left_over_gone_by next e n) = left_over_tries _ next n
+tries_own z r r' s choice l a l' (gathers_left_over next n) = left_over_tries _ next n
 tries_own z r r' s choice l a l' _ = tt
 
 -- The attempt that a reader is to help.
 
-look_meets : {A : Type 0} (z : Sizes) (j : ℕ) (a : Activity) → NextLook z j a → HasMet a → A
-look_meets z j a (looks o) p = absurd p
-look_meets z j a (lists o) p = absurd p
+look_sees : {A : Type 0} (z : Sizes) (j : ℕ) (a : Activity) → NextLook z j a → HasSeenPending a → A
+look_sees z j a (looks o) p = absurd p
+look_sees z j a (lists o) p = absurd p
 
-cell_meets : {A : Type 0} (l : Local) (n : Local) → NextRest l n → HasMet n.activity → A
-cell_meets l n (rests m o) p = absurd p
-cell_meets l n (answers o e) p = absurd p
-cell_meets l n (ends_scan o e f) p = absurd p
-cell_meets l n (scans_on q o e f g) p = absurd p
+cell_sees : {A : Type 0} (l : Local) (n : Local) → NextLeftOver l n → HasSeenPending n.activity → A
+cell_sees l n (goes_to_left_over m o) p = absurd p
+cell_sees l n (answers o e) p = absurd p
+cell_sees l n (ends_scan o e f) p = absurd p
+cell_sees l n (scans_on q o e f g) p = absurd p
 
-built_meets : {A : Type 0} (a : Activity) → IsAfterBuilding a → HasMet a → A
-built_meets (Activity.Look Look.Key) n p = absurd n
-built_meets (Activity.Look Look.Clock) n p = absurd n
-built_meets (Activity.Look Look.Help) n p = absurd n
-built_meets (Activity.Rebalance (Rebalance.Seek Seek.Next)) n p = absurd p
-built_meets (Activity.Rebalance (Rebalance.Replace Replace.First)) n p = absurd p
-built_meets _ n p = absurd p
+built_sees : {A : Type 0} (a : Activity) → IsAfterBuilding a → HasSeenPending a → A
+built_sees (Activity.Look Look.Key) n p = absurd n
+built_sees (Activity.Look Look.Clock) n p = absurd n
+built_sees (Activity.Look Look.Help) n p = absurd n
+built_sees (Activity.Rebalance (Rebalance.Seek Seek.Next)) n p = absurd p
+built_sees (Activity.Rebalance (Rebalance.Replace Replace.First)) n p = absurd p
+built_sees _ n p = absurd p
 
--- a reader meets a pending entry: it is that of the seat's own attempt
-pending_met : (z : Sizes) (r r' : Run) (s : ℕ) (choice : Choice) (l : Local) (j c : ℕ) → word z r.world (name.Pend l.row j) ≡ pend_word (pend.Pending c) → Happens z r r' s choice l (record l { looked = j; met = c; activity = Activity.Look Look.Key }) (Activity.Look (Look.Entry j)) → Below z r → Step r.history r'.history (log_entry z r (Activity.Look (Look.Entry j)) s choice l) → Helps r'.history r'.origin (Activity.Look Look.Key) (record l { looked = j; met = c; activity = Activity.Look Look.Key }) (r'.seats s)
-pending_met z r r' s choice l j c e h i st = record {
+-- a reader sees a pending entry: it is that of the seat's own attempt
+pending_seen : (z : Sizes) (r r' : Run) (s : ℕ) (choice : Choice) (l : Local) (j c : ℕ) → word z r.world (name.Pend l.row j) ≡ pend_word (pend.Pending c) → Happens z r r' s choice l (record l { looked = j; saw = c; activity = Activity.Look Look.Key }) (Activity.Look (Look.Entry j)) → Below z r → Step r.history r'.history (log_entry z r (Activity.Look (Look.Entry j)) s choice l) → Helps r'.history r'.origin (Activity.Look Look.Key) (record l { looked = j; saw = c; activity = Activity.Look Look.Key }) (r'.seats s)
+pending_seen z r r' s choice l j c e h i st = record {
   put = (r.seats j).own;
   origin = goes.origin l.row c (r.seats j).own linked (rw (w.row, sym own.cell ∙ w.cell) at (own_origin i.puts j w.local w.knows (published_puts w.local.activity w.published)));
   seat = same.seat ∙ own.seat;
@@ -288,59 +288,59 @@ pending_met z r r' s choice l j c e h i st = record {
     own = i.puts.owns j w.local w.knows (published_puts w.local.activity w.published)
 
     goes : GoesOn r.history r'.history r.origin r'.origin r.ledger.rows
-    goes = goes_on_by z r r' s choice l (Activity.Look (Look.Entry j)) (record l { looked = j; met = c; activity = Activity.Look Look.Key }) h i st
+    goes = goes_on_by z r r' s choice l (Activity.Look (Look.Entry j)) (record l { looked = j; saw = c; activity = Activity.Look Look.Key }) h i st
 
     same : SameAttempt r.history r'.history (r.seats j).own
     same = goes.attempts (r.seats j).own own.within
 
--- a reader that has met an entry is at a row
-pub met_at_row : (a : Activity) → HasMet a → IsAtRow a
-met_at_row (Activity.Look Look.Key) m = tt
-met_at_row (Activity.Look Look.Clock) m = tt
-met_at_row (Activity.Look Look.Help) m = tt
-met_at_row (Activity.Rebalance (Rebalance.Seek Seek.Next)) m = absurd m
-met_at_row (Activity.Rebalance (Rebalance.Replace Replace.First)) m = absurd m
-met_at_row _ m = absurd m
+-- a reader that has seen an entry is at a row
+pub saw_at_row : (a : Activity) → HasSeenPending a → IsAtRow a
+saw_at_row (Activity.Look Look.Key) m = tt
+saw_at_row (Activity.Look Look.Clock) m = tt
+saw_at_row (Activity.Look Look.Help) m = tt
+saw_at_row (Activity.Rebalance (Rebalance.Seek Seek.Next)) m = absurd m
+saw_at_row (Activity.Rebalance (Rebalance.Replace Replace.First)) m = absurd m
+saw_at_row _ m = absurd m
 
--- the attempt that was met, after an event of the reader
-module _ (z : Sizes) (r r' : Run) (s : ℕ) (choice : Choice) (l : Local) (a : Activity) (l' : Local) (h : Happens z r r' s choice l l' a) (i : Below z r) (st : Step r.history r'.history (log_entry z r a s choice l)) (m : HasMet a) where
+-- the attempt that was seen, after an event of the reader
+module _ (z : Sizes) (r r' : Run) (s : ℕ) (choice : Choice) (l : Local) (a : Activity) (l' : Local) (h : Happens z r r' s choice l l' a) (i : Below z r) (st : Step r.history r'.history (log_entry z r a s choice l)) (m : HasSeenPending a) where
   helped : Helps r.history r.origin l.activity l (r.seats s)
-  helped = i.puts.helps s l h.knows (subst HasMet (sym h.activity) m)
+  helped = i.puts.helps s l h.knows (subst HasSeenPending (sym h.activity) m)
 
-  met_within : helped.put < length r.history.attempts
-  met_within = announced_within r.history helped.put helped.announced
+  saw_within : helped.put < length r.history.attempts
+  saw_within = announced_within r.history helped.put helped.announced
 
   its_row : WasLinked r.ledger.rows l.row
-  its_row = row_linked z r i.shape s l h.knows (met_at_row l.activity (subst HasMet (sym h.activity) m))
+  its_row = row_linked z r i.shape s l h.knows (saw_at_row l.activity (subst HasSeenPending (sym h.activity) m))
 
-  -- the key of the attempt stands in the cell that was met, be it its own or a copy
-  met_key : key_in (word z r.world) l.row l.met ≡ (attempt r.history helped.put).key
-  met_key = cell_key i.puts l.row l.met helped.put (i.puts.places.owner l.row l.met helped.put its_row (i.shape.sane.locals s l h.knows).ranges.met helped.origin) helped.announced
+  -- the key of the attempt stands in the cell that was seen, be it its own or a copy
+  saw_key : key_in (word z r.world) l.row l.saw ≡ (attempt r.history helped.put).key
+  saw_key = cell_key i.puts l.row l.saw helped.put (i.puts.places.owner l.row l.saw helped.put its_row (i.shape.sane.locals s l h.knows).ranges.saw helped.origin) helped.announced
 
   goes : GoesOn r.history r'.history r.origin r'.origin r.ledger.rows
   goes = goes_on_by z r r' s choice l a l' h i st
 
-  met_origin : r'.origin l.row l.met ≡ Some helped.put
-  met_origin = goes.origin l.row l.met helped.put its_row helped.origin
+  saw_origin : r'.origin l.row l.saw ≡ Some helped.put
+  saw_origin = goes.origin l.row l.saw helped.put its_row helped.origin
 
-  met_same : SameAttempt r.history r'.history helped.put
-  met_same = goes.attempts helped.put met_within
+  saw_same : SameAttempt r.history r'.history helped.put
+  saw_same = goes.attempts helped.put saw_within
 
-  met_announced : ((attempt r'.history helped.put).is_announced ≡ true) × ((attempt r'.history helped.put).announced ≡ (attempt r.history helped.put).announced)
-  met_announced = (goes.grows.old helped.put met_within).announced helped.announced
+  saw_announced : ((attempt r'.history helped.put).is_announced ≡ true) × ((attempt r'.history helped.put).announced ≡ (attempt r.history helped.put).announced)
+  saw_announced = (goes.grows.old helped.put saw_within).announced helped.announced
 
 -- its key is one that the reader reads
-key_wanted : (z : Sizes) (r r' : Run) (s : ℕ) (choice : Choice) (l : Local) → is_in_range l.call (key_of_word (word z r.world (name.Key l.row l.met))) ≡ true → Happens z r r' s choice l (record l { activity = Activity.Look Look.Clock }) (Activity.Look Look.Key) → Below z r → Step r.history r'.history (log_entry z r (Activity.Look Look.Key) s choice l) → Helps r'.history r'.origin (Activity.Look Look.Clock) (record l { activity = Activity.Look Look.Clock }) (r'.seats s)
+key_wanted : (z : Sizes) (r r' : Run) (s : ℕ) (choice : Choice) (l : Local) → is_in_range l.call (key_of_word (word z r.world (name.Key l.row l.saw))) ≡ true → Happens z r r' s choice l (record l { activity = Activity.Look Look.Clock }) (Activity.Look Look.Key) → Below z r → Step r.history r'.history (log_entry z r (Activity.Look Look.Key) s choice l) → Helps r'.history r'.origin (Activity.Look Look.Clock) (record l { activity = Activity.Look Look.Clock }) (r'.seats s)
 key_wanted z r r' s choice l e h i st =
     let l' : Local = record l { activity = Activity.Look Look.Clock } in
     let k = helped z r r' s choice l (Activity.Look Look.Key) l' h i st tt in
-    let same = met_same z r r' s choice l (Activity.Look Look.Key) l' h i st tt in
+    let same = saw_same z r r' s choice l (Activity.Look Look.Key) l' h i st tt in
     record {
       put = k.put;
-      origin = met_origin z r r' s choice l (Activity.Look Look.Key) l' h i st tt;
+      origin = saw_origin z r r' s choice l (Activity.Look Look.Key) l' h i st tt;
       seat = same.seat ∙ k.seat;
-      announced = (met_announced z r r' s choice l (Activity.Look Look.Key) l' h i st tt).0;
-      key = λ x. rw (same.key, ← met_key z r r' s choice l (Activity.Look Look.Key) l' h i st tt) e;
+      announced = (saw_announced z r r' s choice l (Activity.Look Look.Key) l' h i st tt).0;
+      key = λ x. rw (same.key, ← saw_key z r r' s choice l (Activity.Look Look.Key) l' h i st tt) e;
       after = λ x. absurd x;
       loaded = λ x. absurd x;
     }
@@ -350,12 +350,12 @@ loaded_to_help : (z : Sizes) (r r' : Run) (s : ℕ) (choice : Choice) (l : Local
 loaded_to_help z r r' s choice l h i st =
     let l' : Local = record l { helping = word z r.world name.Clock; activity = Activity.Look Look.Help } in
     let k = helped z r r' s choice l (Activity.Look Look.Clock) l' h i st tt in
-    let within = met_within z r r' s choice l (Activity.Look Look.Clock) l' h i st tt in
-    let same = met_same z r r' s choice l (Activity.Look Look.Clock) l' h i st tt in
-    let announced = met_announced z r r' s choice l (Activity.Look Look.Clock) l' h i st tt in
+    let within = saw_within z r r' s choice l (Activity.Look Look.Clock) l' h i st tt in
+    let same = saw_same z r r' s choice l (Activity.Look Look.Clock) l' h i st tt in
+    let announced = saw_announced z r r' s choice l (Activity.Look Look.Clock) l' h i st tt in
     subst (Helps r'.history r'.origin (Activity.Look Look.Help) l') (sym h.log) (record {
       put = k.put;
-      origin = met_origin z r r' s choice l (Activity.Look Look.Clock) l' h i st tt;
+      origin = saw_origin z r r' s choice l (Activity.Look Look.Clock) l' h i st tt;
       seat = same.seat ∙ k.seat;
       announced = announced.0;
       key = λ x. rw same.key (k.key (subst IsToHelp (sym h.activity) tt));
@@ -364,19 +364,19 @@ loaded_to_help z r r' s choice l h i st =
     })
 
 -- the attempt that the acting seat is to help
-pub helps_own : (z : Sizes) (r r' : Run) (s : ℕ) (choice : Choice) (l : Local) (a : Activity) (l' : Local) → Arrow z (word z r.world) s choice l a l' → Happens z r r' s choice l l' a → Below z r → Step r.history r'.history (log_entry z r a s choice l) → HasMet l'.activity → Helps r'.history r'.origin l'.activity l' (r'.seats s)
-helps_own z r r' s choice l a l' (builds b next y t) h i st p = built_meets next.activity (built_next z (word z r.world) choice l b next t) p
-helps_own z r r' s choice l a l' (meets_pending j c e) h i st p = pending_met z r r' s choice l j c (sym (pend_word_of _ _ e)) h i st
+pub helps_own : (z : Sizes) (r r' : Run) (s : ℕ) (choice : Choice) (l : Local) (a : Activity) (l' : Local) → Arrow z (word z r.world) s choice l a l' → Happens z r r' s choice l l' a → Below z r → Step r.history r'.history (log_entry z r a s choice l) → HasSeenPending l'.activity → Helps r'.history r'.origin l'.activity l' (r'.seats s)
+helps_own z r r' s choice l a l' (builds b next y t) h i st p = built_sees next.activity (built_next z (word z r.world) choice l b next t) p
+helps_own z r r' s choice l a l' (sees_pending j c e) h i st p = pending_seen z r r' s choice l j c (sym (pend_word_of _ _ e)) h i st
 helps_own z r r' s choice l a l' (is_wanted e) h i st p = key_wanted z r r' s choice l e h i st
 helps_own z r r' s choice l a l' loads_to_help h i st p = loaded_to_help z r r' s choice l h i st
-helps_own z r r' s choice l a l' (meets_stamped j c version next e n) h i st p = look_meets z _ next n p
-helps_own z r r' s choice l a l' (meets_neither j next e n) h i st p = look_meets z _ next n p
-helps_own z r r' s choice l a l' (is_passed next e n) h i st p = look_meets z _ next n p
-helps_own z r r' s choice l a l' (helps next e n) h i st p = look_meets z _ next n p
-helps_own z r r' s choice l a l' (finds_stamped c version next e n) h i st p = look_meets z _ next n p
-helps_own z r r' s choice l a l' (finds_other next e n) h i st p = look_meets z _ next n p
-helps_own z r r' s choice l a l' (list_ends next e n) h i st p = cell_meets _ next n p
-helps_own z r r' s choice l a l' (key_above next e n) h i st p = cell_meets _ next n p
-helps_own z r r' s choice l a l' (rest_passed next e n) h i st p = cell_meets _ next n p
-helps_own z r r' s choice l a l' (gathers_rest next n) h i st p = cell_meets _ next n p
+helps_own z r r' s choice l a l' (sees_stamped j c version next e n) h i st p = look_sees z _ next n p
+helps_own z r r' s choice l a l' (sees_neither j next e n) h i st p = look_sees z _ next n p
+helps_own z r r' s choice l a l' (is_gone_by next e n) h i st p = look_sees z _ next n p
+helps_own z r r' s choice l a l' (helps next e n) h i st p = look_sees z _ next n p
+helps_own z r r' s choice l a l' (finds_stamped c version next e n) h i st p = look_sees z _ next n p
+helps_own z r r' s choice l a l' (finds_other next e n) h i st p = look_sees z _ next n p
+helps_own z r r' s choice l a l' (list_ends next e n) h i st p = cell_sees _ next n p
+helps_own z r r' s choice l a l' (key_above next e n) h i st p = cell_sees _ next n p
+helps_own z r r' s choice l a l' (left_over_gone_by next e n) h i st p = cell_sees _ next n p
+helps_own z r r' s choice l a l' (gathers_left_over next n) h i st p = cell_sees _ next n p
 helps_own z r r' s choice l a l' _ h i st p = absurd p

@@ -1,5 +1,5 @@
 -- Every event keeps what holds of the rows that seats freeze: the count stays frozen, and each
--- entry that was passed is settled. A settled entry is never pending again: a frozen one stays so,
+-- entry that was gone by is settled. A settled entry is never pending again: a frozen one stays so,
 -- a stamped one is cleared by its seat alone, and that seat gets no other cell of a row whose count
 -- is frozen.
 use Rattle.std.proofs.Common.{ℕ, ◌≡◌, ◌≢◌, ◌⊎◌, inl, inr, ◌+◌, ◌<◌, ◌≤◌, true, false, Option, Some, None, arith, refl, sym, ◌∙◌, subst, slice_get}
@@ -30,9 +30,9 @@ use Rattle.kw_core.specs.Run.{Run}
 use Rattle.kw_core.specs.Stages.{IsBalancing, IsFresh}
 use Rattle.kw_core.specs.Words.{Words}
 use Rattle.kw_core.proofs.Building.{Building, IsBuilding, makes_normal, makes_last_normal, draws_number, retires_row, retires_and_leaves}
-use Rattle.kw_core.proofs.Arrows.{builds, Arrow, NextLook, looks, lists, NextRest, rests, answers, ends_scan, scans_on}
-use Rattle.kw_core.proofs.Arrows.{meets_stamped, meets_neither, is_passed, helps, finds_stamped, finds_other, list_ends, key_above, rest_passed, gathers_rest, takes_cell, stores_key, stores_value}
-use Rattle.kw_core.proofs.Arrows.{freezes_count, meets_idle, meets_unstamped, remembers, remembers_last, meets_frozen, meets_frozen_last, freezes_entry, freezes_last, looks_again, meets_quiet, meets_quiet_last, helps_scan, meets_drawn, meets_drawn_last, draws_for, settles_scan, settles_last, finds_drawn, finds_drawn_last, finds_no_scan, finds_no_scan_last}
+use Rattle.kw_core.proofs.Arrows.{builds, Arrow, NextLook, looks, lists, NextLeftOver, goes_to_left_over, answers, ends_scan, scans_on}
+use Rattle.kw_core.proofs.Arrows.{sees_stamped, sees_neither, is_gone_by, helps, finds_stamped, finds_other, list_ends, key_above, left_over_gone_by, gathers_left_over, takes_cell, stores_key, stores_value}
+use Rattle.kw_core.proofs.Arrows.{freezes_count, sees_idle, sees_unstamped, remembers, remembers_last, sees_frozen, sees_frozen_last, freezes_entry, freezes_last, looks_again, sees_quiet, sees_quiet_last, helps_scan, sees_drawn, sees_drawn_last, draws_for, settles_scan, settles_last, finds_drawn, finds_drawn_last, finds_no_scan, finds_no_scan_last}
 use Rattle.kw_core.proofs.Arrows.{take_leads, takes_left, takes_no_more, takes_key, takes_version, keeps_taken, takes_left_key, keeps_left, keeps_no_more}
 use Rattle.kw_core.proofs.FreezeFrame.{entry_frozen, entry_left, freezes_given}
 use Rattle.kw_core.proofs.BuiltNext.{IsAfterBuilding, built_keeps, built_next}
@@ -81,7 +81,7 @@ stamped_stays : (z : Sizes) (r r' : Run) (s : ℕ) (choice : Choice) (l : Local)
     (word z r'.world (name.Pend q j) ≡ pend_word (pend.Stamped c n)) ⊎ (a ≡ Activity.Put Put.Clear) × (q ≡ l.row) × (j ≡ s) × (word z r'.world (name.Pend q j) ≡ pend_word pend.Idle)
 stamped_stays z r r' s choice l (Activity.Put Put.Announce) l' h i q j c n b o e = inl (kept_at (word z r.world) (word z r'.world) l.row s q j _ (λ y. not_exchanged _ _ _ _ h.changed.same (λ u. not_idle c n (sym y ∙ u)) ∙ y) (λ d. linked_entry (Activity.Put Put.Announce) h i.shape q j b o (λ x u k. d u k) (λ x u k. x) (λ x u. x)) e)
 stamped_stays z r r' s choice l (Activity.Put Put.Stamp) l' h i q j c n b o e = inl (kept_at (word z r.world) (word z r'.world) l.row s q j _ (λ y. not_exchanged _ _ _ _ h.changed.same (λ u. not_pending c n l.cell (sym y ∙ u)) ∙ y) (λ d. linked_entry (Activity.Put Put.Stamp) h i.shape q j b o (λ x u k. d u k) (λ x u k. x) (λ x u. x)) e)
-stamped_stays z r r' s choice l (Activity.Look Look.Help) l' h i q j c n b o e = inl (kept_at (word z r.world) (word z r'.world) l.row l.looked q j _ (λ y. not_exchanged _ _ _ _ h.changed.same (λ u. not_pending c n l.met (sym y ∙ u)) ∙ y) (λ d. linked_entry (Activity.Look Look.Help) h i.shape q j b o (λ x u k. x) (λ x u k. d u k) (λ x u. x)) e)
+stamped_stays z r r' s choice l (Activity.Look Look.Help) l' h i q j c n b o e = inl (kept_at (word z r.world) (word z r'.world) l.row l.looked q j _ (λ y. not_exchanged _ _ _ _ h.changed.same (λ u. not_pending c n l.saw (sym y ∙ u)) ∙ y) (λ d. linked_entry (Activity.Look Look.Help) h i.shape q j b o (λ x u k. x) (λ x u k. d u k) (λ x u. x)) e)
 stamped_stays z r r' s choice l (Activity.Rebalance (Rebalance.Freeze (Freeze.Entry m))) l' h i q j c n b o e = inl (kept_at (word z r.world) (word z r'.world) l.row m q j _ (λ y. entry_left m h (λ u. not_unsettled l.rebalance.entry c n unsettled (sym y ∙ u)) ∙ y) (λ d. linked_entry (Activity.Rebalance (Rebalance.Freeze (Freeze.Entry m))) h i.shape q j b o (λ x u k. x) (λ x u k. x) (λ x u. d u x)) e)
   where
     unsettled : IsUnsettled l.rebalance.entry
@@ -102,16 +102,16 @@ fresh_from z v s choice l a l' (builds b next y t) p = built_puts next.activity 
 fresh_from z v s choice l a l' (takes_cell m) p = (refl, inr (refl, m))
 fresh_from z v s choice l a l' stores_key p = (refl, inl tt)
 fresh_from z v s choice l a l' stores_value p = (refl, inl tt)
-fresh_from z v s choice l a l' (meets_stamped j c version next e n) p = look_puts z _ next n (fresh_puts next p)
-fresh_from z v s choice l a l' (meets_neither j next e n) p = look_puts z _ next n (fresh_puts next p)
-fresh_from z v s choice l a l' (is_passed next e n) p = look_puts z _ next n (fresh_puts next p)
+fresh_from z v s choice l a l' (sees_stamped j c version next e n) p = look_puts z _ next n (fresh_puts next p)
+fresh_from z v s choice l a l' (sees_neither j next e n) p = look_puts z _ next n (fresh_puts next p)
+fresh_from z v s choice l a l' (is_gone_by next e n) p = look_puts z _ next n (fresh_puts next p)
 fresh_from z v s choice l a l' (helps next e n) p = look_puts z _ next n (fresh_puts next p)
 fresh_from z v s choice l a l' (finds_stamped c version next e n) p = look_puts z _ next n (fresh_puts next p)
 fresh_from z v s choice l a l' (finds_other next e n) p = look_puts z _ next n (fresh_puts next p)
 fresh_from z v s choice l a l' (list_ends next e n) p = cell_puts _ next n (fresh_puts next.activity p)
 fresh_from z v s choice l a l' (key_above next e n) p = cell_puts _ next n (fresh_puts next.activity p)
-fresh_from z v s choice l a l' (rest_passed next e n) p = cell_puts _ next n (fresh_puts next.activity p)
-fresh_from z v s choice l a l' (gathers_rest next n) p = cell_puts _ next n (fresh_puts next.activity p)
+fresh_from z v s choice l a l' (left_over_gone_by next e n) p = cell_puts _ next n (fresh_puts next.activity p)
+fresh_from z v s choice l a l' (gathers_left_over next n) p = cell_puts _ next n (fresh_puts next.activity p)
 fresh_from z v s choice l a l' _ p = absurd p
 
 -- A seat that has frozen its row.
@@ -160,11 +160,11 @@ built_frozen z v choice l a k (retires_row nd) x = absurd x
 built_frozen z v choice l a k (retires_and_leaves dn) x = absurd x
 built_frozen z v choice l a k _ x = tt
 
--- and it has passed all entries
-pub all_passed : (z : Sizes) (a : Activity) → IsBuilding a → frozen_by z a ≡ z.seats
-all_passed z (Activity.Rebalance (Rebalance.Freeze (Freeze.Look i))) b = absurd b
-all_passed z (Activity.Rebalance (Rebalance.Freeze (Freeze.Entry i))) b = absurd b
-all_passed z _ b = refl
+-- and it has gone by all entries
+pub all_gone_by : (z : Sizes) (a : Activity) → IsBuilding a → frozen_by z a ≡ z.seats
+all_gone_by z (Activity.Rebalance (Rebalance.Freeze (Freeze.Look i))) b = absurd b
+all_gone_by z (Activity.Rebalance (Rebalance.Freeze (Freeze.Entry i))) b = absurd b
+all_gone_by z _ b = refl
 
 -- a frozen row gives no cell
 pub frozen_no_room : (z : Sizes) (x : Option Counted) → has_frozen x ≡ true → has_room z x ≡ false
@@ -236,9 +236,9 @@ module _ (z : Sizes) (r r' : Run) (s : ℕ) (choice : Choice) (l : Local) (a : A
     was_frozen : IsFrozen (word z r.world) l.row
     was_frozen = (i.puts.freezes s l h.knows).count (subst HasFrozen (sym h.activity) p)
 
-    -- an entry that it had passed
-    passed : (j : ℕ) → j < z.seats → j < frozen_by z a → IsSettled (word z r'.world) (slice_get r'.world.locals) l.row j
-    passed j o w = settled_stays l.row j its_row o was_frozen ((i.puts.freezes s l h.knows).settled (subst HasFrozen (sym h.activity) p) j o (subst (λ b. j < frozen_by z b) (sym h.activity) w))
+    -- an entry that it had gone by
+    gone_by : (j : ℕ) → j < z.seats → j < frozen_by z a → IsSettled (word z r'.world) (slice_get r'.world.locals) l.row j
+    gone_by j o w = settled_stays l.row j its_row o was_frozen ((i.puts.freezes s l h.knows).settled (subst HasFrozen (sym h.activity) p) j o (subst (λ b. j < frozen_by z b) (sym h.activity) w))
 
     -- what it knows then
     goes_on : (b : Activity) (k : Local) → k.row ≡ l.row → ((j : ℕ) → j < z.seats → j < frozen_by z b → IsSettled (word z r'.world) (slice_get r'.world.locals) l.row j) → Freezes z (word z r'.world) (slice_get r'.world.locals) b k
@@ -247,12 +247,12 @@ module _ (z : Sizes) (r r' : Run) (s : ℕ) (choice : Choice) (l : Local) (a : A
       settled = λ x j o w. subst (λ q. IsSettled (word z r'.world) (slice_get r'.world.locals) q j) (sym e) (f j o w);
     }
 
-    -- one more entry is passed, which is settled after the event
+    -- one more entry is gone by, which is settled after the event
     one_more : (m n : ℕ) → m ≤ frozen_by z a → IsSettled (word z r'.world) (slice_get r'.world.locals) l.row m → n ≤ m + 1 → (j : ℕ) → j < z.seats → j < n → IsSettled (word z r'.world) (slice_get r'.world.locals) l.row j
     one_more m n u x y j o w = which (cases_lt j m)
       where
         which : (j < m) ⊎ (m ≤ j) → IsSettled (word z r'.world) (slice_get r'.world.locals) l.row j
-        which (inl g) = passed j o (omega (arith, g, u))
+        which (inl g) = gone_by j o (omega (arith, g, u))
         which (inr g) = let e : j ≡ m = omega (arith, g, y, w) in rw e x
 
   -- a seat that has frozen no row
@@ -265,11 +265,11 @@ pub look_freezes : (z : Sizes) (j : ℕ) (a : Activity) → NextLook z j a → H
 look_freezes z j a (looks o) p = p
 look_freezes z j a (lists o) p = p
 
-pub rest_freezes : (l : Local) (n : Local) → NextRest l n → HasFrozen n.activity → ⊥
-rest_freezes l n (rests m o) p = p
-rest_freezes l n (answers o e) p = p
-rest_freezes l n (ends_scan o e f) p = p
-rest_freezes l n (scans_on q o e f g) p = p
+pub left_over_freezes : (l : Local) (n : Local) → NextLeftOver l n → HasFrozen n.activity → ⊥
+left_over_freezes l n (goes_to_left_over m o) p = p
+left_over_freezes l n (answers o e) p = p
+left_over_freezes l n (ends_scan o e f) p = p
+left_over_freezes l n (scans_on q o e f g) p = p
 
 -- a count that is frozen now
 frozen_now : (z : Sizes) (r r' : Run) (s : ℕ) (choice : Choice) (l l' : Local) → Happens z r r' s choice l l' (Activity.Rebalance (Rebalance.Freeze Freeze.Count)) → Below z r → IsFrozen (word z r'.world) l.row
@@ -284,9 +284,9 @@ frozen_now z r r' s choice l l' h i = by _ refl (i.shape.sane.each (name.Count l
 looked_settled : (z : Sizes) (r r' : Run) (s : ℕ) (choice : Choice) (l l' : Local) (m : ℕ) → Happens z r r' s choice l l' (Activity.Rebalance (Rebalance.Freeze (Freeze.Look m))) → Below z r → m < z.seats → IsSettled (word z r.world) (slice_get r.world.locals) l.row m → IsSettled (word z r'.world) (slice_get r'.world.locals) l.row m
 looked_settled z r r' s choice l l' m h i o x = settled_stays z r r' s choice l (Activity.Rebalance (Rebalance.Freeze (Freeze.Look m))) l' h i l.row m (its_row z r r' s choice l (Activity.Rebalance (Rebalance.Freeze (Freeze.Look m))) l' h i tt) o (was_frozen z r r' s choice l (Activity.Rebalance (Rebalance.Freeze (Freeze.Look m))) l' h i tt) x
 
-met_frozen : (z : Sizes) (r : Run) (s : ℕ) (l : Local) (m : ℕ) → Below z r → slice_get r.world.locals s ≡ Some l → m < z.seats → (pend_of (word z r.world (name.Pend l.row m)) ≡ Some pend.Frozen) ⊎ (pend_of (word z r.world (name.Pend l.row m)) ≡ None) → IsSettled (word z r.world) (slice_get r.world.locals) l.row m
-met_frozen z r s l m i k o (inl e) = settled_frozen (sym (pend_word_of _ _ e))
-met_frozen z r s l m i k o (inr e) = absurd (subst (IsEntry z) e (i.shape.sane.each (name.Pend l.row m) ((i.shape.sane.locals s l k).below.row, o)))
+saw_frozen : (z : Sizes) (r : Run) (s : ℕ) (l : Local) (m : ℕ) → Below z r → slice_get r.world.locals s ≡ Some l → m < z.seats → (pend_of (word z r.world (name.Pend l.row m)) ≡ Some pend.Frozen) ⊎ (pend_of (word z r.world (name.Pend l.row m)) ≡ None) → IsSettled (word z r.world) (slice_get r.world.locals) l.row m
+saw_frozen z r s l m i k o (inl e) = settled_frozen (sym (pend_word_of _ _ e))
+saw_frozen z r s l m i k o (inr e) = absurd (subst (IsEntry z) e (i.shape.sane.each (name.Pend l.row m) ((i.shape.sane.locals s l k).below.row, o)))
 
 -- what the acting seat has frozen
 pub freezes_own : (z : Sizes) (r r' : Run) (s : ℕ) (choice : Choice) (l : Local) (a : Activity) (l' : Local) → Arrow z (word z r.world) s choice l a l' → Happens z r r' s choice l l' a → Below z r → Freezes z (word z r'.world) (slice_get r'.world.locals) l'.activity l'
@@ -296,46 +296,46 @@ freezes_own z r r' s choice l a l' (builds b next y t) h i = record { count = λ
     builds_on x =
         let p = built_frozen z (word z r.world) choice l b next t x in
         let keeps = built_keeps z (word z r.world) choice l b next t (frozen_builds next.activity (built_next z (word z r.world) choice l b next t) x) in
-        goes_on z r r' s choice l b next h i p next.activity next keeps.row (λ j u w. passed z r r' s choice l b next h i p j u (omega (arith, u, all_passed z b y)))
+        goes_on z r r' s choice l b next h i p next.activity next keeps.row (λ j u w. gone_by z r r' s choice l b next h i p j u (omega (arith, u, all_gone_by z b y)))
 freezes_own z r r' s choice l a l' freezes_count h i = record { count = λ x. frozen_now z r r' s choice l l' h i; settled = λ x j o w. absurd (omega (arith, w)) }
-freezes_own z r r' s choice l a l' (meets_idle m e) h i = goes_on z r r' s choice l (Activity.Rebalance (Rebalance.Freeze (Freeze.Look m))) l' h i tt _ l' refl (λ j o w. passed z r r' s choice l (Activity.Rebalance (Rebalance.Freeze (Freeze.Look m))) l' h i tt j o w)
-freezes_own z r r' s choice l a l' (meets_unstamped m c e) h i = goes_on z r r' s choice l (Activity.Rebalance (Rebalance.Freeze (Freeze.Look m))) l' h i tt _ l' refl (λ j o w. passed z r r' s choice l (Activity.Rebalance (Rebalance.Freeze (Freeze.Look m))) l' h i tt j o w)
+freezes_own z r r' s choice l a l' (sees_idle m e) h i = goes_on z r r' s choice l (Activity.Rebalance (Rebalance.Freeze (Freeze.Look m))) l' h i tt _ l' refl (λ j o w. gone_by z r r' s choice l (Activity.Rebalance (Rebalance.Freeze (Freeze.Look m))) l' h i tt j o w)
+freezes_own z r r' s choice l a l' (sees_unstamped m c e) h i = goes_on z r r' s choice l (Activity.Rebalance (Rebalance.Freeze (Freeze.Look m))) l' h i tt _ l' refl (λ j o w. gone_by z r r' s choice l (Activity.Rebalance (Rebalance.Freeze (Freeze.Look m))) l' h i tt j o w)
 freezes_own z r r' s choice l a l' (remembers m c version e u) h i = goes_on z r r' s choice l (Activity.Rebalance (Rebalance.Freeze (Freeze.Look m))) l' h i tt _ l' refl (one_more z r r' s choice l (Activity.Rebalance (Rebalance.Freeze (Freeze.Look m))) l' h i tt m (m + 1) (omega arith) (looked_settled z r r' s choice l l' m h i (subst (IsActivity z) h.activity (i.shape.sane.locals s l h.knows).ranges.activity) (settled_stamped c version (sym (pend_word_of _ _ e)))) (omega arith))
 freezes_own z r r' s choice l a l' (remembers_last m c version e u) h i = goes_on z r r' s choice l (Activity.Rebalance (Rebalance.Freeze (Freeze.Look m))) l' h i tt _ l' refl (one_more z r r' s choice l (Activity.Rebalance (Rebalance.Freeze (Freeze.Look m))) l' h i tt m z.seats (omega arith) (looked_settled z r r' s choice l l' m h i (subst (IsActivity z) h.activity (i.shape.sane.locals s l h.knows).ranges.activity) (settled_stamped c version (sym (pend_word_of _ _ e)))) (u))
-freezes_own z r r' s choice l a l' (meets_frozen m e u) h i = goes_on z r r' s choice l (Activity.Rebalance (Rebalance.Freeze (Freeze.Look m))) l' h i tt _ l' refl (one_more z r r' s choice l (Activity.Rebalance (Rebalance.Freeze (Freeze.Look m))) l' h i tt m (m + 1) (omega arith) (looked_settled z r r' s choice l l' m h i (subst (IsActivity z) h.activity (i.shape.sane.locals s l h.knows).ranges.activity) (met_frozen z r s l m i h.knows (subst (IsActivity z) h.activity (i.shape.sane.locals s l h.knows).ranges.activity) e)) (omega arith))
-freezes_own z r r' s choice l a l' (meets_frozen_last m e u) h i = goes_on z r r' s choice l (Activity.Rebalance (Rebalance.Freeze (Freeze.Look m))) l' h i tt _ l' refl (one_more z r r' s choice l (Activity.Rebalance (Rebalance.Freeze (Freeze.Look m))) l' h i tt m z.seats (omega arith) (looked_settled z r r' s choice l l' m h i (subst (IsActivity z) h.activity (i.shape.sane.locals s l h.knows).ranges.activity) (met_frozen z r s l m i h.knows (subst (IsActivity z) h.activity (i.shape.sane.locals s l h.knows).ranges.activity) e)) (u))
+freezes_own z r r' s choice l a l' (sees_frozen m e u) h i = goes_on z r r' s choice l (Activity.Rebalance (Rebalance.Freeze (Freeze.Look m))) l' h i tt _ l' refl (one_more z r r' s choice l (Activity.Rebalance (Rebalance.Freeze (Freeze.Look m))) l' h i tt m (m + 1) (omega arith) (looked_settled z r r' s choice l l' m h i (subst (IsActivity z) h.activity (i.shape.sane.locals s l h.knows).ranges.activity) (saw_frozen z r s l m i h.knows (subst (IsActivity z) h.activity (i.shape.sane.locals s l h.knows).ranges.activity) e)) (omega arith))
+freezes_own z r r' s choice l a l' (sees_frozen_last m e u) h i = goes_on z r r' s choice l (Activity.Rebalance (Rebalance.Freeze (Freeze.Look m))) l' h i tt _ l' refl (one_more z r r' s choice l (Activity.Rebalance (Rebalance.Freeze (Freeze.Look m))) l' h i tt m z.seats (omega arith) (looked_settled z r r' s choice l l' m h i (subst (IsActivity z) h.activity (i.shape.sane.locals s l h.knows).ranges.activity) (saw_frozen z r s l m i h.knows (subst (IsActivity z) h.activity (i.shape.sane.locals s l h.knows).ranges.activity) e)) (u))
 freezes_own z r r' s choice l a l' (freezes_entry m e u) h i = goes_on z r r' s choice l (Activity.Rebalance (Rebalance.Freeze (Freeze.Entry m))) l' h i tt _ l' refl (one_more z r r' s choice l (Activity.Rebalance (Rebalance.Freeze (Freeze.Entry m))) l' h i tt m (m + 1) (omega arith) (settled_frozen (entry_frozen m h e)) (omega arith))
 freezes_own z r r' s choice l a l' (freezes_last m e u) h i = goes_on z r r' s choice l (Activity.Rebalance (Rebalance.Freeze (Freeze.Entry m))) l' h i tt _ l' refl (one_more z r r' s choice l (Activity.Rebalance (Rebalance.Freeze (Freeze.Entry m))) l' h i tt m z.seats (omega arith) (settled_frozen (entry_frozen m h e)) (u))
-freezes_own z r r' s choice l a l' (looks_again m e) h i = goes_on z r r' s choice l (Activity.Rebalance (Rebalance.Freeze (Freeze.Entry m))) l' h i tt _ l' refl (λ j o w. passed z r r' s choice l (Activity.Rebalance (Rebalance.Freeze (Freeze.Entry m))) l' h i tt j o w)
-freezes_own z r r' s choice l a l' (meets_quiet m e u) h i = goes_on z r r' s choice l (Activity.Rebalance (Rebalance.Freeze (Freeze.Scan m))) l' h i tt _ l' refl (λ j o w. passed z r r' s choice l (Activity.Rebalance (Rebalance.Freeze (Freeze.Scan m))) l' h i tt j o w)
-freezes_own z r r' s choice l a l' (meets_quiet_last m e u) h i = goes_on z r r' s choice l (Activity.Rebalance (Rebalance.Freeze (Freeze.Scan m))) l' h i tt _ l' refl (λ j o w. passed z r r' s choice l (Activity.Rebalance (Rebalance.Freeze (Freeze.Scan m))) l' h i tt j o w)
-freezes_own z r r' s choice l a l' (helps_scan m clock e) h i = goes_on z r r' s choice l (Activity.Rebalance (Rebalance.Freeze (Freeze.Scan m))) l' h i tt _ l' refl (λ j o w. passed z r r' s choice l (Activity.Rebalance (Rebalance.Freeze (Freeze.Scan m))) l' h i tt j o w)
-freezes_own z r r' s choice l a l' (meets_drawn m version e u) h i = goes_on z r r' s choice l (Activity.Rebalance (Rebalance.Freeze (Freeze.Scan m))) l' h i tt _ l' refl (λ j o w. passed z r r' s choice l (Activity.Rebalance (Rebalance.Freeze (Freeze.Scan m))) l' h i tt j o w)
-freezes_own z r r' s choice l a l' (meets_drawn_last m version e u) h i = goes_on z r r' s choice l (Activity.Rebalance (Rebalance.Freeze (Freeze.Scan m))) l' h i tt _ l' refl (λ j o w. passed z r r' s choice l (Activity.Rebalance (Rebalance.Freeze (Freeze.Scan m))) l' h i tt j o w)
-freezes_own z r r' s choice l a l' (draws_for m) h i = goes_on z r r' s choice l (Activity.Rebalance (Rebalance.Freeze (Freeze.Draw m))) l' h i tt _ l' refl (λ j o w. passed z r r' s choice l (Activity.Rebalance (Rebalance.Freeze (Freeze.Draw m))) l' h i tt j o w)
-freezes_own z r r' s choice l a l' (settles_scan m e u) h i = goes_on z r r' s choice l (Activity.Rebalance (Rebalance.Freeze (Freeze.Settle m))) l' h i tt _ l' refl (λ j o w. passed z r r' s choice l (Activity.Rebalance (Rebalance.Freeze (Freeze.Settle m))) l' h i tt j o w)
-freezes_own z r r' s choice l a l' (settles_last m e u) h i = goes_on z r r' s choice l (Activity.Rebalance (Rebalance.Freeze (Freeze.Settle m))) l' h i tt _ l' refl (λ j o w. passed z r r' s choice l (Activity.Rebalance (Rebalance.Freeze (Freeze.Settle m))) l' h i tt j o w)
-freezes_own z r r' s choice l a l' (finds_drawn m version e u) h i = goes_on z r r' s choice l (Activity.Rebalance (Rebalance.Freeze (Freeze.Settle m))) l' h i tt _ l' refl (λ j o w. passed z r r' s choice l (Activity.Rebalance (Rebalance.Freeze (Freeze.Settle m))) l' h i tt j o w)
-freezes_own z r r' s choice l a l' (finds_drawn_last m version e u) h i = goes_on z r r' s choice l (Activity.Rebalance (Rebalance.Freeze (Freeze.Settle m))) l' h i tt _ l' refl (λ j o w. passed z r r' s choice l (Activity.Rebalance (Rebalance.Freeze (Freeze.Settle m))) l' h i tt j o w)
-freezes_own z r r' s choice l a l' (finds_no_scan m e u) h i = goes_on z r r' s choice l (Activity.Rebalance (Rebalance.Freeze (Freeze.Settle m))) l' h i tt _ l' refl (λ j o w. passed z r r' s choice l (Activity.Rebalance (Rebalance.Freeze (Freeze.Settle m))) l' h i tt j o w)
-freezes_own z r r' s choice l a l' (finds_no_scan_last m e u) h i = goes_on z r r' s choice l (Activity.Rebalance (Rebalance.Freeze (Freeze.Settle m))) l' h i tt _ l' refl (λ j o w. passed z r r' s choice l (Activity.Rebalance (Rebalance.Freeze (Freeze.Settle m))) l' h i tt j o w)
-freezes_own z r r' s choice l a l' (take_leads c e) h i = goes_on z r r' s choice l (Activity.Rebalance (Rebalance.Gather Gather.Link)) l' h i tt _ l' refl (λ j o w. passed z r r' s choice l (Activity.Rebalance (Rebalance.Gather Gather.Link)) l' h i tt j o w)
-freezes_own z r r' s choice l a l' (takes_left m e u) h i = goes_on z r r' s choice l (Activity.Rebalance (Rebalance.Gather Gather.Link)) l' h i tt _ l' refl (λ j o w. passed z r r' s choice l (Activity.Rebalance (Rebalance.Gather Gather.Link)) l' h i tt j o w)
-freezes_own z r r' s choice l a l' (takes_no_more e u) h i = goes_on z r r' s choice l (Activity.Rebalance (Rebalance.Gather Gather.Link)) l' h i tt _ l' refl (λ j o w. passed z r r' s choice l (Activity.Rebalance (Rebalance.Gather Gather.Link)) l' h i tt j o w)
-freezes_own z r r' s choice l a l' takes_key h i = goes_on z r r' s choice l (Activity.Rebalance (Rebalance.Gather Gather.Key)) l' h i tt _ l' refl (λ j o w. passed z r r' s choice l (Activity.Rebalance (Rebalance.Gather Gather.Key)) l' h i tt j o w)
-freezes_own z r r' s choice l a l' takes_version h i = goes_on z r r' s choice l (Activity.Rebalance (Rebalance.Gather Gather.Version)) l' h i tt _ l' refl (λ j o w. passed z r r' s choice l (Activity.Rebalance (Rebalance.Gather Gather.Version)) l' h i tt j o w)
-freezes_own z r r' s choice l a l' keeps_taken h i = goes_on z r r' s choice l (Activity.Rebalance (Rebalance.Gather Gather.Value)) l' h i tt _ l' refl (λ j o w. passed z r r' s choice l (Activity.Rebalance (Rebalance.Gather Gather.Value)) l' h i tt j o w)
-freezes_own z r r' s choice l a l' takes_left_key h i = goes_on z r r' s choice l (Activity.Rebalance (Rebalance.Gather Gather.LeftOverKey)) l' h i tt _ l' refl (λ j o w. passed z r r' s choice l (Activity.Rebalance (Rebalance.Gather Gather.LeftOverKey)) l' h i tt j o w)
-freezes_own z r r' s choice l a l' (keeps_left m e) h i = goes_on z r r' s choice l (Activity.Rebalance (Rebalance.Gather Gather.LeftOverValue)) l' h i tt _ l' refl (λ j o w. passed z r r' s choice l (Activity.Rebalance (Rebalance.Gather Gather.LeftOverValue)) l' h i tt j o w)
-freezes_own z r r' s choice l a l' (keeps_no_more e) h i = goes_on z r r' s choice l (Activity.Rebalance (Rebalance.Gather Gather.LeftOverValue)) l' h i tt _ l' refl (λ j o w. passed z r r' s choice l (Activity.Rebalance (Rebalance.Gather Gather.LeftOverValue)) l' h i tt j o w)
-freezes_own z r r' s choice l a l' (meets_stamped j c version next e n) h i = unfrozen z r r' s choice l _ l' h i _ l' (look_freezes z _ next n)
-freezes_own z r r' s choice l a l' (meets_neither j next e n) h i = unfrozen z r r' s choice l _ l' h i _ l' (look_freezes z _ next n)
-freezes_own z r r' s choice l a l' (is_passed next e n) h i = unfrozen z r r' s choice l _ l' h i _ l' (look_freezes z _ next n)
+freezes_own z r r' s choice l a l' (looks_again m e) h i = goes_on z r r' s choice l (Activity.Rebalance (Rebalance.Freeze (Freeze.Entry m))) l' h i tt _ l' refl (λ j o w. gone_by z r r' s choice l (Activity.Rebalance (Rebalance.Freeze (Freeze.Entry m))) l' h i tt j o w)
+freezes_own z r r' s choice l a l' (sees_quiet m e u) h i = goes_on z r r' s choice l (Activity.Rebalance (Rebalance.Freeze (Freeze.Scan m))) l' h i tt _ l' refl (λ j o w. gone_by z r r' s choice l (Activity.Rebalance (Rebalance.Freeze (Freeze.Scan m))) l' h i tt j o w)
+freezes_own z r r' s choice l a l' (sees_quiet_last m e u) h i = goes_on z r r' s choice l (Activity.Rebalance (Rebalance.Freeze (Freeze.Scan m))) l' h i tt _ l' refl (λ j o w. gone_by z r r' s choice l (Activity.Rebalance (Rebalance.Freeze (Freeze.Scan m))) l' h i tt j o w)
+freezes_own z r r' s choice l a l' (helps_scan m clock e) h i = goes_on z r r' s choice l (Activity.Rebalance (Rebalance.Freeze (Freeze.Scan m))) l' h i tt _ l' refl (λ j o w. gone_by z r r' s choice l (Activity.Rebalance (Rebalance.Freeze (Freeze.Scan m))) l' h i tt j o w)
+freezes_own z r r' s choice l a l' (sees_drawn m version e u) h i = goes_on z r r' s choice l (Activity.Rebalance (Rebalance.Freeze (Freeze.Scan m))) l' h i tt _ l' refl (λ j o w. gone_by z r r' s choice l (Activity.Rebalance (Rebalance.Freeze (Freeze.Scan m))) l' h i tt j o w)
+freezes_own z r r' s choice l a l' (sees_drawn_last m version e u) h i = goes_on z r r' s choice l (Activity.Rebalance (Rebalance.Freeze (Freeze.Scan m))) l' h i tt _ l' refl (λ j o w. gone_by z r r' s choice l (Activity.Rebalance (Rebalance.Freeze (Freeze.Scan m))) l' h i tt j o w)
+freezes_own z r r' s choice l a l' (draws_for m) h i = goes_on z r r' s choice l (Activity.Rebalance (Rebalance.Freeze (Freeze.Draw m))) l' h i tt _ l' refl (λ j o w. gone_by z r r' s choice l (Activity.Rebalance (Rebalance.Freeze (Freeze.Draw m))) l' h i tt j o w)
+freezes_own z r r' s choice l a l' (settles_scan m e u) h i = goes_on z r r' s choice l (Activity.Rebalance (Rebalance.Freeze (Freeze.Settle m))) l' h i tt _ l' refl (λ j o w. gone_by z r r' s choice l (Activity.Rebalance (Rebalance.Freeze (Freeze.Settle m))) l' h i tt j o w)
+freezes_own z r r' s choice l a l' (settles_last m e u) h i = goes_on z r r' s choice l (Activity.Rebalance (Rebalance.Freeze (Freeze.Settle m))) l' h i tt _ l' refl (λ j o w. gone_by z r r' s choice l (Activity.Rebalance (Rebalance.Freeze (Freeze.Settle m))) l' h i tt j o w)
+freezes_own z r r' s choice l a l' (finds_drawn m version e u) h i = goes_on z r r' s choice l (Activity.Rebalance (Rebalance.Freeze (Freeze.Settle m))) l' h i tt _ l' refl (λ j o w. gone_by z r r' s choice l (Activity.Rebalance (Rebalance.Freeze (Freeze.Settle m))) l' h i tt j o w)
+freezes_own z r r' s choice l a l' (finds_drawn_last m version e u) h i = goes_on z r r' s choice l (Activity.Rebalance (Rebalance.Freeze (Freeze.Settle m))) l' h i tt _ l' refl (λ j o w. gone_by z r r' s choice l (Activity.Rebalance (Rebalance.Freeze (Freeze.Settle m))) l' h i tt j o w)
+freezes_own z r r' s choice l a l' (finds_no_scan m e u) h i = goes_on z r r' s choice l (Activity.Rebalance (Rebalance.Freeze (Freeze.Settle m))) l' h i tt _ l' refl (λ j o w. gone_by z r r' s choice l (Activity.Rebalance (Rebalance.Freeze (Freeze.Settle m))) l' h i tt j o w)
+freezes_own z r r' s choice l a l' (finds_no_scan_last m e u) h i = goes_on z r r' s choice l (Activity.Rebalance (Rebalance.Freeze (Freeze.Settle m))) l' h i tt _ l' refl (λ j o w. gone_by z r r' s choice l (Activity.Rebalance (Rebalance.Freeze (Freeze.Settle m))) l' h i tt j o w)
+freezes_own z r r' s choice l a l' (take_leads c e) h i = goes_on z r r' s choice l (Activity.Rebalance (Rebalance.Gather Gather.Link)) l' h i tt _ l' refl (λ j o w. gone_by z r r' s choice l (Activity.Rebalance (Rebalance.Gather Gather.Link)) l' h i tt j o w)
+freezes_own z r r' s choice l a l' (takes_left m e u) h i = goes_on z r r' s choice l (Activity.Rebalance (Rebalance.Gather Gather.Link)) l' h i tt _ l' refl (λ j o w. gone_by z r r' s choice l (Activity.Rebalance (Rebalance.Gather Gather.Link)) l' h i tt j o w)
+freezes_own z r r' s choice l a l' (takes_no_more e u) h i = goes_on z r r' s choice l (Activity.Rebalance (Rebalance.Gather Gather.Link)) l' h i tt _ l' refl (λ j o w. gone_by z r r' s choice l (Activity.Rebalance (Rebalance.Gather Gather.Link)) l' h i tt j o w)
+freezes_own z r r' s choice l a l' takes_key h i = goes_on z r r' s choice l (Activity.Rebalance (Rebalance.Gather Gather.Key)) l' h i tt _ l' refl (λ j o w. gone_by z r r' s choice l (Activity.Rebalance (Rebalance.Gather Gather.Key)) l' h i tt j o w)
+freezes_own z r r' s choice l a l' takes_version h i = goes_on z r r' s choice l (Activity.Rebalance (Rebalance.Gather Gather.Version)) l' h i tt _ l' refl (λ j o w. gone_by z r r' s choice l (Activity.Rebalance (Rebalance.Gather Gather.Version)) l' h i tt j o w)
+freezes_own z r r' s choice l a l' keeps_taken h i = goes_on z r r' s choice l (Activity.Rebalance (Rebalance.Gather Gather.Value)) l' h i tt _ l' refl (λ j o w. gone_by z r r' s choice l (Activity.Rebalance (Rebalance.Gather Gather.Value)) l' h i tt j o w)
+freezes_own z r r' s choice l a l' takes_left_key h i = goes_on z r r' s choice l (Activity.Rebalance (Rebalance.Gather Gather.LeftOverKey)) l' h i tt _ l' refl (λ j o w. gone_by z r r' s choice l (Activity.Rebalance (Rebalance.Gather Gather.LeftOverKey)) l' h i tt j o w)
+freezes_own z r r' s choice l a l' (keeps_left m e) h i = goes_on z r r' s choice l (Activity.Rebalance (Rebalance.Gather Gather.LeftOverValue)) l' h i tt _ l' refl (λ j o w. gone_by z r r' s choice l (Activity.Rebalance (Rebalance.Gather Gather.LeftOverValue)) l' h i tt j o w)
+freezes_own z r r' s choice l a l' (keeps_no_more e) h i = goes_on z r r' s choice l (Activity.Rebalance (Rebalance.Gather Gather.LeftOverValue)) l' h i tt _ l' refl (λ j o w. gone_by z r r' s choice l (Activity.Rebalance (Rebalance.Gather Gather.LeftOverValue)) l' h i tt j o w)
+freezes_own z r r' s choice l a l' (sees_stamped j c version next e n) h i = unfrozen z r r' s choice l _ l' h i _ l' (look_freezes z _ next n)
+freezes_own z r r' s choice l a l' (sees_neither j next e n) h i = unfrozen z r r' s choice l _ l' h i _ l' (look_freezes z _ next n)
+freezes_own z r r' s choice l a l' (is_gone_by next e n) h i = unfrozen z r r' s choice l _ l' h i _ l' (look_freezes z _ next n)
 freezes_own z r r' s choice l a l' (helps next e n) h i = unfrozen z r r' s choice l _ l' h i _ l' (look_freezes z _ next n)
 freezes_own z r r' s choice l a l' (finds_stamped c version next e n) h i = unfrozen z r r' s choice l _ l' h i _ l' (look_freezes z _ next n)
 freezes_own z r r' s choice l a l' (finds_other next e n) h i = unfrozen z r r' s choice l _ l' h i _ l' (look_freezes z _ next n)
-freezes_own z r r' s choice l a l' (list_ends next e n) h i = unfrozen z r r' s choice l _ l' h i _ l' (rest_freezes _ next n)
-freezes_own z r r' s choice l a l' (key_above next e n) h i = unfrozen z r r' s choice l _ l' h i _ l' (rest_freezes _ next n)
-freezes_own z r r' s choice l a l' (rest_passed next e n) h i = unfrozen z r r' s choice l _ l' h i _ l' (rest_freezes _ next n)
-freezes_own z r r' s choice l a l' (gathers_rest next n) h i = unfrozen z r r' s choice l _ l' h i _ l' (rest_freezes _ next n)
+freezes_own z r r' s choice l a l' (list_ends next e n) h i = unfrozen z r r' s choice l _ l' h i _ l' (left_over_freezes _ next n)
+freezes_own z r r' s choice l a l' (key_above next e n) h i = unfrozen z r r' s choice l _ l' h i _ l' (left_over_freezes _ next n)
+freezes_own z r r' s choice l a l' (left_over_gone_by next e n) h i = unfrozen z r r' s choice l _ l' h i _ l' (left_over_freezes _ next n)
+freezes_own z r r' s choice l a l' (gathers_left_over next n) h i = unfrozen z r r' s choice l _ l' h i _ l' (left_over_freezes _ next n)
 freezes_own z r r' s choice l a l' _ h i = unfrozen z r r' s choice l a l' h i l'.activity l' (λ p. p)

@@ -5,8 +5,8 @@ use Rattle.std.specs.Prelude.{insert}
 use Rattle.std.proofs.lemmas.Bool.Decides.{nat_tests}
 use Rattle.std.proofs.lemmas.List.Edits.{length-insert}
 use Rattle.kw_cells.specs.declared.cell.Cell.{Cell}
-use Rattle.kw_cells.specs.InOrder.{stands_before, place_in, with_cell}
-use Rattle.kw_cells.proofs.InOrder.{place_in-within, with_cell-all}
+use Rattle.kw_cells.specs.InOrder.{stands_before, index_in, with_cell}
+use Rattle.kw_cells.proofs.InOrder.{index_in-within, with_cell-all}
 use Rattle.kw_lists.specs.Counts.{count_below}
 use Rattle.kw_lists.proofs.Counting.{count_gains, count_less}
 use Rattle.kw_world.specs.Sane.{IsPlaced}
@@ -83,15 +83,15 @@ other_before : (c d : Cell) → stands_before d c ≡ false → (d.place == c.pl
 other_before c d e f = grind (arith, nat_tests)
 
 -- a cell whose place none has is put at its place in the order
-pub put_in : (c : Cell) (cells : List Cell) → has_place c.place cells ≡ false → with_cell c cells ≡ insert cells (place_in c cells) c
+pub put_in : (c : Cell) (cells : List Cell) → has_place c.place cells ≡ false → with_cell c cells ≡ insert cells (index_in c cells) c
 put_in c [] e = refl
 put_in c (d ∷ cells) e = which (d.place == c.place) refl e (put_in c cells)
   where
-    which : (b : Bool) → (d.place == c.place) ≡ b → (if b then true else has_place c.place cells) ≡ false → (has_place c.place cells ≡ false → with_cell c cells ≡ insert cells (place_in c cells) c) → with_cell c (d ∷ cells) ≡ insert (d ∷ cells) (place_in c (d ∷ cells)) c
+    which : (b : Bool) → (d.place == c.place) ≡ b → (if b then true else has_place c.place cells) ≡ false → (has_place c.place cells ≡ false → with_cell c cells ≡ insert cells (index_in c cells) c) → with_cell c (d ∷ cells) ≡ insert (d ∷ cells) (index_in c (d ∷ cells)) c
     which true f x g = let y : true ≡ false = x in absurd (cc)
     which false f x g = order (stands_before d c) refl
       where
-        order : (b : Bool) → stands_before d c ≡ b → (if b then d ∷ with_cell c cells else if stands_before c d then c ∷ d ∷ cells else d ∷ cells) ≡ insert (d ∷ cells) (if b then suc (place_in c cells) else 0) c
+        order : (b : Bool) → stands_before d c ≡ b → (if b then d ∷ with_cell c cells else if stands_before c d then c ∷ d ∷ cells else d ∷ cells) ≡ insert (d ∷ cells) (if b then suc (index_in c cells) else 0) c
         order true h = ap (λ xs. d ∷ xs) (g x)
         order false h = rw (other_before c d h f) refl
 
@@ -100,10 +100,10 @@ abbrev pub gathered_with : ℕ → Cell → List Cell → List Cell
 gathered_with n c cells = if nat_lt (length cells) n then with_cell c cells else cells
 
 -- a cell for which there is room is gathered at its place
-pub gathered_at : (n : ℕ) (c : Cell) (cells : List Cell) → length cells < n → has_place c.place cells ≡ false → gathered_with n c cells ≡ insert cells (place_in c cells) c
+pub gathered_at : (n : ℕ) (c : Cell) (cells : List Cell) → length cells < n → has_place c.place cells ≡ false → gathered_with n c cells ≡ insert cells (index_in c cells) c
 gathered_at n c cells w e = which (nat_lt (length cells) n) refl
   where
-    which : (b : Bool) → nat_lt (length cells) n ≡ b → (if b then with_cell c cells else cells) ≡ insert cells (place_in c cells) c
+    which : (b : Bool) → nat_lt (length cells) n ≡ b → (if b then with_cell c cells else cells) ≡ insert cells (index_in c cells) c
     which true f = put_in c cells e
     which false f = absurd (grind (arith, nat_tests))
 
@@ -125,8 +125,8 @@ pub record OneMore (n : ℕ) (place : ℕ) (cells more : List Cell) : Type 0 whe
 -- one more is gathered, where none of its place is there, and none is there twice
 pub gathers_one : (n : ℕ) (c : Cell) (cells : List Cell) → c.place < n → has_place c.place cells ≡ false → length cells ≤ count_below n (λ p. has_place p cells) → OneMore n c.place cells (gathered_with n c cells)
 gathers_one n c cells u e f = rw (gathered_at n c cells (few_room n c.place cells u e (omega (arith, f))) e) (record {
-  new = place_new c cells (place_in c cells);
-  old = place_old c cells (place_in c cells);
-  back = place_back c cells (place_in c cells);
-  few = (let y = few_more n c cells (place_in c cells) (omega (arith, place_in-within c cells)) u e (omega (arith, f)) in omega (arith, y));
+  new = place_new c cells (index_in c cells);
+  old = place_old c cells (index_in c cells);
+  back = place_back c cells (index_in c cells);
+  few = (let y = few_more n c cells (index_in c cells) (omega (arith, index_in-within c cells)) u e (omega (arith, f)) in omega (arith, y));
 })

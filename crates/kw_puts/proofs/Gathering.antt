@@ -6,7 +6,7 @@ use Rattle.kw_cells.specs.declared.cell.Cell.{Cell}
 use Rattle.kw_lists.specs.Rows.{Row, Stands}
 use Rattle.kw_lists.proofs.Leaving.{on_left}
 use Rattle.kw_lists.proofs.Same.{stands_same, behind_same}
-use Rattle.kw_lists.proofs.Walking.{passed_stays}
+use Rattle.kw_lists.proofs.Walking.{gone_by_stays}
 use Rattle.kw_world.specs.declared.activity.Activity.{Activity}
 use Rattle.kw_world.specs.declared.activity.rebalance.gather.Gather.TheVariants as Gather
 use Rattle.kw_world.specs.declared.activity.rebalance.Rebalance.TheVariants as Rebalance
@@ -102,7 +102,7 @@ module _ (n : ℕ) (row row' : Row) (h h' : History) (o o' : Origins) (l : Local
     few = k.few;
     below = k.below;
     unmarked = k.unmarked;
-    passed = λ x c e. let p = k.passed x c e in (w.list.listed c p.0, passed_stays n row row' l.link c w.list (k.on x) p.0 p.1);
+    gone_by = λ x c e. let p = k.gone_by x c e in (w.list.listed c p.0, gone_by_stays n row row' l.link c w.list (k.on x) p.0 p.1);
     fresh = k.fresh;
     held = k.held;
   }
@@ -126,45 +126,45 @@ gathers_last z row row' h h' o o' a l w k = record {
   holds = λ x. holds_lasts z.cells row row' h h' o o' l (w (inr x)) (k.holds x);
 }
 
--- Its row is frozen, and every entry of it is passed.
+-- Its row is frozen, and every entry of it is gone by.
 
--- the seat rebalances a row that it has frozen, all of whose entries it has passed
-pub record HasPassedAll (z : Sizes) (a : Activity) : Type 0 where
+-- the seat rebalances a row that it has frozen, all of whose entries it has gone by
+pub record HasGoneByAll (z : Sizes) (a : Activity) : Type 0 where
   pub balances : IsBalancing a
   pub frozen : HasFrozen a
   pub all : frozen_by z a ≡ z.seats
 
 -- as one that gathers has
-gathering_passed : (z : Sizes) (a : Activity) → IsGathering a → HasPassedAll z a
-gathering_passed z (Activity.Rebalance (Rebalance.Gather _)) x = record { balances = tt; frozen = tt; all = refl }
-gathering_passed z _ x = absurd x
+gathering_gone_by : (z : Sizes) (a : Activity) → IsGathering a → HasGoneByAll z a
+gathering_gone_by z (Activity.Rebalance (Rebalance.Gather _)) x = record { balances = tt; frozen = tt; all = refl }
+gathering_gone_by z _ x = absurd x
 
 -- and one that has its plan
-pub planned_passed : (z : Sizes) (a : Activity) → HasPlanned (nursing_of a) → HasPassedAll z a
-planned_passed z (Activity.Rebalance (Rebalance.Seek Seek.Next)) x = record { balances = tt; frozen = tt; all = refl }
-planned_passed z (Activity.Rebalance (Rebalance.Seek _)) x = record { balances = tt; frozen = tt; all = refl }
-planned_passed z (Activity.Rebalance (Rebalance.Write _)) x = record { balances = tt; frozen = tt; all = refl }
-planned_passed z (Activity.Rebalance (Rebalance.Replace Replace.Start)) x = record { balances = tt; frozen = tt; all = refl }
-planned_passed z (Activity.Rebalance (Rebalance.Replace Replace.GuessedLeast)) x = record { balances = tt; frozen = tt; all = refl }
-planned_passed z (Activity.Rebalance (Rebalance.Replace Replace.First)) x = record { balances = tt; frozen = tt; all = refl }
-planned_passed z (Activity.Rebalance (Rebalance.Replace Replace.Next)) x = record { balances = tt; frozen = tt; all = refl }
-planned_passed z (Activity.Rebalance (Rebalance.Replace Replace.NextLeast)) x = record { balances = tt; frozen = tt; all = refl }
-planned_passed z (Activity.Rebalance (Rebalance.Replace Replace.Exchange)) x = record { balances = tt; frozen = tt; all = refl }
-planned_passed z _ x = absurd x
+pub planned_gone_by : (z : Sizes) (a : Activity) → HasPlanned (nursing_of a) → HasGoneByAll z a
+planned_gone_by z (Activity.Rebalance (Rebalance.Seek Seek.Next)) x = record { balances = tt; frozen = tt; all = refl }
+planned_gone_by z (Activity.Rebalance (Rebalance.Seek _)) x = record { balances = tt; frozen = tt; all = refl }
+planned_gone_by z (Activity.Rebalance (Rebalance.Write _)) x = record { balances = tt; frozen = tt; all = refl }
+planned_gone_by z (Activity.Rebalance (Rebalance.Replace Replace.Start)) x = record { balances = tt; frozen = tt; all = refl }
+planned_gone_by z (Activity.Rebalance (Rebalance.Replace Replace.GuessedLeast)) x = record { balances = tt; frozen = tt; all = refl }
+planned_gone_by z (Activity.Rebalance (Rebalance.Replace Replace.First)) x = record { balances = tt; frozen = tt; all = refl }
+planned_gone_by z (Activity.Rebalance (Rebalance.Replace Replace.Next)) x = record { balances = tt; frozen = tt; all = refl }
+planned_gone_by z (Activity.Rebalance (Rebalance.Replace Replace.NextLeast)) x = record { balances = tt; frozen = tt; all = refl }
+planned_gone_by z (Activity.Rebalance (Rebalance.Replace Replace.Exchange)) x = record { balances = tt; frozen = tt; all = refl }
+planned_gone_by z _ x = absurd x
 
 -- so both have
-pub passed_all : (z : Sizes) (a : Activity) → IsGathering a ⊎ HasPlanned (nursing_of a) → HasPassedAll z a
-passed_all z a (inl x) = gathering_passed z a x
-passed_all z a (inr x) = planned_passed z a x
+pub gone_by_all : (z : Sizes) (a : Activity) → IsGathering a ⊎ HasPlanned (nursing_of a) → HasGoneByAll z a
+gone_by_all z a (inl x) = gathering_gone_by z a x
+gone_by_all z a (inr x) = planned_gone_by z a x
 
 -- each cell of its row stands for the same attempt after an event
-pub passed_same : (z : Sizes) (r r' : Run) (s : ℕ) (choice : Choice) (l : Local) (a : Activity) (l' : Local) → Happens z r r' s choice l l' a → Below z r → (t : ℕ) (k : Local) → slice_get r.world.locals t ≡ Some k → HasPassedAll z k.activity → (c : ℕ) → r'.origin k.row c ≡ r.origin k.row c
-passed_same z r r' s choice l a l' h i t k g p c = frozen_same z r r' s choice l a l' h i k.row c (full_linked z r i.shape t k g p.balances) ((i.puts.freezes t k g).count p.frozen)
+pub gone_by_same : (z : Sizes) (r r' : Run) (s : ℕ) (choice : Choice) (l : Local) (a : Activity) (l' : Local) → Happens z r r' s choice l l' a → Below z r → (t : ℕ) (k : Local) → slice_get r.world.locals t ≡ Some k → HasGoneByAll z k.activity → (c : ℕ) → r'.origin k.row c ≡ r.origin k.row c
+gone_by_same z r r' s choice l a l' h i t k g p c = frozen_same z r r' s choice l a l' h i k.row c (full_linked z r i.shape t k g p.balances) ((i.puts.freezes t k g).count p.frozen)
 
 module _ (z : Sizes) (r r' : Run) (s : ℕ) (choice : Choice) (l : Local) (a : Activity) (l' : Local) (h : Happens z r r' s choice l l' a) (i : Below z r) (st : Step r.history r'.history (log_entry z r a s choice l)) where
   -- what an event leaves of the row of such a seat
-  pub leaves_passed : (t : ℕ) (k : Local) → slice_get r.world.locals t ≡ Some k → HasPassedAll z k.activity → LeavesCells z.cells (list_in (word z r.world) r.listed k.row) (list_in (word z r'.world) r'.listed k.row) r.history r'.history r.origin r'.origin k.row
-  leaves_passed t k g p =
+  pub leaves_gone_by : (t : ℕ) (k : Local) → slice_get r.world.locals t ≡ Some k → HasGoneByAll z k.activity → LeavesCells z.cells (list_in (word z r.world) r.listed k.row) (list_in (word z r'.world) r'.listed k.row) r.history r'.history r.origin r'.origin k.row
+  leaves_gone_by t k g p =
       let f = i.puts.freezes t k g in
       leaves_cells z r r' s choice l a l' h i st k.row (full_linked z r i.shape t k g p.balances) (f.count p.frozen) (λ j o. f.settled p.frozen j o (subst (λ n. j < n) (sym p.all) o))
 
@@ -173,5 +173,5 @@ module _ (z : Sizes) (r r' : Run) (s : ℕ) (choice : Choice) (l : Local) (a : A
   gathers_other t k g =
       let b = i.puts.builds t k g in
       gathers_last z (list_in (word z r.world) r.listed k.row) (list_in (word z r'.world) r'.listed k.row) r.history r'.history r.origin r'.origin k.activity k
-      (λ x. leaves_passed t k g (passed_all z k.activity x))
+      (λ x. leaves_gone_by t k g (gone_by_all z k.activity x))
       (record { gathering = b.gathering; gathered = b.gathered; collected = b.collected; kept = b.kept; holds = b.holds })

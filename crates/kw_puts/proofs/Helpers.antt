@@ -88,11 +88,11 @@ module _ (z : Sizes) (r r' : Run) (s : ℕ) (choice : Choice) (l l' : Local) (i 
           (λ c f. let x : scan_word (Waiting l.waiting) ≡ scan_word (Waiting c) = sym e ∙ f in omega (arith, x, d.least tt, i.positions.clocked.drawn _ Draw l.drawn tt (d.settling tt)))
       settles (inr n) = is_kept (not_exchanged _ _ _ _ h.changed.same (λ e. drawn_not l.waiting n.version (sym n.word ∙ e))) (λ x y. cc)
   own_step (Activity.EndScan answer) h = waits_no_more (λ c f. quiet_not c (sym h.changed.same ∙ f)) (λ c f. absurd (not_waiting z r i s l h.knows (λ x. subst IsWaiting h.activity x) c f))
-  own_step (Activity.Walk Walk.Next) h = met (is_stopped choice l) refl
+  own_step (Activity.Walk Walk.Next) h = saw (is_stopped choice l) refl
     where
-      met : (b : Bool) → is_stopped choice l ≡ b → ScanStep z r r' s l (Activity.Walk Walk.Next) s
-      met true e = waits_no_more (λ c f. quiet_not c (sym (stopped_clears h e) ∙ f)) (λ c f. absurd (not_waiting z r i s l h.knows (λ x. subst IsWaiting h.activity x) c f))
-      met false e = is_kept (goes_on_walk h e) (λ x y. cc)
+      saw : (b : Bool) → is_stopped choice l ≡ b → ScanStep z r r' s l (Activity.Walk Walk.Next) s
+      saw true e = waits_no_more (λ c f. quiet_not c (sym (stopped_clears h e) ∙ f)) (λ c f. absurd (not_waiting z r i s l h.knows (λ x. subst IsWaiting h.activity x) c f))
+      saw false e = is_kept (goes_on_walk h e) (λ x y. cc)
   own_step (Activity.Insert Insert.Exchange) h = is_kept (unwritten (Activity.Insert Insert.Exchange) h (name.Scan s) h.seat (λ e. no_link l.row l.link (name.Scan s) refl e)) (λ x y. cc)
   own_step (Activity.Rebalance (Rebalance.Freeze (Freeze.Settle j))) h = which (cases_eq s j)
     where

@@ -1,6 +1,6 @@
 -- Whether the row of an attempt was used again, over an event: an attempt whose row was not is none
 -- whose row was; a row that is freed leaves its attempts behind for ever; and the row of an attempt
--- at which a seat is at work is not freed, for the seat is in its pass.
+-- at which a seat is at work is not freed, for the seat is in its visit.
 use Rattle.std.proofs.Common.{ℕ, ◌≡◌, ◌⊎◌, inl, inr, ◌<◌, ◌≤◌, true, Some, arith, refl, sym, ◌∙◌, ap, subst, length, slice_get}
 use Rattle.kw_rows.specs.Ledger.{Fate, IsFresh}
 use Rattle.kw_rows.specs.Rows.{WasLinked}
@@ -21,7 +21,7 @@ use Rattle.kw_core.specs.declared.seat_log.SeatLog.{SeatLog}
 use Rattle.kw_core.specs.Stages.{IsAtRow, IsPutting}
 use Rattle.kw_core.specs.Step.{Step}
 use Rattle.kw_core.proofs.Arrows.{builds, Arrow}
-use Rattle.kw_core.proofs.Arrows.{meets_stamped, meets_neither, is_passed, helps, finds_stamped, finds_other, list_ends, key_above, rest_passed, gathers_rest, takes_cell, stores_key, stores_value, announces, loads_clock, stamps, is_stamped, stores_version, meets_cell, meets_none, key_before, key_same, key_after, version_before, version_after, stores_after, inserts, loses}
+use Rattle.kw_core.proofs.Arrows.{sees_stamped, sees_neither, is_gone_by, helps, finds_stamped, finds_other, list_ends, key_above, left_over_gone_by, gathers_left_over, takes_cell, stores_key, stores_value, announces, loads_clock, stamps, is_stamped, stores_version, reaches_cell, sees_none, key_before, key_same, key_after, version_before, version_after, stores_after, inserts, loses}
 use Rattle.kw_core.proofs.BuiltNext.{built_next}
 use Rattle.kw_core.proofs.Fates.{fate_stays}
 use Rattle.kw_core.proofs.Happens.{Happens, log_entry}
@@ -51,8 +51,8 @@ puts_from z r r' s choice l a l' loads_clock h p = puts_on tt (ap (λ (g : SeatL
 puts_from z r r' s choice l a l' (stamps e) h p = puts_on tt (ap (λ (g : SeatLog). g.own) h.log)
 puts_from z r r' s choice l a l' (is_stamped version e) h p = puts_on tt (ap (λ (g : SeatLog). g.own) h.log)
 puts_from z r r' s choice l a l' stores_version h p = puts_on tt (ap (λ (g : SeatLog). g.own) h.log)
-puts_from z r r' s choice l a l' (meets_cell c y) h p = puts_on tt (ap (λ (g : SeatLog). g.own) h.log)
-puts_from z r r' s choice l a l' (meets_none y) h p = puts_on tt (ap (λ (g : SeatLog). g.own) h.log)
+puts_from z r r' s choice l a l' (reaches_cell c y) h p = puts_on tt (ap (λ (g : SeatLog). g.own) h.log)
+puts_from z r r' s choice l a l' (sees_none y) h p = puts_on tt (ap (λ (g : SeatLog). g.own) h.log)
 puts_from z r r' s choice l a l' (key_before y) h p = puts_on tt (ap (λ (g : SeatLog). g.own) h.log)
 puts_from z r r' s choice l a l' (key_same y) h p = puts_on tt (ap (λ (g : SeatLog). g.own) h.log)
 puts_from z r r' s choice l a l' (key_after y) h p = puts_on tt (ap (λ (g : SeatLog). g.own) h.log)
@@ -61,16 +61,16 @@ puts_from z r r' s choice l a l' (version_after y) h p = puts_on tt (ap (λ (g :
 puts_from z r r' s choice l a l' stores_after h p = puts_on tt (ap (λ (g : SeatLog). g.own) h.log)
 puts_from z r r' s choice l a l' (inserts y) h p = puts_on tt (ap (λ (g : SeatLog). g.own) h.log)
 puts_from z r r' s choice l a l' (loses y) h p = puts_on tt (ap (λ (g : SeatLog). g.own) h.log)
-puts_from z r r' s choice l a l' (meets_stamped j c version next e n) h p = look_puts z _ next n p
-puts_from z r r' s choice l a l' (meets_neither j next e n) h p = look_puts z _ next n p
-puts_from z r r' s choice l a l' (is_passed next e n) h p = look_puts z _ next n p
+puts_from z r r' s choice l a l' (sees_stamped j c version next e n) h p = look_puts z _ next n p
+puts_from z r r' s choice l a l' (sees_neither j next e n) h p = look_puts z _ next n p
+puts_from z r r' s choice l a l' (is_gone_by next e n) h p = look_puts z _ next n p
 puts_from z r r' s choice l a l' (helps next e n) h p = look_puts z _ next n p
 puts_from z r r' s choice l a l' (finds_stamped c version next e n) h p = look_puts z _ next n p
 puts_from z r r' s choice l a l' (finds_other next e n) h p = look_puts z _ next n p
 puts_from z r r' s choice l a l' (list_ends next e n) h p = cell_puts _ next n p
 puts_from z r r' s choice l a l' (key_above next e n) h p = cell_puts _ next n p
-puts_from z r r' s choice l a l' (rest_passed next e n) h p = cell_puts _ next n p
-puts_from z r r' s choice l a l' (gathers_rest next n) h p = cell_puts _ next n p
+puts_from z r r' s choice l a l' (left_over_gone_by next e n) h p = cell_puts _ next n p
+puts_from z r r' s choice l a l' (gathers_left_over next n) h p = cell_puts _ next n p
 puts_from z r r' s choice l a l' _ h p = absurd p
 
 module _ {z : Sizes} {r r' : Run} {s : ℕ} {choice : Choice} {l l' : Local} where

@@ -206,11 +206,11 @@ listed_was z r r' s choice l (Activity.Insert Insert.Exchange) l' h i q c k t = 
     which : (word z r.world (link_name l.row l.link) ≡ cell_link_word l.held) ⊎ (word z r.world (link_name l.row l.link) ≡ cell_link_word l.held → ⊥) → (q ≡ l.row) ⊎ (q ≡ l.row → ⊥) → (r.listed q c ≡ true) ⊎ ((Activity.Insert Insert.Exchange) ≡ Activity.Insert Insert.Exchange) × (q ≡ l.row) × (c ≡ l.cell)
     which (inr n) f = inl (sym (ap (λ f. f q c) (h.listed ∙ not_chosen _ _ _ _ n)) ∙ t)
     which (inl e) (inr d) = inl (sym (ap (λ f. f c) (ap (λ f. f q) (h.listed ∙ chosen _ _ _ _ e) ∙ with_listed_else r.listed l.row l.cell q d)) ∙ t)
-    which (inl e) (inl f) = met (cell_or (r.listed l.row) l.cell c (sym (ap (λ f. f c) (ap (λ f. f l.row) (h.listed ∙ chosen _ _ _ _ e) ∙ with_listed_here r.listed l.row l.cell)) ∙ subst (λ x. r'.listed x c ≡ true) f t))
+    which (inl e) (inl f) = saw (cell_or (r.listed l.row) l.cell c (sym (ap (λ f. f c) (ap (λ f. f l.row) (h.listed ∙ chosen _ _ _ _ e) ∙ with_listed_here r.listed l.row l.cell)) ∙ subst (λ x. r'.listed x c ≡ true) f t))
       where
-        met : (c ≡ l.cell) ⊎ (r.listed l.row c ≡ true) → (r.listed q c ≡ true) ⊎ ((Activity.Insert Insert.Exchange) ≡ Activity.Insert Insert.Exchange) × (q ≡ l.row) × (c ≡ l.cell)
-        met (inl x) = inr (refl, f, x)
-        met (inr x) = inl (rw f x)
+        saw : (c ≡ l.cell) ⊎ (r.listed l.row c ≡ true) → (r.listed q c ≡ true) ⊎ ((Activity.Insert Insert.Exchange) ≡ Activity.Insert Insert.Exchange) × (q ≡ l.row) × (c ≡ l.cell)
+        saw (inl x) = inr (refl, f, x)
+        saw (inr x) = inl (rw f x)
 listed_was z r r' s choice l a l' h i q c k t = inl (sym (ap (λ f. f c) (listed_same z r r' s choice l a l' h i q k (λ e. cc))) ∙ t)
 
 -- a cell of such a row that is listed stays listed

@@ -32,12 +32,12 @@ cell_linked n None o m = tt
 -- a link's word that is no greater than there are cells is that of what it leads to
 pub cell_link_word-cell_of_link_word : (w n : ℕ) → w ≤ n → n ≤ MOST_CELLS → cell_link_word (cell_of_link_word w) ≡ w
 unfolding cell_of_link_word
-cell_link_word-cell_of_link_word w n o m = met (w == 0) (nat_le w MOST_CELLS) refl refl
+cell_link_word-cell_of_link_word w n o m = saw (w == 0) (nat_le w MOST_CELLS) refl refl
   where
-    met : (a b : Bool) → (w == 0) ≡ a → nat_le w MOST_CELLS ≡ b → cell_link_word (if a then None else if b then Some (w - 1) else None) ≡ w
-    met true b e f = grind (arith, nat_tests)
-    met false true e f = grind (arith, nat_tests)
-    met false false e f = absurd (grind (arith, nat_tests))
+    saw : (a b : Bool) → (w == 0) ≡ a → nat_le w MOST_CELLS ≡ b → cell_link_word (if a then None else if b then Some (w - 1) else None) ≡ w
+    saw true b e f = grind (arith, nat_tests)
+    saw false true e f = grind (arith, nat_tests)
+    saw false false e f = absurd (grind (arith, nat_tests))
 
 -- a word that is that of a cell leads there
 pub leads_there : (v : Words) (q : ℕ) (at cell : Option ℕ) (n : ℕ) → IsCellBelow n cell → n ≤ MOST_CELLS → v (link_name q at) ≡ cell_link_word cell → link_in v q at ≡ cell

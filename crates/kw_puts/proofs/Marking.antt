@@ -1,6 +1,6 @@
 -- Every event keeps what holds of the cells that a seat remembers of the row that it freezes: they
--- are those of stamped attempts, and a stamped attempt whose seat's entry was passed is remembered
--- or listed. No later event stamps an attempt whose entry was passed.
+-- are those of stamped attempts, and a stamped attempt whose seat's entry was gone by is remembered
+-- or listed. No later event stamps an attempt whose entry was gone by.
 use Rattle.std.proofs.Common.{ℕ, ◌≡◌, ◌⊎◌, inl, inr, ◌+◌, ◌<◌, ◌≤◌, Bool, true, false, Some, None, List, ◌∷◌, [], ◌++◌, arith, refl, sym, ◌∙◌, ap, subst, length, slice_get}
 use Rattle.std.specs.Prelude.{All}
 use Rattle.std.proofs.lemmas.Bool.{cases_eq, cases_lt}
@@ -30,7 +30,7 @@ use Rattle.kw_core.specs.declared.history.Change.TheVariants.{Nothing, Announces
 use Rattle.kw_core.specs.History.{History, attempt}
 use Rattle.kw_core.specs.Noted.{noted}
 use Rattle.kw_core.specs.Run.{Run, Origins}
-use Rattle.kw_core.specs.Stages.{IsFresh, IsPublished, IsPutting, HasMet}
+use Rattle.kw_core.specs.Stages.{IsFresh, IsPublished, IsPutting, HasSeenPending}
 use Rattle.kw_core.specs.Step.{Step}
 use Rattle.kw_core.proofs.Attempts.{in_range}
 use Rattle.kw_core.proofs.BuiltNext.{IsAfterBuilding, built_keeps, built_next}
@@ -41,8 +41,8 @@ use Rattle.kw_core.proofs.Marks.{marked_more, marked_last}
 use Rattle.kw_core.proofs.NotedLaws.{attempt_set_same}
 use Rattle.kw_core.proofs.Changes.{Makes, makes_nothing, makes_begin, makes_add, makes_announce, makes_stamp, makes_help, makes_end, made, makes_lose}
 use Rattle.kw_core.proofs.Arrows.{builds, Arrow}
-use Rattle.kw_core.proofs.Arrows.{meets_stamped, meets_neither, is_passed, helps, finds_stamped, finds_other, list_ends, key_above, rest_passed, gathers_rest}
-use Rattle.kw_core.proofs.Arrows.{freezes_count, meets_idle, meets_unstamped, remembers, remembers_last, meets_frozen, meets_frozen_last, freezes_entry, freezes_last, looks_again, meets_quiet, meets_quiet_last, helps_scan, meets_drawn, meets_drawn_last, draws_for, settles_scan, settles_last, finds_drawn, finds_drawn_last, finds_no_scan, finds_no_scan_last}
+use Rattle.kw_core.proofs.Arrows.{sees_stamped, sees_neither, is_gone_by, helps, finds_stamped, finds_other, list_ends, key_above, left_over_gone_by, gathers_left_over}
+use Rattle.kw_core.proofs.Arrows.{freezes_count, sees_idle, sees_unstamped, remembers, remembers_last, sees_frozen, sees_frozen_last, freezes_entry, freezes_last, looks_again, sees_quiet, sees_quiet_last, helps_scan, sees_drawn, sees_drawn_last, draws_for, settles_scan, settles_last, finds_drawn, finds_drawn_last, finds_no_scan, finds_no_scan_last}
 use Rattle.kw_core.proofs.Arrows.{take_leads, takes_left, takes_no_more, takes_key, takes_version, keeps_taken, takes_left_key, keeps_left, keeps_no_more}
 use Rattle.kw_core.proofs.Happens.{Happens, log_entry}
 use Rattle.kw_puts.specs.Freezes.{IsToFreeze, IsUnsettled, HasFrozen, IsMarkOf, IsBeforeTaking, Remembers}
@@ -57,7 +57,7 @@ use Rattle.kw_puts.proofs.NewAttempts.{IsNew, attempt_was}
 use Rattle.kw_puts.proofs.OwnAttempts.{acting_own, positive, below_end, entry_lost, entry_stamped, entry_pending}
 use Rattle.kw_puts.proofs.ListSteps.{listed_stays}
 use Rattle.kw_puts.proofs.FrozenRows.{not_pending}
-use Rattle.kw_puts.proofs.Freezes.{built_frozen, frozen_builds, frozen_linked, not_unsettled, look_freezes, rest_freezes}
+use Rattle.kw_puts.proofs.Freezes.{built_frozen, frozen_builds, frozen_linked, not_unsettled, look_freezes, left_over_freezes}
 
 -- The cells of remembered attempts.
 
@@ -180,11 +180,11 @@ module _ (z : Sizes) (r r' : Run) (s : ℕ) (choice : Choice) (l : Local) (a : A
           let own = acting_own z r r' s choice l a l' h i (subst IsPutting (sym f) tt) in
           one_stamped p (r.seats s).own l.version (r.seats s).loaded w n (subst IsStamping (sym f) tt) l.cell (rw (own.row, own.seat) m) x
       by b c f n (makes_help q m k) =
-          let met : Helps r.history r.origin l.activity l (r.seats s) = i.puts.helps s l h.knows (subst HasMet (sym (h.activity ∙ f)) tt) in
+          let saw : Helps r.history r.origin l.activity l (r.seats s) = i.puts.helps s l h.knows (subst HasSeenPending (sym (h.activity ∙ f)) tt) in
           let known = i.shape.sane.locals s l h.knows in
-          let place : HasCell r.ledger.rows r.history l.row l.met q = pending_cell i.puts l.row l.looked l.met q known.below.row known.ranges.looked m k in
-          let is : met.put ≡ q = same_Some met.put q (sym met.origin ∙ k) in
-          one_stamped p q l.helping (r.seats s).loaded w n (subst IsStamping (sym f) tt) l.met (rw (place.row, sym (ap (λ y. (attempt r.history y).seat) is) ∙ met.seat) m) x
+          let place : HasCell r.ledger.rows r.history l.row l.saw q = pending_cell i.puts l.row l.looked l.saw q known.below.row known.ranges.looked m k in
+          let is : saw.put ≡ q = same_Some saw.put q (sym saw.origin ∙ k) in
+          one_stamped p q l.helping (r.seats s).loaded w n (subst IsStamping (sym f) tt) l.saw (rw (place.row, sym (ap (λ y. (attempt r.history y).seat) is) ∙ saw.seat) m) x
       by b c f n (makes_lose j cell q e m k) = one_lost p q w n x
       by b c f n (makes_end answer) = same c (attempt_left r.history r'.history _ p c tt n w)
 
@@ -194,8 +194,8 @@ module _ (z : Sizes) (r r' : Run) (s : ℕ) (choice : Choice) (l : Local) (a : A
     goes : GoesOn r.history r'.history r.origin r'.origin r.ledger.rows
     goes = goes_on_by z r r' s choice l a l' h i st
 
-    -- they are remembered or listed, if all that were stamped were and no entry that was passed was
-    -- pending
+    -- they are remembered or listed, if all that were stamped were and no entry that was gone by
+    -- was pending
     noted_still : (q n : ℕ) (marks : List Mark) → WasLinked r.ledger.rows q → ((j c : ℕ) → j < z.seats → j < n → IsStamping a → word z r.world (name.Pend q j) ≡ pend_word (pend.Pending c) → ⊥) →
         ((p : ℕ) → p < length r.history.attempts → IsMadeIn r.ledger.rows r.history q p → (attempt r.history p).is_stamped ≡ true → (attempt r.history p).seat < n → (is_marked (attempt r.history p).cell marks ≡ true) ⊎ (r.listed q (attempt r.history p).cell ≡ true)) →
         (p : ℕ) → p < length r'.history.attempts → IsMadeIn r'.ledger.rows r'.history q p → (attempt r'.history p).is_stamped ≡ true → (attempt r'.history p).seat < n → (is_marked (attempt r'.history p).cell marks ≡ true) ⊎ (r'.listed q (attempt r'.history p).cell ≡ true)
@@ -253,20 +253,20 @@ module _ (z : Sizes) (r r' : Run) (s : ℕ) (choice : Choice) (l : Local) (a : A
     was_noted : IsBeforeTaking a → (p : ℕ) → p < length r.history.attempts → IsMadeIn r.ledger.rows r.history l.row p → (attempt r.history p).is_stamped ≡ true → (attempt r.history p).seat < frozen_by z a → (is_marked (attempt r.history p).cell l.rebalance.marks ≡ true) ⊎ (r.listed l.row (attempt r.history p).cell ≡ true)
     was_noted x p w e y b = (i.puts.remembers s l h.knows).noted (subst IsBeforeTaking (sym h.activity) x) p w e y (subst (λ c. (attempt r.history p).seat < frozen_by z c) (sym h.activity) b)
 
-    -- what it remembers then, where it passes no entry
+    -- what it remembers then, where it goes by no entry
     goes_on : (b : Activity) (k : Local) → k.row ≡ l.row → k.rebalance.marks ≡ l.rebalance.marks → HasFrozen a → (IsStamping a → ⊥) → (IsBeforeTaking b → IsBeforeTaking a × (frozen_by z b ≡ frozen_by z a)) → Remembers z r'.ledger.rows r'.history r'.origin r'.listed b k
     goes_on b k e f p n g = record {
       marks = λ x. rw (e, f) (own_marks p);
       noted = λ x. rw (e, f, (g x).1) (noted_still l.row (frozen_by z a) l.rebalance.marks (its_row p) (λ j c o w m y. n m) (was_noted (g x).0));
     }
 
-    -- where it passes the entry of one more seat: each stamped attempt of that seat is remembered
+    -- where it goes by the entry of one more seat: each stamped attempt of that seat is remembered
     -- or listed
-    passes_one : (b : Activity) (k : Local) (m n : ℕ) → k.row ≡ l.row → HasFrozen a → (IsStamping a → ⊥) → IsBeforeTaking a → m ≡ frozen_by z a → frozen_by z b ≡ n → n ≤ m + 1 →
+    goes_by_one : (b : Activity) (k : Local) (m n : ℕ) → k.row ≡ l.row → HasFrozen a → (IsStamping a → ⊥) → IsBeforeTaking a → m ≡ frozen_by z a → frozen_by z b ≡ n → n ≤ m + 1 →
         All (IsMarkOf r'.history r'.origin l.row) k.rebalance.marks → ((c : ℕ) → is_marked c l.rebalance.marks ≡ true → is_marked c k.rebalance.marks ≡ true) →
         ((p : ℕ) → p < length r.history.attempts → (attempt r.history p).is_stamped ≡ true → word z r.world (name.Pend l.row m) ≡ pend_word (pend.Stamped (attempt r.history p).cell (attempt r.history p).version) → is_marked (attempt r.history p).cell k.rebalance.marks ≡ true) →
         Remembers z r'.ledger.rows r'.history r'.origin r'.listed b k
-    passes_one b k m n e held d g u v o marks more here = record {
+    goes_by_one b k m n e held d g u v o marks more here = record {
       marks = λ x. rw e marks;
       noted = λ x. rw (e, v) (noted_still l.row n k.rebalance.marks (its_row held) (λ j c o w y k. d y) was);
     }
@@ -303,7 +303,7 @@ before_taking (Activity.Rebalance (Rebalance.Freeze (Freeze.Settle m))) n x = n 
 before_taking (Activity.Rebalance (Rebalance.Replace Replace.First)) n x = x
 before_taking _ n x = x
 
--- The entry that the acting seat passes.
+-- The entry that the acting seat goes by.
 
 module _ (z : Sizes) (r : Run) (i : Below z r) (l : Local) (m : ℕ) where
   -- a stamped entry is that of the cell that is remembered now
@@ -322,7 +322,7 @@ module _ (z : Sizes) (r : Run) (i : Below z r) (l : Local) (m : ℕ) where
   froze_here : {A : Type 0} → IsUnsettled l.rebalance.entry → word z r.world (name.Pend l.row m) ≡ pend_word l.rebalance.entry → (c version : ℕ) → word z r.world (name.Pend l.row m) ≡ pend_word (pend.Stamped c version) → A
   froze_here u e c version x = absurd (not_unsettled l.rebalance.entry c version u (sym x ∙ e))
 
--- a seat that builds new rows has passed the entries and the scans
+-- a seat that builds new rows has gone by the entries and the scans
 built_takes : (a : Activity) → IsAfterBuilding a → IsBeforeTaking a → ⊥
 built_takes (Activity.Rebalance (Rebalance.Freeze (Freeze.Look i))) n x = n
 built_takes (Activity.Rebalance (Rebalance.Freeze (Freeze.Entry i))) n x = n
@@ -344,24 +344,24 @@ remembers_own z r r' s choice l a l' (builds b next y t) h i st = record { marks
         let keeps = built_keeps z (word z r.world) choice l b next t (frozen_builds next.activity after x) in
         rw (keeps.row, keeps.marks) (own_marks z r r' s choice l b next h i st (built_frozen z (word z r.world) choice l b next t x))
 remembers_own z r r' s choice l a l' freezes_count h i st = record { marks = λ x. All-nil (IsMarkOf r'.history r'.origin l.row); noted = λ x p w e y b. absurd (omega (arith, b)) }
-remembers_own z r r' s choice l a l' (meets_idle m e) h i st = goes_on z r r' s choice l (Activity.Rebalance (Rebalance.Freeze (Freeze.Look m))) l' h i st _ l' refl refl tt (λ x. x) (λ x. (tt, refl))
-remembers_own z r r' s choice l a l' (meets_unstamped m c e) h i st = goes_on z r r' s choice l (Activity.Rebalance (Rebalance.Freeze (Freeze.Look m))) l' h i st _ l' refl refl tt (λ x. x) (λ x. (tt, refl))
-remembers_own z r r' s choice l a l' (remembers m c version e u) h i st = passes_one z r r' s choice l (Activity.Rebalance (Rebalance.Freeze (Freeze.Look m))) l' h i st _ l' m (m + 1) refl tt (λ x. x) tt refl refl (omega arith) (All-push (IsMarkOf r'.history r'.origin l.row) l.rebalance.marks (mark_of c version) (own_marks z r r' s choice l (Activity.Rebalance (Rebalance.Freeze (Freeze.Look m))) l' h i st tt) (mark_lasts r.history r'.history r.origin r'.origin r.ledger.rows (goes z r r' s choice l (Activity.Rebalance (Rebalance.Freeze (Freeze.Look m))) l' h i st) l.row (frozen_linked z r i.shape s l h.knows (subst HasFrozen (sym h.activity) tt)) (mark_of c version) (stamped_mark z r i l.row m c version (i.shape.sane.locals s l h.knows).below.row (subst (IsActivity z) h.activity (i.shape.sane.locals s l h.knows).ranges.activity) e))) (λ d x. marked_more d l.rebalance.marks (mark_of c version) x) (stamped_here z r i l m c version l.rebalance.marks e)
-remembers_own z r r' s choice l a l' (remembers_last m c version e u) h i st = passes_one z r r' s choice l (Activity.Rebalance (Rebalance.Freeze (Freeze.Look m))) l' h i st _ l' m z.seats refl tt (λ x. x) tt refl refl (u) (All-push (IsMarkOf r'.history r'.origin l.row) l.rebalance.marks (mark_of c version) (own_marks z r r' s choice l (Activity.Rebalance (Rebalance.Freeze (Freeze.Look m))) l' h i st tt) (mark_lasts r.history r'.history r.origin r'.origin r.ledger.rows (goes z r r' s choice l (Activity.Rebalance (Rebalance.Freeze (Freeze.Look m))) l' h i st) l.row (frozen_linked z r i.shape s l h.knows (subst HasFrozen (sym h.activity) tt)) (mark_of c version) (stamped_mark z r i l.row m c version (i.shape.sane.locals s l h.knows).below.row (subst (IsActivity z) h.activity (i.shape.sane.locals s l h.knows).ranges.activity) e))) (λ d x. marked_more d l.rebalance.marks (mark_of c version) x) (stamped_here z r i l m c version l.rebalance.marks e)
-remembers_own z r r' s choice l a l' (meets_frozen m e u) h i st = passes_one z r r' s choice l (Activity.Rebalance (Rebalance.Freeze (Freeze.Look m))) l' h i st _ l' m (m + 1) refl tt (λ x. x) tt refl refl (omega arith) (own_marks z r r' s choice l (Activity.Rebalance (Rebalance.Freeze (Freeze.Look m))) l' h i st tt) (λ d x. x) (λ p w y x. frozen_here z r i l m e p w y x)
-remembers_own z r r' s choice l a l' (meets_frozen_last m e u) h i st = passes_one z r r' s choice l (Activity.Rebalance (Rebalance.Freeze (Freeze.Look m))) l' h i st _ l' m z.seats refl tt (λ x. x) tt refl refl (u) (own_marks z r r' s choice l (Activity.Rebalance (Rebalance.Freeze (Freeze.Look m))) l' h i st tt) (λ d x. x) (λ p w y x. frozen_here z r i l m e p w y x)
-remembers_own z r r' s choice l a l' (freezes_entry m e u) h i st = passes_one z r r' s choice l (Activity.Rebalance (Rebalance.Freeze (Freeze.Entry m))) l' h i st _ l' m (m + 1) refl tt (λ x. x) tt refl refl (omega arith) (own_marks z r r' s choice l (Activity.Rebalance (Rebalance.Freeze (Freeze.Entry m))) l' h i st tt) (λ d x. x) (λ p w y x. froze_here z r i l m (subst (λ x. IsToFreeze x l) h.activity (i.puts.tries s l h.knows)) e _ _ x)
-remembers_own z r r' s choice l a l' (freezes_last m e u) h i st = passes_one z r r' s choice l (Activity.Rebalance (Rebalance.Freeze (Freeze.Entry m))) l' h i st _ l' m z.seats refl tt (λ x. x) tt refl refl (u) (own_marks z r r' s choice l (Activity.Rebalance (Rebalance.Freeze (Freeze.Entry m))) l' h i st tt) (λ d x. x) (λ p w y x. froze_here z r i l m (subst (λ x. IsToFreeze x l) h.activity (i.puts.tries s l h.knows)) e _ _ x)
+remembers_own z r r' s choice l a l' (sees_idle m e) h i st = goes_on z r r' s choice l (Activity.Rebalance (Rebalance.Freeze (Freeze.Look m))) l' h i st _ l' refl refl tt (λ x. x) (λ x. (tt, refl))
+remembers_own z r r' s choice l a l' (sees_unstamped m c e) h i st = goes_on z r r' s choice l (Activity.Rebalance (Rebalance.Freeze (Freeze.Look m))) l' h i st _ l' refl refl tt (λ x. x) (λ x. (tt, refl))
+remembers_own z r r' s choice l a l' (remembers m c version e u) h i st = goes_by_one z r r' s choice l (Activity.Rebalance (Rebalance.Freeze (Freeze.Look m))) l' h i st _ l' m (m + 1) refl tt (λ x. x) tt refl refl (omega arith) (All-push (IsMarkOf r'.history r'.origin l.row) l.rebalance.marks (mark_of c version) (own_marks z r r' s choice l (Activity.Rebalance (Rebalance.Freeze (Freeze.Look m))) l' h i st tt) (mark_lasts r.history r'.history r.origin r'.origin r.ledger.rows (goes z r r' s choice l (Activity.Rebalance (Rebalance.Freeze (Freeze.Look m))) l' h i st) l.row (frozen_linked z r i.shape s l h.knows (subst HasFrozen (sym h.activity) tt)) (mark_of c version) (stamped_mark z r i l.row m c version (i.shape.sane.locals s l h.knows).below.row (subst (IsActivity z) h.activity (i.shape.sane.locals s l h.knows).ranges.activity) e))) (λ d x. marked_more d l.rebalance.marks (mark_of c version) x) (stamped_here z r i l m c version l.rebalance.marks e)
+remembers_own z r r' s choice l a l' (remembers_last m c version e u) h i st = goes_by_one z r r' s choice l (Activity.Rebalance (Rebalance.Freeze (Freeze.Look m))) l' h i st _ l' m z.seats refl tt (λ x. x) tt refl refl (u) (All-push (IsMarkOf r'.history r'.origin l.row) l.rebalance.marks (mark_of c version) (own_marks z r r' s choice l (Activity.Rebalance (Rebalance.Freeze (Freeze.Look m))) l' h i st tt) (mark_lasts r.history r'.history r.origin r'.origin r.ledger.rows (goes z r r' s choice l (Activity.Rebalance (Rebalance.Freeze (Freeze.Look m))) l' h i st) l.row (frozen_linked z r i.shape s l h.knows (subst HasFrozen (sym h.activity) tt)) (mark_of c version) (stamped_mark z r i l.row m c version (i.shape.sane.locals s l h.knows).below.row (subst (IsActivity z) h.activity (i.shape.sane.locals s l h.knows).ranges.activity) e))) (λ d x. marked_more d l.rebalance.marks (mark_of c version) x) (stamped_here z r i l m c version l.rebalance.marks e)
+remembers_own z r r' s choice l a l' (sees_frozen m e u) h i st = goes_by_one z r r' s choice l (Activity.Rebalance (Rebalance.Freeze (Freeze.Look m))) l' h i st _ l' m (m + 1) refl tt (λ x. x) tt refl refl (omega arith) (own_marks z r r' s choice l (Activity.Rebalance (Rebalance.Freeze (Freeze.Look m))) l' h i st tt) (λ d x. x) (λ p w y x. frozen_here z r i l m e p w y x)
+remembers_own z r r' s choice l a l' (sees_frozen_last m e u) h i st = goes_by_one z r r' s choice l (Activity.Rebalance (Rebalance.Freeze (Freeze.Look m))) l' h i st _ l' m z.seats refl tt (λ x. x) tt refl refl (u) (own_marks z r r' s choice l (Activity.Rebalance (Rebalance.Freeze (Freeze.Look m))) l' h i st tt) (λ d x. x) (λ p w y x. frozen_here z r i l m e p w y x)
+remembers_own z r r' s choice l a l' (freezes_entry m e u) h i st = goes_by_one z r r' s choice l (Activity.Rebalance (Rebalance.Freeze (Freeze.Entry m))) l' h i st _ l' m (m + 1) refl tt (λ x. x) tt refl refl (omega arith) (own_marks z r r' s choice l (Activity.Rebalance (Rebalance.Freeze (Freeze.Entry m))) l' h i st tt) (λ d x. x) (λ p w y x. froze_here z r i l m (subst (λ x. IsToFreeze x l) h.activity (i.puts.tries s l h.knows)) e _ _ x)
+remembers_own z r r' s choice l a l' (freezes_last m e u) h i st = goes_by_one z r r' s choice l (Activity.Rebalance (Rebalance.Freeze (Freeze.Entry m))) l' h i st _ l' m z.seats refl tt (λ x. x) tt refl refl (u) (own_marks z r r' s choice l (Activity.Rebalance (Rebalance.Freeze (Freeze.Entry m))) l' h i st tt) (λ d x. x) (λ p w y x. froze_here z r i l m (subst (λ x. IsToFreeze x l) h.activity (i.puts.tries s l h.knows)) e _ _ x)
 remembers_own z r r' s choice l a l' (looks_again m e) h i st = goes_on z r r' s choice l (Activity.Rebalance (Rebalance.Freeze (Freeze.Entry m))) l' h i st _ l' refl refl tt (λ x. x) (λ x. (tt, refl))
-remembers_own z r r' s choice l a l' (meets_quiet m e u) h i st = goes_on z r r' s choice l (Activity.Rebalance (Rebalance.Freeze (Freeze.Scan m))) l' h i st _ l' refl refl tt (λ x. x) (λ x. (tt, refl))
+remembers_own z r r' s choice l a l' (sees_quiet m e u) h i st = goes_on z r r' s choice l (Activity.Rebalance (Rebalance.Freeze (Freeze.Scan m))) l' h i st _ l' refl refl tt (λ x. x) (λ x. (tt, refl))
 remembers_own z r r' s choice l a l' (helps_scan m clock e) h i st = goes_on z r r' s choice l (Activity.Rebalance (Rebalance.Freeze (Freeze.Scan m))) l' h i st _ l' refl refl tt (λ x. x) (λ x. (tt, refl))
-remembers_own z r r' s choice l a l' (meets_drawn m version e u) h i st = goes_on z r r' s choice l (Activity.Rebalance (Rebalance.Freeze (Freeze.Scan m))) l' h i st _ l' refl refl tt (λ x. x) (λ x. (tt, refl))
+remembers_own z r r' s choice l a l' (sees_drawn m version e u) h i st = goes_on z r r' s choice l (Activity.Rebalance (Rebalance.Freeze (Freeze.Scan m))) l' h i st _ l' refl refl tt (λ x. x) (λ x. (tt, refl))
 remembers_own z r r' s choice l a l' (draws_for m) h i st = goes_on z r r' s choice l (Activity.Rebalance (Rebalance.Freeze (Freeze.Draw m))) l' h i st _ l' refl refl tt (λ x. x) (λ x. (tt, refl))
 remembers_own z r r' s choice l a l' (settles_scan m e u) h i st = goes_on z r r' s choice l (Activity.Rebalance (Rebalance.Freeze (Freeze.Settle m))) l' h i st _ l' refl refl tt (λ x. x) (λ x. (tt, refl))
 remembers_own z r r' s choice l a l' (finds_drawn m version e u) h i st = goes_on z r r' s choice l (Activity.Rebalance (Rebalance.Freeze (Freeze.Settle m))) l' h i st _ l' refl refl tt (λ x. x) (λ x. (tt, refl))
 remembers_own z r r' s choice l a l' (finds_no_scan m e u) h i st = goes_on z r r' s choice l (Activity.Rebalance (Rebalance.Freeze (Freeze.Settle m))) l' h i st _ l' refl refl tt (λ x. x) (λ x. (tt, refl))
-remembers_own z r r' s choice l a l' (meets_quiet_last m e u) h i st = takes_on z r r' s choice l (Activity.Rebalance (Rebalance.Freeze (Freeze.Scan m))) l' h i st _ l' refl (λ x. x) (own_marks z r r' s choice l (Activity.Rebalance (Rebalance.Freeze (Freeze.Scan m))) l' h i st tt)
-remembers_own z r r' s choice l a l' (meets_drawn_last m version e u) h i st = takes_on z r r' s choice l (Activity.Rebalance (Rebalance.Freeze (Freeze.Scan m))) l' h i st _ l' refl (λ x. x) (own_marks z r r' s choice l (Activity.Rebalance (Rebalance.Freeze (Freeze.Scan m))) l' h i st tt)
+remembers_own z r r' s choice l a l' (sees_quiet_last m e u) h i st = takes_on z r r' s choice l (Activity.Rebalance (Rebalance.Freeze (Freeze.Scan m))) l' h i st _ l' refl (λ x. x) (own_marks z r r' s choice l (Activity.Rebalance (Rebalance.Freeze (Freeze.Scan m))) l' h i st tt)
+remembers_own z r r' s choice l a l' (sees_drawn_last m version e u) h i st = takes_on z r r' s choice l (Activity.Rebalance (Rebalance.Freeze (Freeze.Scan m))) l' h i st _ l' refl (λ x. x) (own_marks z r r' s choice l (Activity.Rebalance (Rebalance.Freeze (Freeze.Scan m))) l' h i st tt)
 remembers_own z r r' s choice l a l' (settles_last m e u) h i st = takes_on z r r' s choice l (Activity.Rebalance (Rebalance.Freeze (Freeze.Settle m))) l' h i st _ l' refl (λ x. x) (own_marks z r r' s choice l (Activity.Rebalance (Rebalance.Freeze (Freeze.Settle m))) l' h i st tt)
 remembers_own z r r' s choice l a l' (finds_drawn_last m version e u) h i st = takes_on z r r' s choice l (Activity.Rebalance (Rebalance.Freeze (Freeze.Settle m))) l' h i st _ l' refl (λ x. x) (own_marks z r r' s choice l (Activity.Rebalance (Rebalance.Freeze (Freeze.Settle m))) l' h i st tt)
 remembers_own z r r' s choice l a l' (finds_no_scan_last m e u) h i st = takes_on z r r' s choice l (Activity.Rebalance (Rebalance.Freeze (Freeze.Settle m))) l' h i st _ l' refl (λ x. x) (own_marks z r r' s choice l (Activity.Rebalance (Rebalance.Freeze (Freeze.Settle m))) l' h i st tt)
@@ -374,14 +374,14 @@ remembers_own z r r' s choice l a l' (keeps_no_more e) h i st = takes_on z r r' 
 remembers_own z r r' s choice l a l' (take_leads c e) h i st = takes_on z r r' s choice l (Activity.Rebalance (Rebalance.Gather Gather.Link)) l' h i st _ l' refl (λ x. x) (unmarked_in_range (IsMarkOf r'.history r'.origin l.row) c l.rebalance.marks (own_marks z r r' s choice l (Activity.Rebalance (Rebalance.Gather Gather.Link)) l' h i st tt))
 remembers_own z r r' s choice l a l' (takes_left m e u) h i st = takes_on z r r' s choice l (Activity.Rebalance (Rebalance.Gather Gather.Link)) l' h i st _ l' refl (λ x. x) (unmarked_in_range (IsMarkOf r'.history r'.origin l.row) m.cell l.rebalance.marks (own_marks z r r' s choice l (Activity.Rebalance (Rebalance.Gather Gather.Link)) l' h i st tt))
 remembers_own z r r' s choice l a l' (keeps_left m e) h i st = takes_on z r r' s choice l (Activity.Rebalance (Rebalance.Gather Gather.LeftOverValue)) l' h i st _ l' refl (λ x. x) (unmarked_in_range (IsMarkOf r'.history r'.origin l.row) m.cell l.rebalance.marks (own_marks z r r' s choice l (Activity.Rebalance (Rebalance.Gather Gather.LeftOverValue)) l' h i st tt))
-remembers_own z r r' s choice l a l' (meets_stamped j c version next e n) h i st = unfrozen z r r' s choice l _ l' h i st next l' (look_freezes z _ next n) (before_taking next (look_freezes z _ next n))
-remembers_own z r r' s choice l a l' (meets_neither j next e n) h i st = unfrozen z r r' s choice l _ l' h i st next l' (look_freezes z _ next n) (before_taking next (look_freezes z _ next n))
-remembers_own z r r' s choice l a l' (is_passed next e n) h i st = unfrozen z r r' s choice l _ l' h i st next l' (look_freezes z _ next n) (before_taking next (look_freezes z _ next n))
+remembers_own z r r' s choice l a l' (sees_stamped j c version next e n) h i st = unfrozen z r r' s choice l _ l' h i st next l' (look_freezes z _ next n) (before_taking next (look_freezes z _ next n))
+remembers_own z r r' s choice l a l' (sees_neither j next e n) h i st = unfrozen z r r' s choice l _ l' h i st next l' (look_freezes z _ next n) (before_taking next (look_freezes z _ next n))
+remembers_own z r r' s choice l a l' (is_gone_by next e n) h i st = unfrozen z r r' s choice l _ l' h i st next l' (look_freezes z _ next n) (before_taking next (look_freezes z _ next n))
 remembers_own z r r' s choice l a l' (helps next e n) h i st = unfrozen z r r' s choice l _ l' h i st next l' (look_freezes z _ next n) (before_taking next (look_freezes z _ next n))
 remembers_own z r r' s choice l a l' (finds_stamped c version next e n) h i st = unfrozen z r r' s choice l _ l' h i st next l' (look_freezes z _ next n) (before_taking next (look_freezes z _ next n))
 remembers_own z r r' s choice l a l' (finds_other next e n) h i st = unfrozen z r r' s choice l _ l' h i st next l' (look_freezes z _ next n) (before_taking next (look_freezes z _ next n))
-remembers_own z r r' s choice l a l' (list_ends next e n) h i st = unfrozen z r r' s choice l _ l' h i st next.activity l' (rest_freezes _ next n) (before_taking next.activity (rest_freezes _ next n))
-remembers_own z r r' s choice l a l' (key_above next e n) h i st = unfrozen z r r' s choice l _ l' h i st next.activity l' (rest_freezes _ next n) (before_taking next.activity (rest_freezes _ next n))
-remembers_own z r r' s choice l a l' (rest_passed next e n) h i st = unfrozen z r r' s choice l _ l' h i st next.activity l' (rest_freezes _ next n) (before_taking next.activity (rest_freezes _ next n))
-remembers_own z r r' s choice l a l' (gathers_rest next n) h i st = unfrozen z r r' s choice l _ l' h i st next.activity l' (rest_freezes _ next n) (before_taking next.activity (rest_freezes _ next n))
+remembers_own z r r' s choice l a l' (list_ends next e n) h i st = unfrozen z r r' s choice l _ l' h i st next.activity l' (left_over_freezes _ next n) (before_taking next.activity (left_over_freezes _ next n))
+remembers_own z r r' s choice l a l' (key_above next e n) h i st = unfrozen z r r' s choice l _ l' h i st next.activity l' (left_over_freezes _ next n) (before_taking next.activity (left_over_freezes _ next n))
+remembers_own z r r' s choice l a l' (left_over_gone_by next e n) h i st = unfrozen z r r' s choice l _ l' h i st next.activity l' (left_over_freezes _ next n) (before_taking next.activity (left_over_freezes _ next n))
+remembers_own z r r' s choice l a l' (gathers_left_over next n) h i st = unfrozen z r r' s choice l _ l' h i st next.activity l' (left_over_freezes _ next n) (before_taking next.activity (left_over_freezes _ next n))
 remembers_own z r r' s choice l a l' _ h i st = unfrozen z r r' s choice l a l' h i st l'.activity l' (λ p. p) (λ p. p)

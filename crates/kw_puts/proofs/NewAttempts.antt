@@ -117,11 +117,11 @@ announced_or_now z r r' s choice l a c e (makes_end answer) n p w x = inl (sym (
 
 -- a row that gives no cell though it has not given all is frozen
 pub no_room_frozen : (z : Sizes) (x : Option Counted) → IsGiven x → has_room z x ≡ false → given_of x < z.cells → has_frozen x ≡ true
-no_room_frozen z (Some c) g e o = met c.frozen e
+no_room_frozen z (Some c) g e o = saw c.frozen e
   where
-    met : (b : Bool) → (if b then false else nat_lt c.given z.cells) ≡ false → b ≡ true
-    met true y = refl
-    met false y = let w : true ≡ false = sym (lt-ltb c.given z.cells o) ∙ y in absurd (cc)
+    saw : (b : Bool) → (if b then false else nat_lt c.given z.cells) ≡ false → b ≡ true
+    saw true y = refl
+    saw false y = let w : true ≡ false = sym (lt-ltb c.given z.cells o) ∙ y in absurd (cc)
 no_room_frozen z None g e o = absurd g
 
 -- one more cell of a row is asked for
@@ -201,14 +201,14 @@ module _ {z : Sizes} {r r' : Run} {s : ℕ} {choice : Choice} {l l' : Local} whe
 
   -- what a cell of a row that is or was linked stands for is as it was, or the cell is given now
   pub origin_was : (a : Activity) → Happens z r r' s choice l l' a → Shape z r → (q c : ℕ) → WasLinked r.ledger.rows q → (r'.origin q c ≡ r.origin q c) ⊎ IsGiving z r l a × (q ≡ l.row) × (c ≡ given_in (word z r.world) l.row) × (r'.origin q c ≡ Some (length r.history.attempts))
-  origin_was (Activity.Put Put.Add) h i q c k = subst (λ o. (o q c ≡ r.origin q c) ⊎ IsGiving z r l (Activity.Put Put.Add) × (q ≡ l.row) × (c ≡ given_in (word z r.world) l.row) × (o q c ≡ Some (length r.history.attempts))) (sym h.origin) (met (has_room z (count_of (word z r.world (name.Count l.row)))) refl)
+  origin_was (Activity.Put Put.Add) h i q c k = subst (λ o. (o q c ≡ r.origin q c) ⊎ IsGiving z r l (Activity.Put Put.Add) × (q ≡ l.row) × (c ≡ given_in (word z r.world) l.row) × (o q c ≡ Some (length r.history.attempts))) (sym h.origin) (saw (has_room z (count_of (word z r.world (name.Count l.row)))) refl)
     where
       at : (b : Bool) → ((q == l.row) && (c == given_in (word z r.world) l.row)) ≡ b → has_room z (count_of (word z r.world (name.Count l.row))) ≡ true → ((if b then Some (length r.history.attempts) else r.origin q c) ≡ r.origin q c) ⊎ IsGiving z r l (Activity.Put Put.Add) × (q ≡ l.row) × (c ≡ given_in (word z r.world) l.row) × ((if b then Some (length r.history.attempts) else r.origin q c) ≡ Some (length r.history.attempts))
       at true e m = let t = and_parts (q == l.row) (c == given_in (word z r.world) l.row) e in inr (record { takes = refl; room = m }, eq_from q l.row t.0, eq_from _ _ t.1, refl)
       at false e m = inl refl
 
-      met : (b : Bool) → has_room z (count_of (word z r.world (name.Count l.row))) ≡ b → ((let o : Origins = if b then with_origin r.origin l.row (given_in (word z r.world) l.row) (length r.history.attempts) else r.origin in o) q c ≡ r.origin q c) ⊎ IsGiving z r l (Activity.Put Put.Add) × (q ≡ l.row) × (c ≡ given_in (word z r.world) l.row) × ((let o : Origins = if b then with_origin r.origin l.row (given_in (word z r.world) l.row) (length r.history.attempts) else r.origin in o) q c ≡ Some (length r.history.attempts))
-      met true m = at _ refl m
-      met false m = inl refl
+      saw : (b : Bool) → has_room z (count_of (word z r.world (name.Count l.row))) ≡ b → ((let o : Origins = if b then with_origin r.origin l.row (given_in (word z r.world) l.row) (length r.history.attempts) else r.origin in o) q c ≡ r.origin q c) ⊎ IsGiving z r l (Activity.Put Put.Add) × (q ≡ l.row) × (c ≡ given_in (word z r.world) l.row) × ((let o : Origins = if b then with_origin r.origin l.row (given_in (word z r.world) l.row) (length r.history.attempts) else r.origin in o) q c ≡ Some (length r.history.attempts))
+      saw true m = at _ refl m
+      saw false m = inl refl
   origin_was (Activity.Rebalance (Rebalance.Write (Write.Version j))) h i q c k = inl (origin_stays (Activity.Rebalance (Rebalance.Write (Write.Version j))) h q c (λ x. not_hand (Activity.Rebalance (Rebalance.Write (Write.Version j))) h i tt q k x.0))
   origin_was a h i q c k = inl (ap (λ o. o q c) h.origin)

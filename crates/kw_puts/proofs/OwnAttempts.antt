@@ -41,8 +41,8 @@ use Rattle.kw_core.proofs.NotedLaws.{attempt_set_same}
 use Rattle.kw_core.proofs.Steps.{new_stands}
 use Rattle.kw_core.proofs.Happens.{Happens, chosen, not_chosen, exchanged, not_exchanged}
 use Rattle.kw_core.proofs.BuiltNext.{IsAfterBuilding, built_next}
-use Rattle.kw_core.proofs.Arrows.{builds, Arrow, NextLook, looks, lists, NextRest, rests, answers, ends_scan, scans_on, IsNotOwn}
-use Rattle.kw_core.proofs.Arrows.{meets_stamped, meets_neither, is_passed, helps, finds_stamped, finds_other, list_ends, key_above, rest_passed, gathers_rest, takes_cell, stores_key, stores_value, announces, loads_clock, stamps, is_stamped, stores_version, meets_cell, meets_none, key_before, key_same, key_after, version_before, version_after, stores_after, inserts, loses}
+use Rattle.kw_core.proofs.Arrows.{builds, Arrow, NextLook, looks, lists, NextLeftOver, goes_to_left_over, answers, ends_scan, scans_on, IsNotOwn}
+use Rattle.kw_core.proofs.Arrows.{sees_stamped, sees_neither, is_gone_by, helps, finds_stamped, finds_other, list_ends, key_above, left_over_gone_by, gathers_left_over, takes_cell, stores_key, stores_value, announces, loads_clock, stamps, is_stamped, stores_version, reaches_cell, sees_none, key_before, key_same, key_after, version_before, version_after, stores_after, inserts, loses}
 use Rattle.kw_core.proofs.Frame.{WritesOwnEntry}
 use Rattle.kw_core.proofs.FreezeFrame.{FreezesEntry}
 use Rattle.kw_core.proofs.InfantFrames.{entry_stays as entry_same, key_stays}
@@ -77,7 +77,7 @@ inserting_freezes : (t : ℕ) (a : Activity) → IsInserting a → FreezesEntry 
 inserting_freezes t (Activity.Rebalance (Rebalance.Freeze (Freeze.Entry i))) m x = m
 inserting_freezes t _ m x = x
 
--- What a seat with a cell knows, and what it meets.
+-- What a seat with a cell knows, and what it sees.
 
 -- its own attempt
 pub acting_own : (z : Sizes) (r r' : Run) (s : ℕ) (choice : Choice) (l : Local) (a : Activity) (l' : Local) → Happens z r r' s choice l l' a → Below z r → IsPutting a → OwnsAttempt (word z r.world) r.history s l.activity l (r.seats s)
@@ -125,12 +125,12 @@ entry_pending p k x = rw (k, x) refl
 
 -- an attempt whose entry is stamped is so with the version of the entry
 stamped_entry : (p : Attempt) (c version : ℕ) → p.cell ≡ c → entry_of p ≡ pend_word (pend.Stamped c version) → (p.is_stamped ≡ true) × (p.version ≡ version)
-stamped_entry p c version f e = met p.is_lost p.is_stamped refl refl
+stamped_entry p c version f e = saw p.is_lost p.is_stamped refl refl
   where
-    met : (a b : Bool) → p.is_lost ≡ a → p.is_stamped ≡ b → (p.is_stamped ≡ true) × (p.version ≡ version)
-    met true b k y = let x : pend_word pend.Frozen ≡ pend_word (pend.Stamped c version) = rw k at e in absurd (omega (arith, x))
-    met false true k y = let x : pend_word (pend.Stamped p.cell p.version) ≡ pend_word (pend.Stamped c version) = rw (k, y) at e in (y, omega (arith, x, f))
-    met false false k y = let x : pend_word (pend.Pending p.cell) ≡ pend_word (pend.Stamped c version) = rw (k, y) at e in absurd (omega (arith, x))
+    saw : (a b : Bool) → p.is_lost ≡ a → p.is_stamped ≡ b → (p.is_stamped ≡ true) × (p.version ≡ version)
+    saw true b k y = let x : pend_word pend.Frozen ≡ pend_word (pend.Stamped c version) = rw k at e in absurd (omega (arith, x))
+    saw false true k y = let x : pend_word (pend.Stamped p.cell p.version) ≡ pend_word (pend.Stamped c version) = rw (k, y) at e in (y, omega (arith, x, f))
+    saw false false k y = let x : pend_word (pend.Pending p.cell) ≡ pend_word (pend.Stamped c version) = rw (k, y) at e in absurd (omega (arith, x))
 
 -- a seat that is about to stamp and whose entry is not its own has lost its attempt
 pub lost_entry : (z : Sizes) (r : Run) (s : ℕ) (l : Local) → Below z r → OwnsAttempt (word z r.world) r.history s l.activity l (r.seats s) → slice_get r.world.locals s ≡ Some l → l.activity ≡ Activity.Put Put.Stamp → IsNotOwn l.cell (word z r.world (name.Pend l.row s)) → (attempt r.history (r.seats s).own).is_lost ≡ true
@@ -504,14 +504,14 @@ cell_given z r r' s choice l m h = subst (OwnsAttempt (word z r'.world) r'.histo
     is : attempt r'.history (length r.history.attempts) ≡ added r (word z r.world) s l
     is = one_more_is h m
 
--- What a look, or a cell, leads to is no part of a put, and has met no entry.
+-- What a look, or a cell, leads to is no part of a put, and has seen no entry.
 
 pub look_puts : {A : Type 0} (z : Sizes) (j : ℕ) (a : Activity) → NextLook z j a → IsPutting a → A
 look_puts z j a (looks o) p = absurd p
 look_puts z j a (lists o) p = absurd p
 
-pub cell_puts : {A : Type 0} (l : Local) (n : Local) → NextRest l n → IsPutting n.activity → A
-cell_puts l n (rests m o) p = absurd p
+pub cell_puts : {A : Type 0} (l : Local) (n : Local) → NextLeftOver l n → IsPutting n.activity → A
+cell_puts l n (goes_to_left_over m o) p = absurd p
 cell_puts l n (answers o e) p = absurd p
 cell_puts l n (ends_scan o e f) p = absurd p
 cell_puts l n (scans_on q o e f g) p = absurd p
@@ -539,8 +539,8 @@ owns_own z r r' s choice l a l' loads_clock h i st after k p = clock_loaded z r 
 owns_own z r r' s choice l a l' (stamps e) h i st after k p = cell_stamped z r r' s choice l (sym (pend_word_of _ _ e)) h i st
 owns_own z r r' s choice l a l' (is_stamped version e) h i st after k p = found_stamped z r r' s choice l version (sym (pend_word_of _ _ e)) h i st
 owns_own z r r' s choice l a l' stores_version h i st after k p = version_stored z r r' s choice l h i st
-owns_own z r r' s choice l a l' (meets_cell c y) h i st after k p = insert_stays z r r' s choice l (Activity.Insert Insert.Link) l' h i st tt (Activity.Insert Insert.Key) (λ x. x) (λ x. x) (λ x. x) (λ x. x) h.log h.history (λ x. x) (λ x. x) (λ x. x) refl refl refl refl
-owns_own z r r' s choice l a l' (meets_none y) h i st after k p = insert_stays z r r' s choice l (Activity.Insert Insert.Link) l' h i st tt (Activity.Insert Insert.Set) (λ x. x) (λ x. x) (λ x. x) (λ x. x) h.log h.history (λ x. x) (λ x. x) (λ x. x) refl refl refl refl
+owns_own z r r' s choice l a l' (reaches_cell c y) h i st after k p = insert_stays z r r' s choice l (Activity.Insert Insert.Link) l' h i st tt (Activity.Insert Insert.Key) (λ x. x) (λ x. x) (λ x. x) (λ x. x) h.log h.history (λ x. x) (λ x. x) (λ x. x) refl refl refl refl
+owns_own z r r' s choice l a l' (sees_none y) h i st after k p = insert_stays z r r' s choice l (Activity.Insert Insert.Link) l' h i st tt (Activity.Insert Insert.Set) (λ x. x) (λ x. x) (λ x. x) (λ x. x) h.log h.history (λ x. x) (λ x. x) (λ x. x) refl refl refl refl
 owns_own z r r' s choice l a l' (key_before y) h i st after k p = insert_stays z r r' s choice l (Activity.Insert Insert.Key) l' h i st tt (Activity.Insert Insert.Link) (λ x. x) (λ x. x) (λ x. x) (λ x. x) h.log h.history (λ x. x) (λ x. x) (λ x. x) refl refl refl refl
 owns_own z r r' s choice l a l' (key_same y) h i st after k p = insert_stays z r r' s choice l (Activity.Insert Insert.Key) l' h i st tt (Activity.Insert Insert.Version) (λ x. x) (λ x. x) (λ x. x) (λ x. x) h.log h.history (λ x. x) (λ x. x) (λ x. x) refl refl refl refl
 owns_own z r r' s choice l a l' (key_after y) h i st after k p = insert_stays z r r' s choice l (Activity.Insert Insert.Key) l' h i st tt (Activity.Insert Insert.Set) (λ x. x) (λ x. x) (λ x. x) (λ x. x) h.log h.history (λ x. x) (λ x. x) (λ x. x) refl refl refl refl
@@ -549,14 +549,14 @@ owns_own z r r' s choice l a l' (version_after y) h i st after k p = insert_stay
 owns_own z r r' s choice l a l' stores_after h i st after k p = insert_stays z r r' s choice l (Activity.Insert Insert.Set) l' h i st tt (Activity.Insert Insert.Exchange) (λ x. x) (λ x. x) (λ x. x) (λ x. x) h.log h.history (λ x. x) (λ x. x) (λ x. x) refl refl refl refl
 owns_own z r r' s choice l a l' (inserts y) h i st after k p = insert_stays z r r' s choice l (Activity.Insert Insert.Exchange) l' h i st tt (Activity.Put Put.Clear) (λ x. x) (λ x. x) (λ x. x) (λ x. x) h.log h.history (λ x. x) (λ x. x) (λ x. x) refl refl refl refl
 owns_own z r r' s choice l a l' (loses y) h i st after k p = insert_stays z r r' s choice l (Activity.Insert Insert.Exchange) l' h i st tt (Activity.Insert Insert.Link) (λ x. x) (λ x. x) (λ x. x) (λ x. x) h.log h.history (λ x. x) (λ x. x) (λ x. x) refl refl refl refl
-owns_own z r r' s choice l a l' (meets_stamped j c version next e n) h i st after k p = look_puts z _ next n p
-owns_own z r r' s choice l a l' (meets_neither j next e n) h i st after k p = look_puts z _ next n p
-owns_own z r r' s choice l a l' (is_passed next e n) h i st after k p = look_puts z _ next n p
+owns_own z r r' s choice l a l' (sees_stamped j c version next e n) h i st after k p = look_puts z _ next n p
+owns_own z r r' s choice l a l' (sees_neither j next e n) h i st after k p = look_puts z _ next n p
+owns_own z r r' s choice l a l' (is_gone_by next e n) h i st after k p = look_puts z _ next n p
 owns_own z r r' s choice l a l' (helps next e n) h i st after k p = look_puts z _ next n p
 owns_own z r r' s choice l a l' (finds_stamped c version next e n) h i st after k p = look_puts z _ next n p
 owns_own z r r' s choice l a l' (finds_other next e n) h i st after k p = look_puts z _ next n p
 owns_own z r r' s choice l a l' (list_ends next e n) h i st after k p = cell_puts _ next n p
 owns_own z r r' s choice l a l' (key_above next e n) h i st after k p = cell_puts _ next n p
-owns_own z r r' s choice l a l' (rest_passed next e n) h i st after k p = cell_puts _ next n p
-owns_own z r r' s choice l a l' (gathers_rest next n) h i st after k p = cell_puts _ next n p
+owns_own z r r' s choice l a l' (left_over_gone_by next e n) h i st after k p = cell_puts _ next n p
+owns_own z r r' s choice l a l' (gathers_left_over next n) h i st after k p = cell_puts _ next n p
 owns_own z r r' s choice l a l' _ h i st after k p = absurd p

@@ -10,7 +10,7 @@ use Rattle.kw_lists.specs.Puts.{IsFrom, IsAt, IsSet, LeavesCell, LeavesOwn}
 use Rattle.kw_lists.specs.Words.{link_in}
 use Rattle.kw_lists.proofs.Counting.{count_most}
 use Rattle.kw_lists.proofs.Inserting.{at_next}
-use Rattle.kw_lists.proofs.Putting.{put_begins, put_loads, put_passes, put_stops, put_loses, from_stays, at_stays, ahead_stays, set_stays}
+use Rattle.kw_lists.proofs.Putting.{put_begins, put_loads, put_goes_by, put_stops, put_loses, from_stays, at_stays, ahead_stays, set_stays}
 use Rattle.kw_lists.proofs.Same.{behind_same}
 use Rattle.kw_lists.proofs.Walking.{walk_begins, walk_goes_on, walk_stays, walked_fewer}
 use Rattle.kw_world.specs.declared.activity.Activity.{Activity}
@@ -27,7 +27,7 @@ use Rattle.kw_world.specs.Step.{word}
 use Rattle.kw_core.specs.Run.{Run}
 use Rattle.kw_core.specs.Stages.{IsPublished, IsPutting, IsStamped, IsStored, IsInserting, IsUnlisted, IsAtRow}
 use Rattle.kw_core.proofs.BuiltNext.{built_next}
-use Rattle.kw_core.proofs.Arrows.{builds, Arrow, meets_stamped, meets_neither, is_passed, helps, finds_stamped, finds_other, list_ends, key_above, rest_passed, gathers_rest, stores_version, meets_cell, meets_none, key_before, key_same, key_after, version_before, version_after, stores_after, loses}
+use Rattle.kw_core.proofs.Arrows.{builds, Arrow, sees_stamped, sees_neither, is_gone_by, helps, finds_stamped, finds_other, list_ends, key_above, left_over_gone_by, gathers_left_over, stores_version, reaches_cell, sees_none, key_before, key_same, key_after, version_before, version_after, stores_after, loses}
 use Rattle.kw_core.proofs.InfantFrames.{key_stays, version_stays}
 use Rattle.kw_core.proofs.Happens.{Happens}
 use Rattle.kw_rows.specs.Rows.{WasLinked}
@@ -46,8 +46,8 @@ pub inserts_stay : (n : ℕ) (row row' : Row) (b : Activity) (k : Local) → Lea
 inserts_stay n row row' (Activity.Insert Insert.Link) k w o x = from_stays n row row' k.cell w (o tt).cell k.lost k.link x
 inserts_stay n row row' (Activity.Insert Insert.Key) k w o x = (at_stays n row row' k.cell w (o tt).cell k.lost k.link k.held x.0, x.1)
 inserts_stay n row row' (Activity.Insert Insert.Version) k w o x =
-    let met : row.listed k.place ≡ true = subst (IsOn row) x.1 x.0.known in
-    (at_stays n row row' k.cell w (o tt).cell k.lost k.link k.held x.0, x.1, (w.cell k.place met).key ∙ x.2 ∙ sym (o tt).cell.cell.key)
+    let saw : row.listed k.place ≡ true = subst (IsOn row) x.1 x.0.known in
+    (at_stays n row row' k.cell w (o tt).cell k.lost k.link k.held x.0, x.1, (w.cell k.place saw).key ∙ x.2 ∙ sym (o tt).cell.cell.key)
 inserts_stay n row row' (Activity.Insert Insert.Set) k w o x = (at_stays n row row' k.cell w (o tt).cell k.lost k.link k.held x.0, ahead_stays n row row' k.cell w (o tt).cell k.held x.0.known x.1)
 inserts_stay n row row' (Activity.Insert Insert.Exchange) k w o x = set_stays n row row' k.cell w (o tt) k.lost k.link k.held x
 inserts_stay n row row' _ k w o x = tt
@@ -178,7 +178,7 @@ begins_insert z r r' s choice l l' h i = put_begins z.cells (list_in (word z r'.
 -- it stores what the link held in its own link
 sets_insert : (z : Sizes) (r r' : Run) (s : ℕ) (choice : Choice) (l l' : Local) → Happens z r r' s choice l l' (Activity.Insert Insert.Set) → Below z r → IsSet z.cells (list_in (word z r'.world) r'.listed l.row) l.cell l.lost l.link l.held
 sets_insert z r r' s choice l l' h i = record {
-  met = at_stays z.cells before after l.cell left cell l.lost l.link l.held x.0;
+  saw = at_stays z.cells before after l.cell left cell l.lost l.link l.held x.0;
   ahead = ahead_stays z.cells before after l.cell left cell l.held x.0.known x.1;
   after = leads_there (word z r'.world) l.row (Some l.cell) l.held z.cells k.ranges.held i.shape.sane.sized.few_cells h.changed.same;
 }
@@ -218,7 +218,7 @@ loses_insert z r r' s choice l l' n h i = rw (one_more_is z l.lost (omega (arith
     k = known z r r' s choice l (Activity.Insert Insert.Exchange) l' h i
 
     lost : IsFrom z.cells before l.cell (l.lost + 1) None
-    lost = put_loses z.cells before l.cell l.lost l.link l.held (is_set z r r' s choice l l' h i).met
+    lost = put_loses z.cells before l.cell l.lost l.link l.held (is_set z r r' s choice l l' h i).saw
         (leads_elsewhere (word z r.world) l.row l.link l.held z.cells (link_at_most i l.link k.ranges.link k.below.row) i.shape.sane.sized.few_cells n)
 
     left : Leaves z.cells before after
@@ -234,13 +234,13 @@ loses_insert z r r' s choice l l' n h i = rw (one_more_is z l.lost (omega (arith
 pub inserts_own : (z : Sizes) (r r' : Run) (s : ℕ) (choice : Choice) (l : Local) (a : Activity) (l' : Local) → Arrow z (word z r.world) s choice l a l' → Happens z r r' s choice l l' a → Below z r → IsInserting l'.activity → Inserts z.cells (list_in (word z r'.world) r'.listed l'.row) l'.activity l'
 inserts_own z r r' s choice l a l' (builds b next y t) h i m = built_puts next.activity (built_next z (word z r.world) choice l b next t) (inserting_puts next.activity m)
 inserts_own z r r' s choice l a l' stores_version h i m = begins_insert z r r' s choice l l' h i
-inserts_own z r r' s choice l a l' (meets_cell c e) h i m =
+inserts_own z r r' s choice l a l' (reaches_cell c e) h i m =
     let k = knows_list z r r' s choice l (Activity.Insert Insert.Link) l' h i in
     let sound = its_list z r r' s choice l (Activity.Insert Insert.Link) l' h i tt in
     let here : link_in (word z r.world) l.row l.link ≡ Some c = link_is (word z r.world) l.row l.link ∙ e in
     let at = put_loads z.cells (row z r r' s choice l (Activity.Insert Insert.Link) l' h i) l.cell l.lost l.link sound.list k in
     learned z r r' s choice l (Activity.Insert Insert.Link) l' h i (Activity.Insert Insert.Key) l' refl refl tt tt h.listed (h.changed.loaded refl) (subst (IsAt z.cells (row z r r' s choice l (Activity.Insert Insert.Link) l' h i) l.cell l.lost l.link) here at, refl)
-inserts_own z r r' s choice l a l' (meets_none e) h i m =
+inserts_own z r r' s choice l a l' (sees_none e) h i m =
     let k = knows_list z r r' s choice l (Activity.Insert Insert.Link) l' h i in
     let sound = its_list z r r' s choice l (Activity.Insert Insert.Link) l' h i tt in
     let here : link_in (word z r.world) l.row l.link ≡ None = link_is (word z r.world) l.row l.link ∙ e in
@@ -250,7 +250,7 @@ inserts_own z r r' s choice l a l' (key_before e) h i m =
     let x = knows_list z r r' s choice l (Activity.Insert Insert.Key) l' h i in
     let at = subst (IsAt z.cells (row z r r' s choice l (Activity.Insert Insert.Key) l' h i) l.cell l.lost l.link) x.1 x.0 in
     learned z r r' s choice l (Activity.Insert Insert.Key) l' h i (Activity.Insert Insert.Link) l' refl refl tt tt h.listed (h.changed.loaded refl)
-    (put_passes z.cells (row z r r' s choice l (Activity.Insert Insert.Key) l' h i) l.cell l.lost l.link l.place at (inl (omega (arith, e, its_key z r r' s choice l (Activity.Insert Insert.Key) l' h i tt))))
+    (put_goes_by z.cells (row z r r' s choice l (Activity.Insert Insert.Key) l' h i) l.cell l.lost l.link l.place at (inl (omega (arith, e, its_key z r r' s choice l (Activity.Insert Insert.Key) l' h i tt))))
 inserts_own z r r' s choice l a l' (key_same e) h i m =
     let x = knows_list z r r' s choice l (Activity.Insert Insert.Key) l' h i in
     learned z r r' s choice l (Activity.Insert Insert.Key) l' h i (Activity.Insert Insert.Version) l' refl refl tt tt h.listed (h.changed.loaded refl) (x.0, x.1, e ∙ sym (its_key z r r' s choice l (Activity.Insert Insert.Key) l' h i tt))
@@ -266,7 +266,7 @@ inserts_own z r r' s choice l a l' (version_before e) h i m =
     let x = knows_list z r r' s choice l (Activity.Insert Insert.Version) l' h i in
     let at = subst (IsAt z.cells before l.cell l.lost l.link) x.1 x.0 in
     learned z r r' s choice l (Activity.Insert Insert.Version) l' h i (Activity.Insert Insert.Link) l' refl refl tt tt h.listed (h.changed.loaded refl)
-    (put_passes z.cells before l.cell l.lost l.link l.place at (newer_before before l x.2 (its_version z r r' s choice l (Activity.Insert Insert.Version) l' h i tt) e))
+    (put_goes_by z.cells before l.cell l.lost l.link l.place at (newer_before before l x.2 (its_version z r r' s choice l (Activity.Insert Insert.Version) l' h i tt) e))
 inserts_own z r r' s choice l a l' (version_after e) h i m =
     let before = row z r r' s choice l (Activity.Insert Insert.Version) l' h i in
     let x = knows_list z r r' s choice l (Activity.Insert Insert.Version) l' h i in
@@ -275,23 +275,23 @@ inserts_own z r r' s choice l a l' (version_after e) h i m =
     (x.0, subst (IsAhead before l.cell) (sym x.1) (put_stops z.cells before l.cell l.lost l.link l.place at (not_newer before l x.2 (its_version z r r' s choice l (Activity.Insert Insert.Version) l' h i tt) e)))
 inserts_own z r r' s choice l a l' stores_after h i m = sets_insert z r r' s choice l l' h i
 inserts_own z r r' s choice l a l' (loses n) h i m = loses_insert z r r' s choice l l' n h i
-inserts_own z r r' s choice l a l' (meets_stamped j c version next e n) h i m = look_puts z _ next n (inserting_puts next m)
-inserts_own z r r' s choice l a l' (meets_neither j next e n) h i m = look_puts z _ next n (inserting_puts next m)
-inserts_own z r r' s choice l a l' (is_passed next e n) h i m = look_puts z _ next n (inserting_puts next m)
+inserts_own z r r' s choice l a l' (sees_stamped j c version next e n) h i m = look_puts z _ next n (inserting_puts next m)
+inserts_own z r r' s choice l a l' (sees_neither j next e n) h i m = look_puts z _ next n (inserting_puts next m)
+inserts_own z r r' s choice l a l' (is_gone_by next e n) h i m = look_puts z _ next n (inserting_puts next m)
 inserts_own z r r' s choice l a l' (helps next e n) h i m = look_puts z _ next n (inserting_puts next m)
 inserts_own z r r' s choice l a l' (finds_stamped c version next e n) h i m = look_puts z _ next n (inserting_puts next m)
 inserts_own z r r' s choice l a l' (finds_other next e n) h i m = look_puts z _ next n (inserting_puts next m)
 inserts_own z r r' s choice l a l' (list_ends next e n) h i m = cell_puts _ next n (inserting_puts next.activity m)
 inserts_own z r r' s choice l a l' (key_above next e n) h i m = cell_puts _ next n (inserting_puts next.activity m)
-inserts_own z r r' s choice l a l' (rest_passed next e n) h i m = cell_puts _ next n (inserting_puts next.activity m)
-inserts_own z r r' s choice l a l' (gathers_rest next n) h i m = cell_puts _ next n (inserting_puts next.activity m)
+inserts_own z r r' s choice l a l' (left_over_gone_by next e n) h i m = cell_puts _ next n (inserting_puts next.activity m)
+inserts_own z r r' s choice l a l' (gathers_left_over next n) h i m = cell_puts _ next n (inserting_puts next.activity m)
 inserts_own z r r' s choice l a l' _ h i m = absurd m
 
 -- where the acting seat's walk is
 pub walks_own : (z : Sizes) (r r' : Run) (s : ℕ) (choice : Choice) (l : Local) (a : Activity) (l' : Local) → Arrow z (word z r.world) s choice l a l' → Happens z r r' s choice l l' a → Below z r → IsInserting l'.activity → WalksList z.cells (list_in (word z r'.world) r'.listed l'.row) l'.activity l'
 walks_own z r r' s choice l a l' (builds b next y t) h i m = built_puts next.activity (built_next z (word z r.world) choice l b next t) (inserting_puts next.activity m)
 walks_own z r r' s choice l a l' stores_version h i m = walk_begins z.cells _
-walks_own z r r' s choice l a l' (meets_cell c e) h i m =
+walks_own z r r' s choice l a l' (reaches_cell c e) h i m =
     let before = row z r r' s choice l (Activity.Insert Insert.Link) l' h i in
     let k = knows_list z r r' s choice l (Activity.Insert Insert.Link) l' h i in
     let w = walks_list z r r' s choice l (Activity.Insert Insert.Link) l' h i in
@@ -310,17 +310,17 @@ walks_own z r r' s choice l a l' (version_before e) h i m =
     let left = leaves z.cells _ _ (list_step z r r' s choice l (Activity.Insert Insert.Version) l' h i l.row (linked z r r' s choice l (Activity.Insert Insert.Version) l' h i tt)) in
     walk_stays z.cells _ _ (Some l.place) l.walked left (walks_list z r r' s choice l (Activity.Insert Insert.Version) l' h i).1
 walks_own z r r' s choice l a l' (loses n) h i m = walk_begins z.cells _
-walks_own z r r' s choice l a l' (meets_stamped j c version next e n) h i m = look_puts z _ next n (inserting_puts next m)
-walks_own z r r' s choice l a l' (meets_neither j next e n) h i m = look_puts z _ next n (inserting_puts next m)
-walks_own z r r' s choice l a l' (is_passed next e n) h i m = look_puts z _ next n (inserting_puts next m)
+walks_own z r r' s choice l a l' (sees_stamped j c version next e n) h i m = look_puts z _ next n (inserting_puts next m)
+walks_own z r r' s choice l a l' (sees_neither j next e n) h i m = look_puts z _ next n (inserting_puts next m)
+walks_own z r r' s choice l a l' (is_gone_by next e n) h i m = look_puts z _ next n (inserting_puts next m)
 walks_own z r r' s choice l a l' (helps next e n) h i m = look_puts z _ next n (inserting_puts next m)
 walks_own z r r' s choice l a l' (finds_stamped c version next e n) h i m = look_puts z _ next n (inserting_puts next m)
 walks_own z r r' s choice l a l' (finds_other next e n) h i m = look_puts z _ next n (inserting_puts next m)
 walks_own z r r' s choice l a l' (list_ends next e n) h i m = cell_puts _ next n (inserting_puts next.activity m)
 walks_own z r r' s choice l a l' (key_above next e n) h i m = cell_puts _ next n (inserting_puts next.activity m)
-walks_own z r r' s choice l a l' (rest_passed next e n) h i m = cell_puts _ next n (inserting_puts next.activity m)
-walks_own z r r' s choice l a l' (gathers_rest next n) h i m = cell_puts _ next n (inserting_puts next.activity m)
-walks_own z r r' s choice l a l' (meets_none e) h i m = tt
+walks_own z r r' s choice l a l' (left_over_gone_by next e n) h i m = cell_puts _ next n (inserting_puts next.activity m)
+walks_own z r r' s choice l a l' (gathers_left_over next n) h i m = cell_puts _ next n (inserting_puts next.activity m)
+walks_own z r r' s choice l a l' (sees_none e) h i m = tt
 walks_own z r r' s choice l a l' (key_after e) h i m = tt
 walks_own z r r' s choice l a l' (version_after e) h i m = tt
 walks_own z r r' s choice l a l' stores_after h i m = tt

@@ -15,7 +15,7 @@ use Rattle.kw_core.specs.Run.{Run}
 use Rattle.kw_core.specs.Stages.{IsAtRow, IsPutting, IsUnlisted, IsPutClear}
 use Rattle.kw_core.specs.Words.{given_in}
 use Rattle.kw_core.proofs.BuiltNext.{built_next}
-use Rattle.kw_core.proofs.Arrows.{builds, Arrow, meets_stamped, meets_neither, is_passed, helps, finds_stamped, finds_other, list_ends, key_above, rest_passed, gathers_rest, takes_cell, stores_key, stores_value, announces, loads_clock, stamps, is_stamped, stores_version, meets_cell, meets_none, key_before, key_same, key_after, version_before, version_after, stores_after, inserts, loses}
+use Rattle.kw_core.proofs.Arrows.{builds, Arrow, sees_stamped, sees_neither, is_gone_by, helps, finds_stamped, finds_other, list_ends, key_above, left_over_gone_by, gathers_left_over, takes_cell, stores_key, stores_value, announces, loads_clock, stamps, is_stamped, stores_version, reaches_cell, sees_none, key_before, key_same, key_after, version_before, version_after, stores_after, inserts, loses}
 use Rattle.kw_core.proofs.Happens.{Happens}
 use Rattle.kw_core.proofs.RoomBelow.{room_below}
 use Rattle.kw_puts.specs.Lists.{IsOwnListed}
@@ -49,24 +49,24 @@ unlisted_own z r r' s choice l a l' loads_clock h i u = ap (λ f. f l.row l.cell
 unlisted_own z r r' s choice l a l' (stamps e) h i u = ap (λ f. f l.row l.cell) h.listed ∙ (i.lists.own s l h.knows).unlisted (subst IsUnlisted (sym h.activity) tt)
 unlisted_own z r r' s choice l a l' (is_stamped version e) h i u = ap (λ f. f l.row l.cell) h.listed ∙ (i.lists.own s l h.knows).unlisted (subst IsUnlisted (sym h.activity) tt)
 unlisted_own z r r' s choice l a l' stores_version h i u = ap (λ f. f l.row l.cell) h.listed ∙ (i.lists.own s l h.knows).unlisted (subst IsUnlisted (sym h.activity) tt)
-unlisted_own z r r' s choice l a l' (meets_cell c e) h i u = ap (λ f. f l.row l.cell) h.listed ∙ (i.lists.own s l h.knows).unlisted (subst IsUnlisted (sym h.activity) tt)
-unlisted_own z r r' s choice l a l' (meets_none e) h i u = ap (λ f. f l.row l.cell) h.listed ∙ (i.lists.own s l h.knows).unlisted (subst IsUnlisted (sym h.activity) tt)
+unlisted_own z r r' s choice l a l' (reaches_cell c e) h i u = ap (λ f. f l.row l.cell) h.listed ∙ (i.lists.own s l h.knows).unlisted (subst IsUnlisted (sym h.activity) tt)
+unlisted_own z r r' s choice l a l' (sees_none e) h i u = ap (λ f. f l.row l.cell) h.listed ∙ (i.lists.own s l h.knows).unlisted (subst IsUnlisted (sym h.activity) tt)
 unlisted_own z r r' s choice l a l' (key_before e) h i u = ap (λ f. f l.row l.cell) h.listed ∙ (i.lists.own s l h.knows).unlisted (subst IsUnlisted (sym h.activity) tt)
 unlisted_own z r r' s choice l a l' (key_same e) h i u = ap (λ f. f l.row l.cell) h.listed ∙ (i.lists.own s l h.knows).unlisted (subst IsUnlisted (sym h.activity) tt)
 unlisted_own z r r' s choice l a l' (key_after e) h i u = ap (λ f. f l.row l.cell) h.listed ∙ (i.lists.own s l h.knows).unlisted (subst IsUnlisted (sym h.activity) tt)
 unlisted_own z r r' s choice l a l' (version_before e) h i u = ap (λ f. f l.row l.cell) h.listed ∙ (i.lists.own s l h.knows).unlisted (subst IsUnlisted (sym h.activity) tt)
 unlisted_own z r r' s choice l a l' (version_after e) h i u = ap (λ f. f l.row l.cell) h.listed ∙ (i.lists.own s l h.knows).unlisted (subst IsUnlisted (sym h.activity) tt)
 unlisted_own z r r' s choice l a l' stores_after h i u = ap (λ f. f l.row l.cell) h.listed ∙ (i.lists.own s l h.knows).unlisted (subst IsUnlisted (sym h.activity) tt)
-unlisted_own z r r' s choice l a l' (meets_stamped j c version next e n) h i u = look_puts z _ next n (unlisted_puts next u)
-unlisted_own z r r' s choice l a l' (meets_neither j next e n) h i u = look_puts z _ next n (unlisted_puts next u)
-unlisted_own z r r' s choice l a l' (is_passed next e n) h i u = look_puts z _ next n (unlisted_puts next u)
+unlisted_own z r r' s choice l a l' (sees_stamped j c version next e n) h i u = look_puts z _ next n (unlisted_puts next u)
+unlisted_own z r r' s choice l a l' (sees_neither j next e n) h i u = look_puts z _ next n (unlisted_puts next u)
+unlisted_own z r r' s choice l a l' (is_gone_by next e n) h i u = look_puts z _ next n (unlisted_puts next u)
 unlisted_own z r r' s choice l a l' (helps next e n) h i u = look_puts z _ next n (unlisted_puts next u)
 unlisted_own z r r' s choice l a l' (finds_stamped c version next e n) h i u = look_puts z _ next n (unlisted_puts next u)
 unlisted_own z r r' s choice l a l' (finds_other next e n) h i u = look_puts z _ next n (unlisted_puts next u)
 unlisted_own z r r' s choice l a l' (list_ends next e n) h i u = cell_puts _ next n (unlisted_puts next.activity u)
 unlisted_own z r r' s choice l a l' (key_above next e n) h i u = cell_puts _ next n (unlisted_puts next.activity u)
-unlisted_own z r r' s choice l a l' (rest_passed next e n) h i u = cell_puts _ next n (unlisted_puts next.activity u)
-unlisted_own z r r' s choice l a l' (gathers_rest next n) h i u = cell_puts _ next n (unlisted_puts next.activity u)
+unlisted_own z r r' s choice l a l' (left_over_gone_by next e n) h i u = cell_puts _ next n (unlisted_puts next.activity u)
+unlisted_own z r r' s choice l a l' (gathers_left_over next n) h i u = cell_puts _ next n (unlisted_puts next.activity u)
 unlisted_own z r r' s choice l a l' _ h i u = absurd u
 
 -- and it is once it is inserted
@@ -77,16 +77,16 @@ clear_puts _ u = absurd u
 listed_own : (z : Sizes) (r r' : Run) (s : ℕ) (choice : Choice) (l : Local) (a : Activity) (l' : Local) → Arrow z (word z r.world) s choice l a l' → Happens z r r' s choice l l' a → Below z r → IsPutClear l'.activity → r'.listed l'.row l'.cell ≡ true
 listed_own z r r' s choice l a l' (builds b next y t) h i u = built_puts next.activity (built_next z (word z r.world) choice l b next t) (clear_puts next.activity u)
 listed_own z r r' s choice l a l' (inserts e) h i u = ap (λ f. f l.cell) (ap (λ f. f l.row) (made_listed z r r' s choice l l' h i e) ∙ with_listed_here r.listed l.row l.cell) ∙ cell_here (r.listed l.row) l.cell
-listed_own z r r' s choice l a l' (meets_stamped j c version next e n) h i u = look_puts z _ next n (clear_puts next u)
-listed_own z r r' s choice l a l' (meets_neither j next e n) h i u = look_puts z _ next n (clear_puts next u)
-listed_own z r r' s choice l a l' (is_passed next e n) h i u = look_puts z _ next n (clear_puts next u)
+listed_own z r r' s choice l a l' (sees_stamped j c version next e n) h i u = look_puts z _ next n (clear_puts next u)
+listed_own z r r' s choice l a l' (sees_neither j next e n) h i u = look_puts z _ next n (clear_puts next u)
+listed_own z r r' s choice l a l' (is_gone_by next e n) h i u = look_puts z _ next n (clear_puts next u)
 listed_own z r r' s choice l a l' (helps next e n) h i u = look_puts z _ next n (clear_puts next u)
 listed_own z r r' s choice l a l' (finds_stamped c version next e n) h i u = look_puts z _ next n (clear_puts next u)
 listed_own z r r' s choice l a l' (finds_other next e n) h i u = look_puts z _ next n (clear_puts next u)
 listed_own z r r' s choice l a l' (list_ends next e n) h i u = cell_puts _ next n (clear_puts next.activity u)
 listed_own z r r' s choice l a l' (key_above next e n) h i u = cell_puts _ next n (clear_puts next.activity u)
-listed_own z r r' s choice l a l' (rest_passed next e n) h i u = cell_puts _ next n (clear_puts next.activity u)
-listed_own z r r' s choice l a l' (gathers_rest next n) h i u = cell_puts _ next n (clear_puts next.activity u)
+listed_own z r r' s choice l a l' (left_over_gone_by next e n) h i u = cell_puts _ next n (clear_puts next.activity u)
+listed_own z r r' s choice l a l' (gathers_left_over next n) h i u = cell_puts _ next n (clear_puts next.activity u)
 listed_own z r r' s choice l a l' _ h i u = absurd u
 
 -- both, for the acting seat

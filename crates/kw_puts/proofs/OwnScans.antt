@@ -47,7 +47,7 @@ use Rattle.kw_core.proofs.Happens.{Changed, Happens, exchanged}
 use Rattle.kw_core.proofs.Building.{IsBuilding}
 use Rattle.kw_core.proofs.BuiltNext.{built_next}
 use Rattle.kw_puts.proofs.BuiltStages.{after_at_read, after_drawn, after_loaded, after_reading, after_settled, after_settling, after_waiting, building_after, building_underway, no_scan_replaced}
-use Rattle.kw_core.proofs.Arrows.{builds, NextLook, looks, lists, NextRest, rests, answers, ends_scan, scans_on, Arrow, begins, enters, stores_waiting, draws, settles_empty, settles, stops, starts_at_head, guesses, guess_fails, takes_head, guess_serves, guess_is_above, reads_last, reads_before, puts_in_last, puts_before, meets_next, walks_on, meets_pending, is_wanted, loads_to_help, list_leads, key_below, key_within, loads_version, gathers_listed, rest_wanted, meets_stamped, meets_neither, is_passed, helps, finds_stamped, finds_other, list_ends, key_above, rest_passed, gathers_rest, clears_scan, leaves, waits}
+use Rattle.kw_core.proofs.Arrows.{builds, NextLook, looks, lists, NextLeftOver, goes_to_left_over, answers, ends_scan, scans_on, Arrow, begins, enters, stores_waiting, draws, settles_empty, settles, stops, starts_at_head, guesses, guess_fails, takes_head, guess_serves, guess_is_above, reads_last, reads_before, puts_in_last, puts_before, reaches_next, walks_on, sees_pending, is_wanted, loads_to_help, list_leads, key_below, key_within, loads_version, gathers_listed, left_over_wanted, sees_stamped, sees_neither, is_gone_by, helps, finds_stamped, finds_other, list_ends, key_above, left_over_gone_by, gathers_left_over, clears_scan, leaves, waits}
 use Rattle.kw_core.proofs.SeatLogs.{IsNoDraw, call_kept, draw_kept, look_kept, settle_kept, settle_lost}
 use Rattle.kw_shape.proofs.NextCalls.{arrow_call}
 use Rattle.kw_core.specs.Ledger.{Ledger}
@@ -72,8 +72,8 @@ look_after z j next (looks w) = tt
 look_after z j next (lists w) = tt
 
 -- what follows a cell
-cell_after : (l : Local) (k : Local) → NextRest l k → IsAfterRead k.activity
-cell_after l k (rests m w) = tt
+cell_after : (l : Local) (k : Local) → NextLeftOver l k → IsAfterRead k.activity
+cell_after l k (goes_to_left_over m w) = tt
 cell_after l k (answers w e) = tt
 cell_after l k (ends_scan w e f) = tt
 cell_after l k (scans_on r w e f o) = tt
@@ -81,16 +81,16 @@ cell_after l k (scans_on r w e f o) = tt
 -- where a seat that reads a row goes on to
 pub after_read : (z : Sizes) (v : Words) (s : ℕ) (choice : Choice) (l : Local) (a : Activity) (k : Local) → Arrow z v s choice l a k → IsAtRead a → IsAfterRead k.activity
 after_read z v s choice l a k (builds b next y t) x = after_at_read b (building_after b y) x
-after_read z v s choice l a k (meets_stamped j c version next e n) x = look_after z _ next n
-after_read z v s choice l a k (meets_neither j next e n) x = look_after z _ next n
-after_read z v s choice l a k (is_passed next e n) x = look_after z _ next n
+after_read z v s choice l a k (sees_stamped j c version next e n) x = look_after z _ next n
+after_read z v s choice l a k (sees_neither j next e n) x = look_after z _ next n
+after_read z v s choice l a k (is_gone_by next e n) x = look_after z _ next n
 after_read z v s choice l a k (helps next e n) x = look_after z _ next n
 after_read z v s choice l a k (finds_stamped c version next e n) x = look_after z _ next n
 after_read z v s choice l a k (finds_other next e n) x = look_after z _ next n
 after_read z v s choice l a k (list_ends next e n) x = cell_after _ next n
 after_read z v s choice l a k (key_above next e n) x = cell_after _ next n
-after_read z v s choice l a k (rest_passed next e n) x = cell_after _ next n
-after_read z v s choice l a k (gathers_rest next n) x = cell_after _ next n
+after_read z v s choice l a k (left_over_gone_by next e n) x = cell_after _ next n
+after_read z v s choice l a k (gathers_left_over next n) x = cell_after _ next n
 after_read z v s choice l (Activity.Look (Look.Entry j)) k b x = tt
 after_read z v s choice l (Activity.Look Look.Key) k b x = tt
 after_read z v s choice l (Activity.Look Look.Clock) k b x = tt
@@ -172,8 +172,8 @@ reading_from z v s choice l a k (reads_before e n) x = absurd (omega (arith, x))
 reading_from z v s choice l a k b x = absurd x
 
 -- a scan keeps its version
-cell_version : (l : Local) (k : Local) → NextRest l k → k.version ≡ l.version
-cell_version l k (rests m w) = refl
+cell_version : (l : Local) (k : Local) → NextLeftOver l k → k.version ≡ l.version
+cell_version l k (goes_to_left_over m w) = refl
 cell_version l k (answers w e) = refl
 cell_version l k (ends_scan w e f) = refl
 cell_version l k (scans_on r w e f o) = refl
@@ -183,8 +183,8 @@ pub not_idle_drawn : (z : Sizes) (v : Words) (s : ℕ) (choice : Choice) (l : Lo
 not_idle_drawn z v s choice l a k (builds b next building t) x y = after_drawn next.activity (built_next z v choice l b next t) y
 not_idle_drawn z v s choice l a k (list_ends next e n) x y = cell_version _ next n
 not_idle_drawn z v s choice l a k (key_above next e n) x y = cell_version _ next n
-not_idle_drawn z v s choice l a k (rest_passed next e n) x y = cell_version _ next n
-not_idle_drawn z v s choice l a k (gathers_rest next n) x y = cell_version _ next n
+not_idle_drawn z v s choice l a k (left_over_gone_by next e n) x y = cell_version _ next n
+not_idle_drawn z v s choice l a k (gathers_left_over next n) x y = cell_version _ next n
 not_idle_drawn z v s choice l a k (leaves answer) x y = absurd y
 not_idle_drawn z v s choice l (Activity.Draw Draw.Settle) k b x y = absurd x
 not_idle_drawn z v s choice l (Activity.Put Put.Clock) k b x y = absurd x
@@ -245,11 +245,11 @@ module _ {z : Sizes} {r r' : Run} {s : ℕ} {choice : Choice} {l l' : Local} whe
 
   -- the word of a scan on its way stays
   word_settled : (a : Activity) → Happens z r r' s choice l l' a → IsCovering a → IsSettled l'.activity → word z r'.world (name.Scan s) ≡ word z r.world (name.Scan s)
-  word_settled (Activity.Walk Walk.Next) h c x = met (is_stopped choice l) refl
+  word_settled (Activity.Walk Walk.Next) h c x = saw (is_stopped choice l) refl
     where
-      met : (b : Bool) → is_stopped choice l ≡ b → word z r'.world (name.Scan s) ≡ word z r.world (name.Scan s)
-      met true e = absurd (stopped_leaves h e x)
-      met false e = goes_on_walk h e
+      saw : (b : Bool) → is_stopped choice l ≡ b → word z r'.world (name.Scan s) ≡ word z r.world (name.Scan s)
+      saw true e = absurd (stopped_leaves h e x)
+      saw false e = goes_on_walk h e
   word_settled (Activity.Draw Draw.Wait) h c x = absurd c
   word_settled (Activity.Draw Draw.Settle) h c x = absurd c
   word_settled (Activity.EndScan answer) h c x = absurd c
@@ -269,11 +269,11 @@ module _ {z : Sizes} {r r' : Run} {s : ℕ} {choice : Choice} {l l' : Local} whe
   -- the word is set where a scan begins to wait and where it settles; every other event keeps it or
   -- clears it
   word_next : (a : Activity) → Happens z r r' s choice l l' a → (IsSettling a → ⊥) → (IsWaiting l'.activity → ⊥) → (a ≡ Activity.Draw Draw.Wait → IsWaiting l'.activity) → (SettlesScan s a → word z r.world (name.Scan s) ≡ scan_word Quiet) → (word z r'.world (name.Scan s) ≡ word z r.world (name.Scan s)) ⊎ (word z r'.world (name.Scan s) ≡ scan_word Quiet)
-  word_next (Activity.Walk Walk.Next) h n w f q = met (is_stopped choice l) refl
+  word_next (Activity.Walk Walk.Next) h n w f q = saw (is_stopped choice l) refl
     where
-      met : (b : Bool) → is_stopped choice l ≡ b → (word z r'.world (name.Scan s) ≡ word z r.world (name.Scan s)) ⊎ (word z r'.world (name.Scan s) ≡ scan_word Quiet)
-      met true e = inr (stopped_clears h e)
-      met false e = inl (goes_on_walk h e)
+      saw : (b : Bool) → is_stopped choice l ≡ b → (word z r'.world (name.Scan s) ≡ word z r.world (name.Scan s)) ⊎ (word z r'.world (name.Scan s) ≡ scan_word Quiet)
+      saw true e = inr (stopped_clears h e)
+      saw false e = inl (goes_on_walk h e)
   word_next (Activity.Draw Draw.Wait) h n w f q = absurd (w (f refl))
   word_next (Activity.Draw Draw.Settle) h n w f q = absurd (n tt)
   word_next (Activity.EndScan answer) h n w f q = inr h.changed.same
@@ -352,8 +352,8 @@ look_settled z j next (looks w) = tt
 look_settled z j next (lists w) = tt
 
 -- so does a cell, or it ends the scan
-cell_settled : (l : Local) (k : Local) → is_scan l.call ≡ true → NextRest l k → IsSettled k.activity
-cell_settled l k f (rests m w) = tt
+cell_settled : (l : Local) (k : Local) → is_scan l.call ≡ true → NextLeftOver l k → IsSettled k.activity
+cell_settled l k f (goes_to_left_over m w) = tt
 cell_settled l k f (answers w e) = true_false f e
 cell_settled l k f (ends_scan w e g) = tt
 cell_settled l k f (scans_on r w e g o) = tt
@@ -379,16 +379,16 @@ settled_underway _ x = tt
 -- a scan on its way goes on, or clears its word
 settled_next : (z : Sizes) (v : Words) (s : ℕ) (choice : Choice) (l : Local) (a : Activity) (k : Local) → Arrow z v s choice l a k → is_scan l.call ≡ true → IsSettled a → IsSettled k.activity ⊎ IsClear a ⊎ (a ≡ Activity.Walk Walk.Next) × (is_stopped choice l ≡ true)
 settled_next z v s choice l a k (builds b next y t) f x = after_settled b (building_after b y) x
-settled_next z v s choice l a k (meets_stamped j c version next e n) f x = inl (look_settled z _ next n)
-settled_next z v s choice l a k (meets_neither j next e n) f x = inl (look_settled z _ next n)
-settled_next z v s choice l a k (is_passed next e n) f x = inl (look_settled z _ next n)
+settled_next z v s choice l a k (sees_stamped j c version next e n) f x = inl (look_settled z _ next n)
+settled_next z v s choice l a k (sees_neither j next e n) f x = inl (look_settled z _ next n)
+settled_next z v s choice l a k (is_gone_by next e n) f x = inl (look_settled z _ next n)
 settled_next z v s choice l a k (helps next e n) f x = inl (look_settled z _ next n)
 settled_next z v s choice l a k (finds_stamped c version next e n) f x = inl (look_settled z _ next n)
 settled_next z v s choice l a k (finds_other next e n) f x = inl (look_settled z _ next n)
 settled_next z v s choice l a k (list_ends next e n) f x = inl (cell_settled _ next f n)
 settled_next z v s choice l a k (key_above next e n) f x = inl (cell_settled _ next f n)
-settled_next z v s choice l a k (rest_passed next e n) f x = inl (cell_settled _ next f n)
-settled_next z v s choice l a k (gathers_rest next n) f x = inl (cell_settled _ next f n)
+settled_next z v s choice l a k (left_over_gone_by next e n) f x = inl (cell_settled _ next f n)
+settled_next z v s choice l a k (gathers_left_over next n) f x = inl (cell_settled _ next f n)
 settled_next z v s choice l a k (clears_scan answer) f x = inr (inl tt)
 settled_next z v s choice l a k (stops e) f x = inr (inr (refl, e))
 settled_next z v s choice l a k (puts_in_last e n) f x = put_not_scan l.call e f
@@ -398,10 +398,10 @@ settled_next z v s choice l (Activity.Walk Walk.First) k takes_head f x = inl tt
 settled_next z v s choice l (Activity.Walk Walk.GuessedLeast) k (guess_serves w) f x = inl tt
 settled_next z v s choice l (Activity.Walk Walk.GuessedLeast) k (guess_is_above w) f x = inl tt
 settled_next z v s choice l (Activity.Walk Walk.Next) k (reads_last e n) f x = inl tt
-settled_next z v s choice l (Activity.Walk Walk.Next) k (meets_next q e) f x = inl tt
+settled_next z v s choice l (Activity.Walk Walk.Next) k (reaches_next q e) f x = inl tt
 settled_next z v s choice l (Activity.Walk Walk.NextLeast) k (walks_on w) f x = inl tt
 settled_next z v s choice l (Activity.Walk Walk.NextLeast) k (reads_before e n) f x = inl tt
-settled_next z v s choice l a k (meets_pending j c e) f x = inl tt
+settled_next z v s choice l a k (sees_pending j c e) f x = inl tt
 settled_next z v s choice l (Activity.Look Look.Key) k (is_wanted e) f x = inl tt
 settled_next z v s choice l (Activity.Look Look.Clock) k loads_to_help f x = inl tt
 settled_next z v s choice l a k (list_leads c e) f x = inl tt
@@ -409,7 +409,7 @@ settled_next z v s choice l (Activity.Read Read.Key) k (key_below e) f x = inl t
 settled_next z v s choice l (Activity.Read Read.Key) k (key_within e w) f x = inl tt
 settled_next z v s choice l (Activity.Read Read.Version) k loads_version f x = inl tt
 settled_next z v s choice l (Activity.Read Read.Value) k gathers_listed f x = inl tt
-settled_next z v s choice l (Activity.Read Read.LeftOverKey) k (rest_wanted e) f x = inl tt
+settled_next z v s choice l (Activity.Read Read.LeftOverKey) k (left_over_wanted e) f x = inl tt
 settled_next z v s choice l a k _ f x = absurd x
 
 module _ (z : Sizes) (r r' : Run) (s : ℕ) (choice : Choice) (l : Local) (a : Activity) (l' : Local) (b : Arrow z (word z r.world) s choice l a l') (h : Happens z r r' s choice l l' a) (i : Below z r) where

@@ -27,19 +27,19 @@ true_false t f = let x : true ≡ false = sym t ∙ f in absurd (cc)
 
 -- an attempt whose entry is pending is not lost
 pub pending_kept : (p : Attempt) (c : ℕ) → entry_of p ≡ pend_word (pend.Pending c) → p.is_lost ≡ false
-pending_kept p c e = met p.is_lost refl
+pending_kept p c e = saw p.is_lost refl
   where
-    met : (b : Bool) → p.is_lost ≡ b → p.is_lost ≡ false
-    met true y = let x : pend_word pend.Frozen ≡ pend_word (pend.Pending c) = rw y at e in absurd (omega (arith, x))
-    met false y = y
+    saw : (b : Bool) → p.is_lost ≡ b → p.is_lost ≡ false
+    saw true y = let x : pend_word pend.Frozen ≡ pend_word (pend.Pending c) = rw y at e in absurd (omega (arith, x))
+    saw false y = y
 
 -- it is not stamped, and its cell is the one of the entry
 pub pending_entry : (p : Attempt) (c : ℕ) → entry_of p ≡ pend_word (pend.Pending c) → (p.is_stamped ≡ false) × (p.cell ≡ c)
-pending_entry p c e = met p.is_stamped refl
+pending_entry p c e = saw p.is_stamped refl
   where
-    met : (b : Bool) → p.is_stamped ≡ b → (p.is_stamped ≡ false) × (p.cell ≡ c)
-    met true y = let x : pend_word (pend.Stamped p.cell p.version) ≡ pend_word (pend.Pending c) = rw (pending_kept p c e, y) at e in absurd (omega (arith, x))
-    met false y = let x : pend_word (pend.Pending p.cell) ≡ pend_word (pend.Pending c) = rw (pending_kept p c e, y) at e in (y, omega (arith, x))
+    saw : (b : Bool) → p.is_stamped ≡ b → (p.is_stamped ≡ false) × (p.cell ≡ c)
+    saw true y = let x : pend_word (pend.Stamped p.cell p.version) ≡ pend_word (pend.Pending c) = rw (pending_kept p c e, y) at e in absurd (omega (arith, x))
+    saw false y = let x : pend_word (pend.Pending p.cell) ≡ pend_word (pend.Pending c) = rw (pending_kept p c e, y) at e in (y, omega (arith, x))
 
 -- a seat that has announced its cell puts, and a seat that puts is in a call
 pub published_puts : (a : Activity) → IsPublished a → IsPutting a

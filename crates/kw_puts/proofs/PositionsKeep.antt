@@ -31,7 +31,7 @@ use Rattle.std.proofs.lemmas.Bool.{cases_lt, cases_eq}
 use Rattle.kw_words.specs.Count.{count_of}
 use Rattle.kw_world.specs.declared.event.Choice.TheVariants.{Begin, Go, Guess, Stop}
 use Rattle.kw_world.specs.PutTransitions.{has_room}
-use Rattle.kw_core.specs.Run.{seat_after, log_begun, log_gathered, place_gathered, is_at_cell}
+use Rattle.kw_core.specs.Run.{seat_after, log_begun, log_gathered, index_gathered, is_at_cell}
 use Rattle.kw_core.proofs.Happens.{found_at}
 use Rattle.std.proofs.lemmas.Option.{same_Some}
 use Rattle.kw_core.specs.History.{Draw}
@@ -331,16 +331,16 @@ log_within z (Activity.Draw Draw.Settle) choice l found next g o h settled f x y
   where
     tried : (found ≡ scan_word (Waiting l.waiting)) ⊎ (settled ≤ length h.log) → ((log_settled l.waiting found settled g).looked ≤ length h.log) × ((log_settled l.waiting found settled g).drawn ≤ length h.log)
     tried (inl e) = rw (settle_kept z choice l found next g o h settled e) (x, y)
-    tried (inr w) = met (found == scan_word (Waiting l.waiting))
+    tried (inr w) = saw (found == scan_word (Waiting l.waiting))
       where
-        met : (b : Bool) → let g' : SeatLog = if b then g else record g { drawn = settled } in (g'.looked ≤ length h.log) × (g'.drawn ≤ length h.log)
-        met true = (x, y)
-        met false = (x, w)
-log_within z (Activity.Look (Look.Entry j)) choice l found next g o h settled f x y = met (j == 0)
+        saw : (b : Bool) → let g' : SeatLog = if b then g else record g { drawn = settled } in (g'.looked ≤ length h.log) × (g'.drawn ≤ length h.log)
+        saw true = (x, y)
+        saw false = (x, w)
+log_within z (Activity.Look (Look.Entry j)) choice l found next g o h settled f x y = saw (j == 0)
   where
-    met : (b : Bool) → let g' : SeatLog = if b then record g { looked = length h.log; ids = []; read = None } else g in (g'.looked ≤ length h.log) × (g'.drawn ≤ length h.log)
-    met true = (omega arith, y)
-    met false = (x, y)
+    saw : (b : Bool) → let g' : SeatLog = if b then record g { looked = length h.log; ids = []; read = None } else g in (g'.looked ≤ length h.log) × (g'.drawn ≤ length h.log)
+    saw true = (omega arith, y)
+    saw false = (x, y)
 log_within z (Activity.Read Read.Link) choice l found next g o h settled f x y = read (is_at_cell next)
   where
     read : (b : Bool) → let g' : SeatLog = if b then g else record g { read = Some l.row } in (g'.looked ≤ length h.log) × (g'.drawn ≤ length h.log)
@@ -359,16 +359,16 @@ log_within z (Activity.Read Read.LeftOverKey) choice l found next g o h settled 
 log_within z (Activity.Read Read.LeftOverValue) choice l found next g o h settled f x y = read (is_at_cell next)
   where
     gathered : SeatLog
-    gathered = log_gathered (o l.row l.place) (place_gathered l found) g
+    gathered = log_gathered (o l.row l.place) (index_gathered l found) g
 
     read : (b : Bool) → let g' : SeatLog = if b then gathered else record gathered { read = Some l.row } in (g'.looked ≤ length h.log) × (g'.drawn ≤ length h.log)
     read true = (x, y)
     read false = (x, y)
-log_within z (Activity.Put Put.Add) choice l found next g o h settled f x y = met (has_room z (count_of found))
+log_within z (Activity.Put Put.Add) choice l found next g o h settled f x y = saw (has_room z (count_of found))
   where
-    met : (b : Bool) → let g' : SeatLog = if b then record g { own = length h.attempts } else g in (g'.looked ≤ length h.log) × (g'.drawn ≤ length h.log)
-    met true = (x, y)
-    met false = (x, y)
+    saw : (b : Bool) → let g' : SeatLog = if b then record g { own = length h.attempts } else g in (g'.looked ≤ length h.log) × (g'.drawn ≤ length h.log)
+    saw true = (x, y)
+    saw false = (x, y)
 log_within z (Activity.Rebalance (Rebalance.Freeze (Freeze.Draw i))) choice l found next g o h settled f x y = (x, omega arith)
 log_within z (Activity.Enter Enter.Announce) choice l found next g o h settled f x y = (x, y)
 log_within z (Activity.Walk Walk.First) choice l found next g o h settled f x y = (x, y)

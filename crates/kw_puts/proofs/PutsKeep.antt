@@ -8,7 +8,7 @@ use Rattle.kw_world.specs.Sizes.{Sizes}
 use Rattle.kw_world.specs.Step.{word}
 use Rattle.kw_core.specs.Step.{Keeps}
 use Rattle.kw_core.specs.Run.{Run}
-use Rattle.kw_core.specs.Stages.{IsPutting, HasMet}
+use Rattle.kw_core.specs.Stages.{IsPutting, HasSeenPending}
 use Rattle.kw_shape.specs.Shape.{Shape}
 use Rattle.kw_puts.specs.Puts.{OwnsAttempt, Helps, IsHere, Puts}
 use Rattle.kw_puts.specs.Freezes.{IsToFreeze, Freezes, Remembers}
@@ -22,7 +22,7 @@ use Rattle.kw_puts.proofs.AttemptCells.{placed_keeps, given_keeps, places_keep, 
 use Rattle.kw_puts.proofs.OwnAttempts.{owns_own}
 use Rattle.kw_puts.proofs.HereStays.{present_other, present_own}
 use Rattle.kw_puts.proofs.DoneAttempts.{old_keeps}
-use Rattle.kw_puts.proofs.Entries.{entry_keeps, met_at_row, tries_own, helps_own}
+use Rattle.kw_puts.proofs.Entries.{entry_keeps, saw_at_row, tries_own, helps_own}
 use Rattle.kw_puts.proofs.Copying.{whole_keeps, words_keep}
 use Rattle.kw_puts.proofs.DeadRows.{born_keeps, dead_keeps, gone_keeps}
 use Rattle.kw_puts.proofs.Owners.{row_linked}
@@ -47,9 +47,9 @@ puts_keep z r r' s choice l a l' h i st after k = record {
   tries = each_seat h (λ t k. IsToFreeze k.activity k) (tries_own z r r' s choice l a l' h.arrow) (λ t k d g. i.puts.tries t k g);
   freezes = each_seat h (λ t k. Freezes z (word z r'.world) (slice_get r'.world.locals) k.activity k) (freezes_own z r r' s choice l a l' h.arrow h i) (λ t k d g. freezes_other z r r' s choice l a l' h i t k g);
   remembers = each_seat h (λ t k. Remembers z r'.ledger.rows r'.history r'.origin r'.listed k.activity k) (remembers_own z r r' s choice l a l' h.arrow h i st) (λ t k d g. remembers_other z r r' s choice l a l' h i st t k g);
-  helps = each_seat h (λ t k. HasMet k.activity → Helps r'.history r'.origin k.activity k (r'.seats t))
+  helps = each_seat h (λ t k. HasSeenPending k.activity → Helps r'.history r'.origin k.activity k (r'.seats t))
       (helps_own z r r' s choice l a l' h.arrow h i st)
-      (λ t k d g p. helps_stable z r r' t k (rely z r r' s choice l a l' h i st t k d g) (row_linked z r i.shape t k g (met_at_row k.activity p)) (i.puts.helps t k g p));
+      (λ t k d g p. helps_stable z r r' t k (rely z r r' s choice l a l' h i st t k d g) (row_linked z r i.shape t k g (saw_at_row k.activity p)) (i.puts.helps t k g p));
   born = born_keeps z r r' s choice l a l' h i st;
   dead = dead_keeps z r r' s choice l a l' h i st;
   gone = gone_keeps z r r' s choice l a l' h i st;

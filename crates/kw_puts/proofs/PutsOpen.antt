@@ -14,7 +14,7 @@ use Rattle.kw_core.specs.declared.history.Logged.{Logged}
 use Rattle.kw_core.specs.History.{Stands, attempt, no_attempt}
 use Rattle.kw_core.specs.Listed.{none_listed}
 use Rattle.kw_core.specs.Noted.{nothing_yet}
-use Rattle.kw_core.specs.Stages.{IsBusy, IsPutting, HasMet}
+use Rattle.kw_core.specs.Stages.{IsBusy, IsPutting, HasSeenPending}
 use Rattle.kw_core.specs.Run.{no_log}
 use Rattle.kw_world.specs.Step.{word}
 use Rattle.kw_core.specs.Run.{start}
@@ -65,7 +65,7 @@ module _ (z : Sizes) (o : Opening) (i : IsOpening z o) where
     tries = each_rests z o (λ t l. IsToFreeze l.activity l) (λ t. tt);
     freezes = each_rests z o (λ t l. Freezes z (word z (opened z o)) (slice_get (opened z o).locals) l.activity l) (λ t. record { count = λ x. absurd x; settled = λ x. absurd x });
     remembers = each_rests z o (λ t l. Remembers z (start z o).ledger.rows nothing_yet (λ q c. None) none_listed l.activity l) (λ t. record { marks = λ x. absurd x; noted = λ x. absurd x });
-    helps = each_rests z o (λ t l. HasMet l.activity → Helps nothing_yet (λ q c. None) l.activity l no_log) (λ t x. absurd x);
+    helps = each_rests z o (λ t l. HasSeenPending l.activity → Helps nothing_yet (λ q c. None) l.activity l no_log) (λ t x. absurd x);
     born = λ q k. omega arith;
     dead = λ q j d w. none_dead o q d;
     gone = λ p w x. absurd (omega arith);

@@ -48,7 +48,7 @@ use Rattle.kw_core.proofs.Steps.{old_stays}
 use Rattle.kw_shape.specs.Infants.{Written}
 use Rattle.kw_shape.specs.Plans.{Plans}
 use Rattle.kw_shape.proofs.InfantsFit.{infant_counts, taken_below}
-use Rattle.kw_shape.proofs.InfantsRely.{linked_not_infant, place_of_row}
+use Rattle.kw_shape.proofs.InfantsRely.{linked_not_infant, index_of_row}
 use Rattle.kw_shape.proofs.InfantsStay.{written_stays}
 use Rattle.kw_shape.proofs.LinkedRows.{ComesNow, fresh_linked, infants_at, linked_before, search_at}
 use Rattle.kw_puts.specs.Below.{Below}
@@ -98,7 +98,7 @@ at_lasts h h' e st p x = ((old_stays h h' e st p (in_range h p x)).grows.stamped
 module _ {z : Sizes} {r r' : Run} {s : ℕ} {choice : Choice} {l l' : Local} {e : Logged} (h : Happens z r r' s choice l l' (Activity.Rebalance (Rebalance.Replace Replace.Exchange))) (i : Below z r) (st : Step r.history r'.history e) (q : ℕ) (y : ComesNow (word z r.world) r.ledger.rows r'.ledger.rows s (length r.history.log) l (Activity.Rebalance (Rebalance.Replace Replace.Exchange)) q) where
   -- its place among the taken ones
   place : (n : ℕ) × (slice_get l.rebalance.taken n ≡ Some q)
-  place = place_of_row l.rebalance.taken q y.taken
+  place = index_of_row l.rebalance.taken q y.taken
 
   -- the seat, with it at hand
   k : Local

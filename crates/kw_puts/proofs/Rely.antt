@@ -17,7 +17,7 @@ use Rattle.kw_core.specs.History.{History, attempt, called, Stands}
 use Rattle.kw_core.specs.Grows.{Grows}
 use Rattle.kw_core.specs.Run.{Run, Origins}
 use Rattle.kw_core.specs.declared.seat_log.SeatLog.{SeatLog}
-use Rattle.kw_core.specs.Stages.{IsBusy, IsPassing, IsPutting, IsFresh, IsUnlisted, IsUnstamped}
+use Rattle.kw_core.specs.Stages.{IsBusy, IsVisiting, IsPutting, IsFresh, IsUnlisted, IsUnstamped}
 use Rattle.kw_core.specs.Listed.{Listed}
 use Rattle.kw_lists.specs.Changes.{Leaves}
 use Rattle.kw_lists.specs.Puts.{LeavesOwn}
@@ -116,7 +116,7 @@ pub record Rely (z : Sizes) (r r' : Run) (t : ℕ) (l : Local) : Type 0 where
   pub seat : t < z.seats
   pub rows : r'.world.rows ≡ r.world.rows
   pub log : r'.seats t ≡ r.seats t
-  pub fresh : IsPassing l.activity → RelyRows (word z r.world) (word z r'.world) r.ledger.rows r'.ledger.rows t
+  pub fresh : IsVisiting l.activity → RelyRows (word z r.world) (word z r'.world) r.ledger.rows r'.ledger.rows t
   pub words : RelyWords z (word z r.world) (word z r'.world) r.ledger.rows
   pub since : r'.ledger.waits t ≡ r.ledger.waits t
   pub scan : RelyScan (word z r.world) (word z r'.world) r'.history t (r.ledger.waits t) (r.settled t) (r'.settled t)

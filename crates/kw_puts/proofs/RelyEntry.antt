@@ -28,7 +28,7 @@ use Rattle.kw_core.specs.declared.history.Change.TheVariants.{Nothing, Begins, A
 use Rattle.kw_core.specs.Noted.{noted}
 use Rattle.kw_core.specs.Run.{Run, Origins, helping, freezing, losing}
 use Rattle.kw_core.specs.declared.seat_log.SeatLog.{SeatLog}
-use Rattle.kw_core.specs.Stages.{IsBusy, IsPutting, IsPublished, IsFresh, IsUnstamped, IsStamped, IsHelp, HasMet}
+use Rattle.kw_core.specs.Stages.{IsBusy, IsPutting, IsPublished, IsFresh, IsUnstamped, IsStamped, IsHelp, HasSeenPending}
 use Rattle.kw_core.specs.Words.{Words}
 use Rattle.kw_puts.specs.Puts.{HasCell, Helps, IsPublishedAt, OwnsAttempt, entry_of}
 use Rattle.kw_puts.specs.Freezes.{IsToFreeze, IsUnsettled}
@@ -206,16 +206,16 @@ unstamped _ p n = absurd p
 
 module _ (z : Sizes) (r r' : Run) (s : ℕ) (choice : Choice) (l l' : Local) (i : Below z r) (t : ℕ) (k : Local) (d : t ≢ s) (g : slice_get r.world.locals t ≡ Some k) (h : Happens z r r' s choice l l' (Activity.Look Look.Help)) where
   helper : Helps r.history r.origin l.activity l (r.seats s)
-  helper = i.puts.helps s l h.knows (subst HasMet (sym h.activity) tt)
+  helper = i.puts.helps s l h.knows (subst HasSeenPending (sym h.activity) tt)
 
   below : k.row < r.world.rows
   below = (i.shape.sane.locals t k g).below.row
 
   -- the exchange that is not made changes nothing
-  lost_change : word z r.world (name.Pend l.row l.looked) ≢ pend_word (pend.Pending l.met) → r'.history ≡ noted r.history (log_entry z r (Activity.Look Look.Help) s choice l) Nothing
+  lost_change : word z r.world (name.Pend l.row l.looked) ≢ pend_word (pend.Pending l.saw) → r'.history ≡ noted r.history (log_entry z r (Activity.Look Look.Help) s choice l) Nothing
   lost_change n = h.history ∙ ap (λ c. noted r.history (log_entry z r (Activity.Look Look.Help) s choice l) c) (not_chosen _ _ _ Nothing n)
 
-  lost_entry : word z r.world (name.Pend l.row l.looked) ≢ pend_word (pend.Pending l.met) → word z r'.world (name.Pend k.row t) ≡ word z r.world (name.Pend k.row t)
+  lost_entry : word z r.world (name.Pend l.row l.looked) ≢ pend_word (pend.Pending l.saw) → word z r'.world (name.Pend k.row t) ≡ word z r.world (name.Pend k.row t)
   lost_entry n = which (cases_eq k.row l.row) (cases_eq t l.looked)
     where
       which : (k.row ≡ l.row) ⊎ (k.row ≡ l.row → ⊥) → (t ≡ l.looked) ⊎ (t ≡ l.looked → ⊥) → word z r'.world (name.Pend k.row t) ≡ word z r.world (name.Pend k.row t)
@@ -223,47 +223,47 @@ module _ (z : Sizes) (r r' : Run) (s : ℕ) (choice : Choice) (l l' : Local) (i 
       which (inr e) f = entry_stays (Activity.Look Look.Help) h k.row t below (inside z r r' s choice l l' i t k d g) (λ x. e x.0)
       which (inl e) (inr f) = entry_stays (Activity.Look Look.Help) h k.row t below (inside z r r' s choice l l' i t k d g) (λ x. f x.1)
 
-  -- the one that is made stamps the attempt that was met
-  won_change : word z r.world (name.Pend l.row l.looked) ≡ pend_word (pend.Pending l.met) → r'.history ≡ noted r.history (log_entry z r (Activity.Look Look.Help) s choice l) (Stamps helper.put l.helping (r.seats s).loaded)
+  -- the one that is made stamps the attempt that was seen
+  won_change : word z r.world (name.Pend l.row l.looked) ≡ pend_word (pend.Pending l.saw) → r'.history ≡ noted r.history (log_entry z r (Activity.Look Look.Help) s choice l) (Stamps helper.put l.helping (r.seats s).loaded)
   won_change e = h.history ∙ ap (λ c. noted r.history (log_entry z r (Activity.Look Look.Help) s choice l) c) (chosen _ _ _ Nothing e ∙ ap (λ x. helping x l.helping (r.seats s).loaded) helper.origin)
 
   -- its cell is that of the entry's seat
-  met_cell : word z r.world (name.Pend l.row l.looked) ≡ pend_word (pend.Pending l.met) → HasCell r.ledger.rows r.history l.row l.met helper.put
-  met_cell e = pending_cell i.puts l.row l.looked l.met helper.put known.below.row known.ranges.looked e helper.origin
+  saw_cell : word z r.world (name.Pend l.row l.looked) ≡ pend_word (pend.Pending l.saw) → HasCell r.ledger.rows r.history l.row l.saw helper.put
+  saw_cell e = pending_cell i.puts l.row l.looked l.saw helper.put known.below.row known.ranges.looked e helper.origin
     where
       known : IsKnown z r.world.rows l
       known = i.shape.sane.locals s l h.knows
 
   -- it was not that of the seat looked at
-  won_other : word z r.world (name.Pend l.row l.looked) ≡ pend_word (pend.Pending l.met) → t ≢ l.looked → RelyEntry (word z r.world) (word z r'.world) r.history r'.history t k.activity k (r.seats t)
+  won_other : word z r.world (name.Pend l.row l.looked) ≡ pend_word (pend.Pending l.saw) → t ≢ l.looked → RelyEntry (word z r.world) (word z r'.world) r.history r'.history t k.activity k (r.seats t)
   won_other e n =
       as_it_was
       (λ p. entry_stays (Activity.Look Look.Help) h k.row t below (inside z r r' s choice l l' i t k d g) (λ x. n x.1))
       (λ p. let own = i.puts.owns t k g p in attempt_left r.history r'.history _ (r.seats t).own (Stamps helper.put l.helping (r.seats s).loaded) (λ u. n (sym own.seat ∙ ap (λ q. (attempt r.history q).seat) u ∙ helper.seat)) (won_change e) own.within)
       (λ p. let c = i.positions.calling t k g p in
       put_left r.history r'.history _ (r.seats t).call (Stamps helper.put l.helping (r.seats s).loaded)
-      (λ u. n (sym c.seat ∙ ap (λ q. (called r.history q).seat) u ∙ (i.history.laws.attempted helper.put (met_cell e).within).seat ∙ helper.seat)) (won_change e) c.within)
+      (λ u. n (sym c.seat ∙ ap (λ q. (called r.history q).seat) u ∙ (i.history.laws.attempted helper.put (saw_cell e).within).seat ∙ helper.seat)) (won_change e) c.within)
 
   -- the seat looked at has announced a cell of this row
-  at_entry : word z r.world (name.Pend l.row l.looked) ≡ pend_word (pend.Pending l.met) → t ≡ l.looked → IsPublished k.activity × (k.row ≡ l.row)
+  at_entry : word z r.world (name.Pend l.row l.looked) ≡ pend_word (pend.Pending l.saw) → t ≡ l.looked → IsPublished k.activity × (k.row ≡ l.row)
   at_entry e f = which (i.puts.entry l.row t (i.shape.sane.locals s l h.knows).below.row (inside z r r' s choice l l' i t k d g))
     where
       which : (word z r.world (name.Pend l.row t) ≡ pend_word pend.Idle) ⊎ (word z r.world (name.Pend l.row t) ≡ pend_word pend.Frozen) ⊎ IsPublishedAt (slice_get r.world.locals) l.row t → IsPublished k.activity × (k.row ≡ l.row)
-      which (inl x) = let y : pend_word (pend.Pending l.met) ≡ pend_word pend.Idle = sym e ∙ (rw f at x) in absurd (omega (arith, y))
-      which (inr (inl x)) = let y : pend_word (pend.Pending l.met) ≡ pend_word pend.Frozen = sym e ∙ (rw f at x) in absurd (omega (arith, y))
+      which (inl x) = let y : pend_word (pend.Pending l.saw) ≡ pend_word pend.Idle = sym e ∙ (rw f at x) in absurd (omega (arith, y))
+      which (inr (inl x)) = let y : pend_word (pend.Pending l.saw) ≡ pend_word pend.Frozen = sym e ∙ (rw f at x) in absurd (omega (arith, y))
       which (inr (inr p)) = let x = same_Some p.local k (sym p.knows ∙ g) in (subst (λ u. IsPublished u.activity) x p.published, subst (λ (u : Local). u.row ≡ l.row) x p.row)
 
   -- the seat looked at is helped
-  won_own : word z r.world (name.Pend l.row l.looked) ≡ pend_word (pend.Pending l.met) → t ≡ l.looked → IsPublished k.activity → k.row ≡ l.row → RelyEntry (word z r.world) (word z r'.world) r.history r'.history t k.activity k (r.seats t)
+  won_own : word z r.world (name.Pend l.row l.looked) ≡ pend_word (pend.Pending l.saw) → t ≡ l.looked → IsPublished k.activity → k.row ≡ l.row → RelyEntry (word z r.world) (word z r'.world) r.history r'.history t k.activity k (r.seats t)
   won_own e f y q =
       let p = published_puts k.activity y in
       let own = i.puts.owns t k g p in
       let c = i.positions.calling t k g (puts_busy k.activity p) in
-      let word_is : word z r.world (name.Pend k.row t) ≡ pend_word (pend.Pending l.met) = rw (q, f) e in
-      let st = pending_entry (attempt r.history (r.seats t).own) l.met (sym (own.entry y) ∙ word_is) in
+      let word_is : word z r.world (name.Pend k.row t) ≡ pend_word (pend.Pending l.saw) = rw (q, f) e in
+      let st = pending_entry (attempt r.history (r.seats t).own) l.saw (sym (own.entry y) ∙ word_is) in
       let known = i.shape.sane.locals s l h.knows in
-      let same : helper.put ≡ (r.seats t).own = pending_own i.puts l.row l.looked l.met helper.put known.below.row known.ranges.looked e helper.origin ∙ ap (λ x. (r.seats x).own) (sym f) in
-      let cell_is : l.met ≡ k.cell = sym st.1 ∙ own.cell in
+      let same : helper.put ≡ (r.seats t).own = pending_own i.puts l.row l.looked l.saw helper.put known.below.row known.ranges.looked e helper.origin ∙ ap (λ x. (r.seats x).own) (sym f) in
+      let cell_is : l.saw ≡ k.cell = sym st.1 ∙ own.cell in
       let n : r'.history ≡ noted r.history (log_entry z r (Activity.Look Look.Help) s choice l) (Stamps (r.seats t).own l.helping (r.seats s).loaded) = subst (λ x. r'.history ≡ noted r.history (log_entry z r (Activity.Look Look.Help) s choice l) (Stamps x l.helping (r.seats s).loaded)) same (won_change e) in
       is_helped l.helping (r.seats s).loaded (unstamped k.activity y (λ x. true_false (own.stamped x) st.0))
       (subst (λ x. word z r.world (name.Pend k.row t) ≡ pend_word (pend.Pending x)) cell_is word_is)
@@ -274,9 +274,9 @@ module _ (z : Sizes) (r r' : Run) (s : ℕ) (choice : Choice) (l l' : Local) (i 
       (ap (λ x. x.put) (called_set_same r.history r'.history (r.seats t).call _ (ap (λ x. x.calls) n ∙ ap (λ x. set r.history.calls x (record (called r.history x) { put = Some (r.seats t).own })) own.call) c.within))
 
   pub entry_helped : RelyEntry (word z r.world) (word z r'.world) r.history r'.history t k.activity k (r.seats t)
-  entry_helped = which (cases_eq (word z r.world (name.Pend l.row l.looked)) (pend_word (pend.Pending l.met))) (cases_eq t l.looked)
+  entry_helped = which (cases_eq (word z r.world (name.Pend l.row l.looked)) (pend_word (pend.Pending l.saw))) (cases_eq t l.looked)
     where
-      which : (word z r.world (name.Pend l.row l.looked) ≡ pend_word (pend.Pending l.met)) ⊎ (word z r.world (name.Pend l.row l.looked) ≡ pend_word (pend.Pending l.met) → ⊥) → (t ≡ l.looked) ⊎ (t ≡ l.looked → ⊥) → RelyEntry (word z r.world) (word z r'.world) r.history r'.history t k.activity k (r.seats t)
+      which : (word z r.world (name.Pend l.row l.looked) ≡ pend_word (pend.Pending l.saw)) ⊎ (word z r.world (name.Pend l.row l.looked) ≡ pend_word (pend.Pending l.saw) → ⊥) → (t ≡ l.looked) ⊎ (t ≡ l.looked → ⊥) → RelyEntry (word z r.world) (word z r'.world) r.history r'.history t k.activity k (r.seats t)
       which (inr n) f =
           as_it_was (λ p. lost_entry n)
           (λ p. attempt_left r.history r'.history _ (r.seats t).own Nothing tt (lost_change n) (i.puts.owns t k g p).within)
@@ -306,12 +306,12 @@ fresh_puts _ p = absurd p
 
 -- the entry of an announced attempt is not idle
 entry_not_idle : (p : Attempt) → entry_of p ≡ pend_word pend.Idle → ⊥
-entry_not_idle p e = met p.is_lost p.is_stamped refl refl
+entry_not_idle p e = saw p.is_lost p.is_stamped refl refl
   where
-    met : (b c : Bool) → p.is_lost ≡ b → p.is_stamped ≡ c → ⊥
-    met true c x y = let w : pend_word pend.Frozen ≡ pend_word pend.Idle = rw x at e in omega (arith, w)
-    met false true x y = let w : pend_word (pend.Stamped p.cell p.version) ≡ pend_word pend.Idle = rw (x, y) at e in omega (arith, w)
-    met false false x y = let w : pend_word (pend.Pending p.cell) ≡ pend_word pend.Idle = rw (x, y) at e in omega (arith, w)
+    saw : (b c : Bool) → p.is_lost ≡ b → p.is_stamped ≡ c → ⊥
+    saw true c x y = let w : pend_word pend.Frozen ≡ pend_word pend.Idle = rw x at e in omega (arith, w)
+    saw false true x y = let w : pend_word (pend.Stamped p.cell p.version) ≡ pend_word pend.Idle = rw (x, y) at e in omega (arith, w)
+    saw false false x y = let w : pend_word (pend.Pending p.cell) ≡ pend_word pend.Idle = rw (x, y) at e in omega (arith, w)
 
 module _ (z : Sizes) (r r' : Run) (s : ℕ) (choice : Choice) (l l' : Local) (i : Below z r) (j : ℕ) (h : Happens z r r' s choice l l' (Activity.Rebalance (Rebalance.Freeze (Freeze.Entry j)))) where
   row_below : l.row < r.world.rows

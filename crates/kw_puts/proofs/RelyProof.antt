@@ -132,21 +132,21 @@ rely_words z r r' s choice l a l' h i = record {
 -- only a seat that stores that it waits changes since when it does
 pub waits_stay : (z : Sizes) (r r' : Run) (s : ℕ) (choice : Choice) (l : Local) (a : Activity) (l' : Local) → Happens z r r' s choice l l' a → (t : ℕ) → (t ≡ s → a ≢ Activity.Draw Draw.Wait) → r'.ledger.waits t ≡ r.ledger.waits t
 waits_stay z r r' s choice l (Activity.Draw Draw.Wait) l' h t f = ap (λ (g : Ledger). g.waits t) h.ledger ∙ rw (ne_eqb t s (λ e. f e refl)) refl
-waits_stay z r r' s choice l (Activity.Rebalance (Rebalance.Seek Seek.Reclaim)) l' h t f = ap (λ (g : Ledger). g.waits t) h.ledger ∙ met (word z r.world (name.State l.rebalance.sought) == state_word (Retired l.rebalance.number))
+waits_stay z r r' s choice l (Activity.Rebalance (Rebalance.Seek Seek.Reclaim)) l' h t f = ap (λ (g : Ledger). g.waits t) h.ledger ∙ saw (word z r.world (name.State l.rebalance.sought) == state_word (Retired l.rebalance.number))
   where
-    met : (b : Bool) → (let g : Ledger = if b then record r.ledger { rows = with_fate r.ledger.rows l.rebalance.sought (fate_free (r.ledger.rows.fates l.rebalance.sought)) } else r.ledger in g.waits t) ≡ r.ledger.waits t
-    met true = refl
-    met false = refl
-waits_stay z r r' s choice l (Activity.Rebalance (Rebalance.Seek Seek.Take)) l' h t f = ap (λ (g : Ledger). g.waits t) h.ledger ∙ met (word z r.world (name.State l.rebalance.sought) == state_word Free)
+    saw : (b : Bool) → (let g : Ledger = if b then record r.ledger { rows = with_fate r.ledger.rows l.rebalance.sought (fate_free (r.ledger.rows.fates l.rebalance.sought)) } else r.ledger in g.waits t) ≡ r.ledger.waits t
+    saw true = refl
+    saw false = refl
+waits_stay z r r' s choice l (Activity.Rebalance (Rebalance.Seek Seek.Take)) l' h t f = ap (λ (g : Ledger). g.waits t) h.ledger ∙ saw (word z r.world (name.State l.rebalance.sought) == state_word Free)
   where
-    met : (b : Bool) → (let g : Ledger = if b then record r.ledger { rows = with_fate r.ledger.rows l.rebalance.sought (fate_taken s (length r.history.log) (r.ledger.rows.fates l.rebalance.sought)) } else r.ledger in g.waits t) ≡ r.ledger.waits t
-    met true = refl
-    met false = refl
-waits_stay z r r' s choice l (Activity.Rebalance (Rebalance.Replace Replace.Exchange)) l' h t f = ap (λ (g : Ledger). g.waits t) h.ledger ∙ met (word z r.world (replaced_link l.rebalance.before) == link_word (unmarked_link (Some l.row)))
+    saw : (b : Bool) → (let g : Ledger = if b then record r.ledger { rows = with_fate r.ledger.rows l.rebalance.sought (fate_taken s (length r.history.log) (r.ledger.rows.fates l.rebalance.sought)) } else r.ledger in g.waits t) ≡ r.ledger.waits t
+    saw true = refl
+    saw false = refl
+waits_stay z r r' s choice l (Activity.Rebalance (Rebalance.Replace Replace.Exchange)) l' h t f = ap (λ (g : Ledger). g.waits t) h.ledger ∙ saw (word z r.world (replaced_link l.rebalance.before) == link_word (unmarked_link (Some l.row)))
   where
-    met : (b : Bool) → (let g : Ledger = if b then record r.ledger { rows = with_replaced (word z r.world) s (length r.history.log) l r.ledger.rows } else r.ledger in g.waits t) ≡ r.ledger.waits t
-    met true = refl
-    met false = refl
+    saw : (b : Bool) → (let g : Ledger = if b then record r.ledger { rows = with_replaced (word z r.world) s (length r.history.log) l r.ledger.rows } else r.ledger in g.waits t) ≡ r.ledger.waits t
+    saw true = refl
+    saw false = refl
 waits_stay z r r' s choice l (Activity.Enter Enter.Announce) l' h t f = ap (λ (g : Ledger). g.waits t) h.ledger
 waits_stay z r r' s choice l (Activity.Walk Walk.First) l' h t f = ap (λ (g : Ledger). g.waits t) h.ledger
 waits_stay z r r' s choice l (Activity.Look Look.Key) l' h t f = ap (λ (g : Ledger). g.waits t) h.ledger
@@ -246,7 +246,7 @@ module _ (z : Sizes) (r r' : Run) (s : ℕ) (choice : Choice) (l : Local) (a : A
   others_link : IsInsert a → Some k.cell ≡ l.link → k.row ≡ l.row → ⊥
   others_link x e f =
       let inserting = subst (λ q. Happens z r r' s choice l l' q) (insert_is a x) h in
-      let on : IsOn (list_in (word z r.world) r.listed l.row) (Some k.cell) = subst (IsOn (list_in (word z r.world) r.listed l.row)) (sym e) (is_set z r r' s choice l l' inserting i).met.from.on in
+      let on : IsOn (list_in (word z r.world) r.listed l.row) (Some k.cell) = subst (IsOn (list_in (word z r.world) r.listed l.row)) (sym e) (is_set z r r' s choice l l' inserting i).saw.from.on in
       true_false (subst (λ q. r.listed q k.cell ≡ true) (sym f) on) ((i.lists.own t k g).unlisted u)
 
   -- so it is as it was
@@ -380,7 +380,7 @@ rely z r r' s choice l a l' h i st t k d g =
       seat = o;
       rows = h.rows;
       log = h.logs t d;
-      fresh = λ x. let p = (i.shape.passes t k g).in_pass x in rely_rows a h i.shape t p.since p.passes (others_kept a h t d ∙ p.passes);
+      fresh = λ x. let p = (i.shape.visits t k g).in_visit x in rely_rows a h i.shape t p.since p.visits (others_kept a h t d ∙ p.visits);
       words = rely_words z r r' s choice l a l' h i;
       since = waits_stay z r r' s choice l a l' h t (λ e. absurd (d e));
       scan = rely_scan z r r' s choice l a l' h i st t o d;

@@ -166,7 +166,7 @@ helps_stable z r r' t k y w o = subst (λ g. Helps r'.history r'.origin k.activi
     let grows = (y.goes_on.grows.old o.put (announced_within r.history o.put o.announced)).announced o.announced in
     record {
       put = o.put;
-      origin = y.goes_on.origin k.row k.met o.put w o.origin;
+      origin = y.goes_on.origin k.row k.saw o.put w o.origin;
       seat = same.seat ∙ o.seat;
       announced = grows.0;
       key = λ a. rw same.key (o.key a);

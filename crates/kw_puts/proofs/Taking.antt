@@ -1,6 +1,6 @@
--- A seat that rebalances gathers the cells of its frozen row: those that it meets in the list, and
--- those that it remembers and did not meet. What it knows of them after each event of its own, over
--- the run before that event: the event loads a word, and changes nothing.
+-- A seat that rebalances gathers the cells of its frozen row: those that it reaches in the list,
+-- and those that it remembers and did not reach. What it knows of them after each event of its own,
+-- over the run before that event: the event loads a word, and changes nothing.
 use Rattle.std.proofs.Common.{ℕ, ◌≡◌, ◌⊎◌, inl, inr, ◌<◌, ◌≤◌, Bool, true, false, Option, Some, None, List, [], arith, refl, sym, ◌∙◌, ap, subst, length, All, slice_get, unwrap_or}
 use Rattle.std.proofs.lemmas.Bool.{cases_eq}
 use Rattle.std.proofs.lemmas.Option.{same_Some}
@@ -11,7 +11,7 @@ use Rattle.kw_lists.specs.Counts.{count_below}
 use Rattle.kw_lists.specs.Rows.{Row, Stands, IsBehind, IsNext, IsSound}
 use Rattle.kw_lists.proofs.Inserting.{at_next}
 use Rattle.kw_lists.proofs.Reading.{list_ends}
-use Rattle.kw_lists.proofs.Walking.{not_behind, passed_next}
+use Rattle.kw_lists.proofs.Walking.{not_behind, gone_by_next}
 use Rattle.kw_world.specs.declared.activity.Activity.{Activity}
 use Rattle.kw_world.specs.declared.activity.rebalance.gather.Gather.TheVariants as Gather
 use Rattle.kw_world.specs.declared.activity.rebalance.Rebalance.TheVariants as Rebalance
@@ -85,7 +85,7 @@ module _ (z : Sizes) (row : Row) (h : History) (o : Origins) (l : Local) (n : Is
     few = n.few;
     below = n.below;
     unmarked = λ c x. n.unmarked c (marked_back c m.cell l.rebalance.marks x);
-    passed = λ x. absurd x;
+    gone_by = λ x. absurd x;
     fresh = λ x y. n.unmarked m.cell (least_marked l.rebalance.marks m e);
     held = λ x. marked_none m.cell l.rebalance.marks;
   }
@@ -135,7 +135,7 @@ module _ (z : Sizes) (r : Run) (i : Below z r) (s : ℕ) (l : Local) (g : slice_
       which (inl y) = own ((i.puts.remembers s l g).noted b p y.within (record { row = y.row; born = y.born }) x (subst (λ n. (attempt r.history p).seat < n) (sym f) (i.puts.placed p y.within).seat)) y.cell
       which (inr y) = inr (i.lists.copied l.row c p k w o y.earlier)
 
-  -- so a seat that begins the walk will meet it, where it is not remembered
+  -- so a seat that begins the walk will reach it, where it is not remembered
   pub begins_walk : (m : Local) → m.row ≡ l.row → m.rebalance.marks ≡ l.rebalance.marks → m.rebalance.gathered ≡ [] → m.link ≡ None → IsBeforeTaking l.activity → frozen_by z l.activity ≡ z.seats → Gathering z.cells row r.history r.origin (Activity.Rebalance (Rebalance.Gather Gather.Link)) m
   begins_walk m q e n u b f = record {
     on = λ x. rw u tt;
@@ -145,7 +145,7 @@ module _ (z : Sizes) (r : Run) (i : Below z r) (s : ℕ) (l : Local) (g : slice_
     few = rw n (omega arith);
     below = λ c x. absurd (nothing c x);
     unmarked = λ c x. rw n refl;
-    passed = λ x c y. absurd (nothing c y);
+    gone_by = λ x c y. absurd (nothing c y);
     fresh = λ x. absurd x;
     held = λ x. absurd x;
   }
@@ -159,7 +159,7 @@ module _ (z : Sizes) (r : Run) (i : Below z r) (s : ℕ) (l : Local) (g : slice_
 
   -- The walk goes on.
 
-  -- the cell to which the link leads is met
+  -- the cell to which the link leads is reached
   pub takes_cell : (c : ℕ) → cell_of_link_word (word z r.world (link_name l.row l.link)) ≡ Some c → Gathering z.cells row r.history r.origin (Activity.Rebalance (Rebalance.Gather Gather.Link)) l → Gathering z.cells row r.history r.origin (Activity.Rebalance (Rebalance.Gather Gather.Key)) (record (taking z c l) { activity = Activity.Rebalance (Rebalance.Gather Gather.Key) })
   takes_cell c e n = record {
     on = λ x. n.on tt;
@@ -169,7 +169,7 @@ module _ (z : Sizes) (r : Run) (i : Below z r) (s : ℕ) (l : Local) (g : slice_
     few = n.few;
     below = n.below;
     unmarked = λ d x. n.unmarked d (marked_back d c l.rebalance.marks x);
-    passed = λ x. n.passed tt;
+    gone_by = λ x. n.gone_by tt;
     fresh = λ x y. absurd (y tt);
     held = λ x. marked_none c l.rebalance.marks;
   }
@@ -194,7 +194,7 @@ module _ (z : Sizes) (r : Run) (i : Below z r) (s : ℕ) (l : Local) (g : slice_
     few = n.few;
     below = n.below;
     unmarked = n.unmarked;
-    passed = n.passed;
+    gone_by = n.gone_by;
     fresh = λ x y. absurd (y tt);
     held = λ x. n.held tt;
   }
@@ -209,7 +209,7 @@ module _ (z : Sizes) (r : Run) (i : Below z r) (s : ℕ) (l : Local) (g : slice_
     few = n.few;
     below = n.below;
     unmarked = n.unmarked;
-    passed = n.passed;
+    gone_by = n.gone_by;
     fresh = λ x y. absurd (y tt);
     held = λ x. n.held tt;
   }
@@ -252,27 +252,27 @@ module _ (z : Sizes) (r : Run) (i : Below z r) (s : ℕ) (l : Local) (g : slice_
         which (inl e) = true_false x (rw e m)
         which (inr e) = true_false e (n.unmarked c x)
 
-  -- a cell of the list is gathered, and passed
+  -- a cell of the list is gathered, and gone by
   pub keeps_listed : Gathering z.cells row r.history r.origin (Activity.Rebalance (Rebalance.Gather Gather.Value)) l → Gathering z.cells row r.history r.origin (Activity.Rebalance (Rebalance.Gather Gather.Link)) (take_past (keeping z value l)).local
   keeps_listed n = record {
-    on = λ x. met.0;
+    on = λ x. saw.0;
     behind = λ x. absurd x;
     found = λ d p w o x. which d (n.found d p w o x);
     hand = λ x. absurd x;
     few = more.few;
     below = more_below (Activity.Rebalance (Rebalance.Gather Gather.Value)) n fresh (n.held tt);
     unmarked = more_unmarked (Activity.Rebalance (Rebalance.Gather Gather.Value)) n fresh (n.held tt);
-    passed = λ x c y. past c (more.back c y);
+    gone_by = λ x c y. past c (more.back c y);
     fresh = λ x. absurd x;
     held = λ x. absurd x;
   }
     where
-      met : (row.listed l.place ≡ true) × IsBehind row l.link l.place
-      met = n.behind tt
+      saw : (row.listed l.place ≡ true) × IsBehind row l.link l.place
+      saw = n.behind tt
 
-      -- what was gathered before was passed, and the cell in hand stands behind the link
+      -- what was gathered before was gone by, and the cell in hand stands behind the link
       fresh : has_place l.place l.rebalance.gathered ≡ false
-      fresh = is_not (has_place l.place l.rebalance.gathered) (λ e. not_behind row l.link l.place (n.passed tt l.place e).1 met.1)
+      fresh = is_not (has_place l.place l.rebalance.gathered) (λ e. not_behind row l.link l.place (n.gone_by tt l.place e).1 saw.1)
 
       more : OneMore z.cells l.place l.rebalance.gathered (keeping z value l).rebalance.gathered
       more = one_more (Activity.Rebalance (Rebalance.Gather Gather.Value)) n fresh (n.held tt)
@@ -285,8 +285,8 @@ module _ (z : Sizes) (r : Run) (i : Below z r) (s : ℕ) (l : Local) (g : slice_
       which d (inr (inr (x, inr y))) = inr (inr (x, y))
 
       past : (c : ℕ) → (c ≡ l.place) ⊎ (has_place c l.rebalance.gathered ≡ true) → (row.listed c ≡ true) × ((c ≡ l.place) ⊎ Stands row c l.place)
-      past c (inl e) = (rw e met.0, inl e)
-      past c (inr e) = let p = n.passed tt c e in (p.0, passed_next row l.link l.place c met.1 p.1)
+      past c (inl e) = (rw e saw.0, inl e)
+      past c (inr e) = let p = n.gone_by tt c e in (p.0, gone_by_next row l.link l.place c saw.1 p.1)
 
   -- The list is at its end.
 
@@ -300,8 +300,8 @@ module _ (z : Sizes) (r : Run) (i : Below z r) (s : ℕ) (l : Local) (g : slice_
       which c (inr (inr x)) = absurd (list_ends row l.link (row.link l.link) c (sound.list l.link (n.on tt)) (leads_to None e) x.0 x.1)
 
   -- and so it is where a remembered one is gathered
-  pub keeps_rest : Gathering z.cells row r.history r.origin (Activity.Rebalance (Rebalance.Gather Gather.LeftOverValue)) l → IsLeft z r.history r.origin (keeping z value l)
-  keeps_rest n = record {
+  pub keeps_left_over : Gathering z.cells row r.history r.origin (Activity.Rebalance (Rebalance.Gather Gather.LeftOverValue)) l → IsLeft z r.history r.origin (keeping z value l)
+  keeps_left_over n = record {
     found = λ c p w o x. which c (n.found c p w o x);
     few = more.few;
     below = more_below (Activity.Rebalance (Rebalance.Gather Gather.LeftOverValue)) n fresh (n.held tt);
@@ -320,8 +320,8 @@ module _ (z : Sizes) (r : Run) (i : Below z r) (s : ℕ) (l : Local) (g : slice_
       which c (inr (inr e)) = inl (rw e more.new)
 
   -- a remembered cell's key is loaded
-  pub takes_rest_key : Gathering z.cells row r.history r.origin (Activity.Rebalance (Rebalance.Gather Gather.LeftOverKey)) l → Gathering z.cells row r.history r.origin (Activity.Rebalance (Rebalance.Gather Gather.LeftOverValue)) (record l { place_key = key_of_word (word z r.world (name.Key l.row l.place)); activity = Activity.Rebalance (Rebalance.Gather Gather.LeftOverValue) })
-  takes_rest_key n = record {
+  pub takes_left_over_key : Gathering z.cells row r.history r.origin (Activity.Rebalance (Rebalance.Gather Gather.LeftOverKey)) l → Gathering z.cells row r.history r.origin (Activity.Rebalance (Rebalance.Gather Gather.LeftOverValue)) (record l { place_key = key_of_word (word z r.world (name.Key l.row l.place)); activity = Activity.Rebalance (Rebalance.Gather Gather.LeftOverValue) })
+  takes_left_over_key n = record {
     on = λ x. absurd x;
     behind = λ x. absurd x;
     found = n.found;
@@ -329,7 +329,7 @@ module _ (z : Sizes) (r : Run) (i : Below z r) (s : ℕ) (l : Local) (g : slice_
     few = n.few;
     below = n.below;
     unmarked = n.unmarked;
-    passed = λ x. absurd x;
+    gone_by = λ x. absurd x;
     fresh = λ x y. n.fresh tt (λ u. u);
     held = λ x. n.held tt;
   }

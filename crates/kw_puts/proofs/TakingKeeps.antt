@@ -24,8 +24,8 @@ use Rattle.kw_core.specs.Stages.{IsBalancing}
 use Rattle.kw_core.specs.Step.{Step}
 use Rattle.kw_core.specs.Words.{Words}
 use Rattle.kw_core.proofs.Arrows.{builds, Arrow}
-use Rattle.kw_core.proofs.Arrows.{meets_stamped, meets_neither, is_passed, helps, finds_stamped, finds_other, list_ends, key_above, rest_passed, gathers_rest}
-use Rattle.kw_core.proofs.Arrows.{meets_quiet_last, meets_drawn_last, settles_last, finds_drawn_last, finds_no_scan_last}
+use Rattle.kw_core.proofs.Arrows.{sees_stamped, sees_neither, is_gone_by, helps, finds_stamped, finds_other, list_ends, key_above, left_over_gone_by, gathers_left_over}
+use Rattle.kw_core.proofs.Arrows.{sees_quiet_last, sees_drawn_last, settles_last, finds_drawn_last, finds_no_scan_last}
 use Rattle.kw_core.proofs.Arrows.{take_leads, takes_left, takes_no_more, takes_key, takes_version, keeps_taken, takes_left_key, keeps_left, keeps_no_more}
 use Rattle.kw_core.proofs.Building.{Building, replaces_row, makes_normal, makes_last_normal, draws_number, retires_row, IsBuilding, retires_and_leaves}
 use Rattle.kw_core.proofs.BuiltNext.{BuiltKeeps, IsAfterBuilding, built_keeps, built_next}
@@ -37,11 +37,11 @@ use Rattle.kw_puts.specs.Below.{Below}
 use Rattle.kw_puts.specs.Builds.{IsGathered, IsGathering, Gathering, HasPlanned, HoldsRow}
 use Rattle.kw_puts.specs.Freezes.{IsBeforeTaking, IsMarkOf}
 use Rattle.kw_puts.specs.Lists.{list_in}
-use Rattle.kw_puts.proofs.Freezes.{look_freezes, rest_freezes}
+use Rattle.kw_puts.proofs.Freezes.{look_freezes, left_over_freezes}
 use Rattle.kw_puts.proofs.FrozenRows.{LeavesCells}
 use Rattle.kw_puts.proofs.Owners.{full_linked}
-use Rattle.kw_puts.proofs.Gathering.{Gathers, HasPassedAll, gathers_last, gathers_other, leaves_passed, passed_all}
-use Rattle.kw_puts.proofs.Taking.{begins_walk, holds_all, keeps_gathered, keeps_listed, keeps_rest, takes_cell, takes_its_key, takes_its_version, takes_least, takes_rest_key, walk_ended}
+use Rattle.kw_puts.proofs.Gathering.{Gathers, HasGoneByAll, gathers_last, gathers_other, leaves_gone_by, gone_by_all}
+use Rattle.kw_puts.proofs.Taking.{begins_walk, holds_all, keeps_gathered, keeps_listed, keeps_left_over, takes_cell, takes_its_key, takes_its_version, takes_least, takes_left_over_key, walk_ended}
 
 -- The events that build rows.
 
@@ -84,23 +84,23 @@ module _ (z : Sizes) (r r' : Run) (s : ℕ) (choice : Choice) (l : Local) (a : A
   -- a seat that has frozen no row
   unfrozen : (b : Activity) (k : Local) → (HasFrozen b → ⊥) → Gathers z (list_in (word z r'.world) r'.listed k.row) r'.history r'.origin b k
   unfrozen b k n = record {
-    gathering = λ x. absurd (n (passed_all z b (inl x)).frozen);
-    gathered = λ x. absurd (n (passed_all z b (inl x)).frozen);
-    collected = λ x. absurd (n (passed_all z b (inr x)).frozen);
-    kept = λ x. absurd (n (passed_all z b (inr x)).frozen);
-    holds = λ x. absurd (n (passed_all z b (inr x)).frozen);
+    gathering = λ x. absurd (n (gone_by_all z b (inl x)).frozen);
+    gathered = λ x. absurd (n (gone_by_all z b (inl x)).frozen);
+    collected = λ x. absurd (n (gone_by_all z b (inr x)).frozen);
+    kept = λ x. absurd (n (gone_by_all z b (inr x)).frozen);
+    holds = λ x. absurd (n (gone_by_all z b (inr x)).frozen);
   }
 
   -- its row is as it was
-  module _ (p : HasPassedAll z a) where
-    passed : HasPassedAll z l.activity
-    passed = subst (HasPassedAll z) (sym h.activity) p
+  module _ (p : HasGoneByAll z a) where
+    gone_by : HasGoneByAll z l.activity
+    gone_by = subst (HasGoneByAll z) (sym h.activity) p
 
     linked : WasLinked r.ledger.rows l.row
-    linked = full_linked z r i.shape s l h.knows passed.balances
+    linked = full_linked z r i.shape s l h.knows gone_by.balances
 
     left : (k : Local) → k.row ≡ l.row → LeavesCells z.cells (list_in (word z r.world) r.listed k.row) (list_in (word z r'.world) r'.listed k.row) r.history r'.history r.origin r'.origin k.row
-    left k e = subst (λ q. LeavesCells z.cells (list_in (word z r.world) r.listed q) (list_in (word z r'.world) r'.listed q) r.history r'.history r.origin r'.origin q) (sym e) (leaves_passed z r r' s choice l a l' h i st s l h.knows passed)
+    left k e = subst (λ q. LeavesCells z.cells (list_in (word z r.world) r.listed q) (list_in (word z r'.world) r'.listed q) r.history r'.history r.origin r'.origin q) (sym e) (leaves_gone_by z r r' s choice l a l' h i st s l h.knows gone_by)
 
     carried : (b : Activity) (k : Local) → k.row ≡ l.row → Gathers z (list_in (word z r.world) r.listed k.row) r.history r.origin b k → Gathers z (list_in (word z r'.world) r'.listed k.row) r'.history r'.origin b k
     carried b k e n = gathers_last z (list_in (word z r.world) r.listed k.row) (list_in (word z r'.world) r'.listed k.row) r.history r'.history r.origin r'.origin b k (λ x. left k e) n
@@ -117,7 +117,7 @@ module _ (z : Sizes) (r r' : Run) (s : ℕ) (choice : Choice) (l : Local) (a : A
     begins : (k : Local) → k.row ≡ l.row → k.rebalance.marks ≡ l.rebalance.marks → k.rebalance.gathered ≡ [] → k.link ≡ None → IsBeforeTaking a → Gathers z (list_in (word z r'.world) r'.listed k.row) r'.history r'.origin (Activity.Rebalance (Rebalance.Gather Gather.Link)) k
     begins k e m n u b =
         on (Activity.Rebalance (Rebalance.Gather Gather.Link)) k e (λ x. x)
-        (subst (λ q. Gathering z.cells (list_in (word z r.world) r.listed q) r.history r.origin (Activity.Rebalance (Rebalance.Gather Gather.Link)) k) (sym e) (begins_walk z r i s l h.knows linked k e m n u (subst IsBeforeTaking (sym h.activity) b) passed.all))
+        (subst (λ q. Gathering z.cells (list_in (word z r.world) r.listed q) r.history r.origin (Activity.Rebalance (Rebalance.Gather Gather.Link)) k) (sym e) (begins_walk z r i s l h.knows linked k e m n u (subst IsBeforeTaking (sym h.activity) b) gone_by.all))
         (rw n (All-nil (IsGathered r.history r.origin k.row)))
 
   -- where it builds rows
@@ -142,55 +142,55 @@ module _ (z : Sizes) (r r' : Run) (s : ℕ) (choice : Choice) (l : Local) (a : A
       kept : HasPlanned (nursing_of k.activity) → BuiltKeeps l k
       kept x = built_keeps z (word z r.world) choice l a k b (planned_builds k.activity next x)
 
--- a seat that has frozen a row, and is at an activity where all entries are passed
-passes : (z : Sizes) (a : Activity) → IsBalancing a → HasFrozen a → frozen_by z a ≡ z.seats → HasPassedAll z a
-passes z a b f e = record { balances = b; frozen = f; all = e }
+-- a seat that has frozen a row, and is at an activity where all entries are gone by
+has_all : (z : Sizes) (a : Activity) → IsBalancing a → HasFrozen a → frozen_by z a ≡ z.seats → HasGoneByAll z a
+has_all z a b f e = record { balances = b; frozen = f; all = e }
 
 -- what the acting seat knows then
 pub gathers_own : (z : Sizes) (r r' : Run) (s : ℕ) (choice : Choice) (l : Local) (a : Activity) (l' : Local) → Arrow z (word z r.world) s choice l a l' → Happens z r r' s choice l l' a → Below z r → Step r.history r'.history (log_entry z r a s choice l) → Gathers z (list_in (word z r'.world) r'.listed l'.row) r'.history r'.origin l'.activity l'
 gathers_own z r r' s choice l a l' (builds c next y b) h i st = goes_on z r r' s choice l a l' h i st next b
-gathers_own z r r' s choice l a l' (meets_quiet_last m e u) h i st = begins z r r' s choice l (Activity.Rebalance (Rebalance.Freeze (Freeze.Scan m))) l' h i st (passes z (Activity.Rebalance (Rebalance.Freeze (Freeze.Scan m))) tt tt refl) l' refl refl refl refl tt
-gathers_own z r r' s choice l a l' (meets_drawn_last m version e u) h i st = begins z r r' s choice l (Activity.Rebalance (Rebalance.Freeze (Freeze.Scan m))) l' h i st (passes z (Activity.Rebalance (Rebalance.Freeze (Freeze.Scan m))) tt tt refl) l' refl refl refl refl tt
-gathers_own z r r' s choice l a l' (settles_last m e u) h i st = begins z r r' s choice l (Activity.Rebalance (Rebalance.Freeze (Freeze.Settle m))) l' h i st (passes z (Activity.Rebalance (Rebalance.Freeze (Freeze.Settle m))) tt tt refl) l' refl refl refl refl tt
-gathers_own z r r' s choice l a l' (finds_drawn_last m version e u) h i st = begins z r r' s choice l (Activity.Rebalance (Rebalance.Freeze (Freeze.Settle m))) l' h i st (passes z (Activity.Rebalance (Rebalance.Freeze (Freeze.Settle m))) tt tt refl) l' refl refl refl refl tt
-gathers_own z r r' s choice l a l' (finds_no_scan_last m e u) h i st = begins z r r' s choice l (Activity.Rebalance (Rebalance.Freeze (Freeze.Settle m))) l' h i st (passes z (Activity.Rebalance (Rebalance.Freeze (Freeze.Settle m))) tt tt refl) l' refl refl refl refl tt
+gathers_own z r r' s choice l a l' (sees_quiet_last m e u) h i st = begins z r r' s choice l (Activity.Rebalance (Rebalance.Freeze (Freeze.Scan m))) l' h i st (has_all z (Activity.Rebalance (Rebalance.Freeze (Freeze.Scan m))) tt tt refl) l' refl refl refl refl tt
+gathers_own z r r' s choice l a l' (sees_drawn_last m version e u) h i st = begins z r r' s choice l (Activity.Rebalance (Rebalance.Freeze (Freeze.Scan m))) l' h i st (has_all z (Activity.Rebalance (Rebalance.Freeze (Freeze.Scan m))) tt tt refl) l' refl refl refl refl tt
+gathers_own z r r' s choice l a l' (settles_last m e u) h i st = begins z r r' s choice l (Activity.Rebalance (Rebalance.Freeze (Freeze.Settle m))) l' h i st (has_all z (Activity.Rebalance (Rebalance.Freeze (Freeze.Settle m))) tt tt refl) l' refl refl refl refl tt
+gathers_own z r r' s choice l a l' (finds_drawn_last m version e u) h i st = begins z r r' s choice l (Activity.Rebalance (Rebalance.Freeze (Freeze.Settle m))) l' h i st (has_all z (Activity.Rebalance (Rebalance.Freeze (Freeze.Settle m))) tt tt refl) l' refl refl refl refl tt
+gathers_own z r r' s choice l a l' (finds_no_scan_last m e u) h i st = begins z r r' s choice l (Activity.Rebalance (Rebalance.Freeze (Freeze.Settle m))) l' h i st (has_all z (Activity.Rebalance (Rebalance.Freeze (Freeze.Settle m))) tt tt refl) l' refl refl refl refl tt
 gathers_own z r r' s choice l a l' (take_leads c e) h i st =
-    let p = passes z (Activity.Rebalance (Rebalance.Gather Gather.Link)) tt tt refl in
+    let p = has_all z (Activity.Rebalance (Rebalance.Gather Gather.Link)) tt tt refl in
     let n = was z r r' s choice l (Activity.Rebalance (Rebalance.Gather Gather.Link)) l' h i st in
     let k = linked z r r' s choice l (Activity.Rebalance (Rebalance.Gather Gather.Link)) l' h i st p in
     on z r r' s choice l (Activity.Rebalance (Rebalance.Gather Gather.Link)) l' h i st p (Activity.Rebalance (Rebalance.Gather Gather.Key)) l' refl (λ x. x) (takes_cell z r i s l h.knows k c e (n.gathering tt)) (n.gathered tt)
 gathers_own z r r' s choice l a l' takes_key h i st =
-    let p = passes z (Activity.Rebalance (Rebalance.Gather Gather.Key)) tt tt refl in
+    let p = has_all z (Activity.Rebalance (Rebalance.Gather Gather.Key)) tt tt refl in
     let n = was z r r' s choice l (Activity.Rebalance (Rebalance.Gather Gather.Key)) l' h i st in
     let k = linked z r r' s choice l (Activity.Rebalance (Rebalance.Gather Gather.Key)) l' h i st p in
     on z r r' s choice l (Activity.Rebalance (Rebalance.Gather Gather.Key)) l' h i st p (Activity.Rebalance (Rebalance.Gather Gather.Version)) l' refl (λ x. x) (takes_its_key z r i s l h.knows k (n.gathering tt)) (n.gathered tt)
 gathers_own z r r' s choice l a l' takes_version h i st =
-    let p = passes z (Activity.Rebalance (Rebalance.Gather Gather.Version)) tt tt refl in
+    let p = has_all z (Activity.Rebalance (Rebalance.Gather Gather.Version)) tt tt refl in
     let n = was z r r' s choice l (Activity.Rebalance (Rebalance.Gather Gather.Version)) l' h i st in
     let k = linked z r r' s choice l (Activity.Rebalance (Rebalance.Gather Gather.Version)) l' h i st p in
     on z r r' s choice l (Activity.Rebalance (Rebalance.Gather Gather.Version)) l' h i st p (Activity.Rebalance (Rebalance.Gather Gather.Value)) l' refl (λ x. x) (takes_its_version z r i s l h.knows k (n.gathering tt)) (n.gathered tt)
 gathers_own z r r' s choice l a l' keeps_taken h i st =
-    let p = passes z (Activity.Rebalance (Rebalance.Gather Gather.Value)) tt tt refl in
+    let p = has_all z (Activity.Rebalance (Rebalance.Gather Gather.Value)) tt tt refl in
     let n = was z r r' s choice l (Activity.Rebalance (Rebalance.Gather Gather.Value)) l' h i st in
     let k = linked z r r' s choice l (Activity.Rebalance (Rebalance.Gather Gather.Value)) l' h i st p in
     on z r r' s choice l (Activity.Rebalance (Rebalance.Gather Gather.Value)) l' h i st p (Activity.Rebalance (Rebalance.Gather Gather.Link)) l' refl (λ x. x) (keeps_listed z r i s l h.knows k (n.gathering tt)) (keeps_gathered z r i s l h.knows k (Activity.Rebalance (Rebalance.Gather Gather.Value)) tt tt ((n.gathering tt).hand tt) (n.gathered tt))
 gathers_own z r r' s choice l a l' (takes_left m e u) h i st =
-    let p = passes z (Activity.Rebalance (Rebalance.Gather Gather.Link)) tt tt refl in
+    let p = has_all z (Activity.Rebalance (Rebalance.Gather Gather.Link)) tt tt refl in
     let n = was z r r' s choice l (Activity.Rebalance (Rebalance.Gather Gather.Link)) l' h i st in
     let k = linked z r r' s choice l (Activity.Rebalance (Rebalance.Gather Gather.Link)) l' h i st p in
     on z r r' s choice l (Activity.Rebalance (Rebalance.Gather Gather.Link)) l' h i st p (Activity.Rebalance (Rebalance.Gather Gather.LeftOverKey)) l' refl (λ x. x) (takes_least z (list_in (word z r.world) r.listed l.row) r.history r.origin l (walk_ended z r i s l h.knows k e (n.gathering tt)) m u (own_marks z r r' s choice l (Activity.Rebalance (Rebalance.Gather Gather.Link)) l' h i st tt)) (n.gathered tt)
 gathers_own z r r' s choice l a l' takes_left_key h i st =
-    let p = passes z (Activity.Rebalance (Rebalance.Gather Gather.LeftOverKey)) tt tt refl in
+    let p = has_all z (Activity.Rebalance (Rebalance.Gather Gather.LeftOverKey)) tt tt refl in
     let n = was z r r' s choice l (Activity.Rebalance (Rebalance.Gather Gather.LeftOverKey)) l' h i st in
     let k = linked z r r' s choice l (Activity.Rebalance (Rebalance.Gather Gather.LeftOverKey)) l' h i st p in
-    on z r r' s choice l (Activity.Rebalance (Rebalance.Gather Gather.LeftOverKey)) l' h i st p (Activity.Rebalance (Rebalance.Gather Gather.LeftOverValue)) l' refl (λ x. x) (takes_rest_key z r i s l h.knows k (n.gathering tt)) (n.gathered tt)
+    on z r r' s choice l (Activity.Rebalance (Rebalance.Gather Gather.LeftOverKey)) l' h i st p (Activity.Rebalance (Rebalance.Gather Gather.LeftOverValue)) l' refl (λ x. x) (takes_left_over_key z r i s l h.knows k (n.gathering tt)) (n.gathered tt)
 gathers_own z r r' s choice l a l' (keeps_left m u) h i st =
-    let p = passes z (Activity.Rebalance (Rebalance.Gather Gather.LeftOverValue)) tt tt refl in
+    let p = has_all z (Activity.Rebalance (Rebalance.Gather Gather.LeftOverValue)) tt tt refl in
     let n = was z r r' s choice l (Activity.Rebalance (Rebalance.Gather Gather.LeftOverValue)) l' h i st in
     let k = linked z r r' s choice l (Activity.Rebalance (Rebalance.Gather Gather.LeftOverValue)) l' h i st p in
-    on z r r' s choice l (Activity.Rebalance (Rebalance.Gather Gather.LeftOverValue)) l' h i st p (Activity.Rebalance (Rebalance.Gather Gather.LeftOverKey)) l' refl (λ x. x) (takes_least z (list_in (word z r.world) r.listed l.row) r.history r.origin (keeping z (value_of_word (word z r.world (name.Value l.row l.place))) l) (keeps_rest z r i s l h.knows k (n.gathering tt)) m u (own_marks z r r' s choice l (Activity.Rebalance (Rebalance.Gather Gather.LeftOverValue)) l' h i st tt)) (keeps_gathered z r i s l h.knows k (Activity.Rebalance (Rebalance.Gather Gather.LeftOverValue)) tt tt ((n.gathering tt).hand tt) (n.gathered tt))
+    on z r r' s choice l (Activity.Rebalance (Rebalance.Gather Gather.LeftOverValue)) l' h i st p (Activity.Rebalance (Rebalance.Gather Gather.LeftOverKey)) l' refl (λ x. x) (takes_least z (list_in (word z r.world) r.listed l.row) r.history r.origin (keeping z (value_of_word (word z r.world (name.Value l.row l.place))) l) (keeps_left_over z r i s l h.knows k (n.gathering tt)) m u (own_marks z r r' s choice l (Activity.Rebalance (Rebalance.Gather Gather.LeftOverValue)) l' h i st tt)) (keeps_gathered z r i s l h.knows k (Activity.Rebalance (Rebalance.Gather Gather.LeftOverValue)) tt tt ((n.gathering tt).hand tt) (n.gathered tt))
 gathers_own z r r' s choice l a l' (takes_no_more e u) h i st =
-    let p = passes z (Activity.Rebalance (Rebalance.Gather Gather.Link)) tt tt refl in
+    let p = has_all z (Activity.Rebalance (Rebalance.Gather Gather.Link)) tt tt refl in
     let n = was z r r' s choice l (Activity.Rebalance (Rebalance.Gather Gather.Link)) l' h i st in
     let k = linked z r r' s choice l (Activity.Rebalance (Rebalance.Gather Gather.Link)) l' h i st p in
     all_gathered z r r' s choice l (Activity.Rebalance (Rebalance.Gather Gather.Link)) l' h i st p l' refl
@@ -198,24 +198,24 @@ gathers_own z r r' s choice l a l' (takes_no_more e u) h i st =
     (kept_of-all (IsGathered r.history r.origin l.row) l.rebalance.gathered l.rebalance.needed (n.gathered tt))
     (holds_all z (list_in (word z r.world) r.listed l.row) r.history r.origin l (walk_ended z r i s l h.knows k e (n.gathering tt)) u)
 gathers_own z r r' s choice l a l' (keeps_no_more u) h i st =
-    let p = passes z (Activity.Rebalance (Rebalance.Gather Gather.LeftOverValue)) tt tt refl in
+    let p = has_all z (Activity.Rebalance (Rebalance.Gather Gather.LeftOverValue)) tt tt refl in
     let n = was z r r' s choice l (Activity.Rebalance (Rebalance.Gather Gather.LeftOverValue)) l' h i st in
     let k = linked z r r' s choice l (Activity.Rebalance (Rebalance.Gather Gather.LeftOverValue)) l' h i st p in
     let all = keeps_gathered z r i s l h.knows k (Activity.Rebalance (Rebalance.Gather Gather.LeftOverValue)) tt tt ((n.gathering tt).hand tt) (n.gathered tt) in
     all_gathered z r r' s choice l (Activity.Rebalance (Rebalance.Gather Gather.LeftOverValue)) l' h i st p l' refl
     all
     (kept_of-all (IsGathered r.history r.origin l.row) (keeping z (value_of_word (word z r.world (name.Value l.row l.place))) l).rebalance.gathered l.rebalance.needed all)
-    (holds_all z (list_in (word z r.world) r.listed l.row) r.history r.origin (keeping z (value_of_word (word z r.world (name.Value l.row l.place))) l) (keeps_rest z r i s l h.knows k (n.gathering tt)) u)
-gathers_own z r r' s choice l a l' (meets_stamped j c version next e n) h i st = unfrozen z r r' s choice l _ l' h i st next l' (look_freezes z _ next n)
-gathers_own z r r' s choice l a l' (meets_neither j next e n) h i st = unfrozen z r r' s choice l _ l' h i st next l' (look_freezes z _ next n)
-gathers_own z r r' s choice l a l' (is_passed next e n) h i st = unfrozen z r r' s choice l _ l' h i st next l' (look_freezes z _ next n)
+    (holds_all z (list_in (word z r.world) r.listed l.row) r.history r.origin (keeping z (value_of_word (word z r.world (name.Value l.row l.place))) l) (keeps_left_over z r i s l h.knows k (n.gathering tt)) u)
+gathers_own z r r' s choice l a l' (sees_stamped j c version next e n) h i st = unfrozen z r r' s choice l _ l' h i st next l' (look_freezes z _ next n)
+gathers_own z r r' s choice l a l' (sees_neither j next e n) h i st = unfrozen z r r' s choice l _ l' h i st next l' (look_freezes z _ next n)
+gathers_own z r r' s choice l a l' (is_gone_by next e n) h i st = unfrozen z r r' s choice l _ l' h i st next l' (look_freezes z _ next n)
 gathers_own z r r' s choice l a l' (helps next e n) h i st = unfrozen z r r' s choice l _ l' h i st next l' (look_freezes z _ next n)
 gathers_own z r r' s choice l a l' (finds_stamped c version next e n) h i st = unfrozen z r r' s choice l _ l' h i st next l' (look_freezes z _ next n)
 gathers_own z r r' s choice l a l' (finds_other next e n) h i st = unfrozen z r r' s choice l _ l' h i st next l' (look_freezes z _ next n)
-gathers_own z r r' s choice l a l' (list_ends next e n) h i st = unfrozen z r r' s choice l _ l' h i st next.activity l' (rest_freezes _ next n)
-gathers_own z r r' s choice l a l' (key_above next e n) h i st = unfrozen z r r' s choice l _ l' h i st next.activity l' (rest_freezes _ next n)
-gathers_own z r r' s choice l a l' (rest_passed next e n) h i st = unfrozen z r r' s choice l _ l' h i st next.activity l' (rest_freezes _ next n)
-gathers_own z r r' s choice l a l' (gathers_rest next n) h i st = unfrozen z r r' s choice l _ l' h i st next.activity l' (rest_freezes _ next n)
+gathers_own z r r' s choice l a l' (list_ends next e n) h i st = unfrozen z r r' s choice l _ l' h i st next.activity l' (left_over_freezes _ next n)
+gathers_own z r r' s choice l a l' (key_above next e n) h i st = unfrozen z r r' s choice l _ l' h i st next.activity l' (left_over_freezes _ next n)
+gathers_own z r r' s choice l a l' (left_over_gone_by next e n) h i st = unfrozen z r r' s choice l _ l' h i st next.activity l' (left_over_freezes _ next n)
+gathers_own z r r' s choice l a l' (gathers_left_over next n) h i st = unfrozen z r r' s choice l _ l' h i st next.activity l' (left_over_freezes _ next n)
 gathers_own z r r' s choice l a l' _ h i st = record { gathering = λ x. absurd x; gathered = λ x. absurd x; collected = λ x. absurd x; kept = λ x. absurd x; holds = λ x. absurd x }
 
 -- For every seat, after every event.

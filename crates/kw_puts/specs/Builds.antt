@@ -4,7 +4,7 @@ use Rattle.std.specs.Prelude.{ℕ, ◌≡◌, ◌⊎◌, ◌<◌, ◌≤◌, ◌
 use Rattle.kw_cells.specs.declared.cell.Cell.{Cell}
 use Rattle.kw_lists.specs.Counts.{count_below}
 use Rattle.kw_lists.specs.Rows.{Row, Stands, IsOn, IsBehind}
-use Rattle.kw_lists.specs.Walks.{IsPassed}
+use Rattle.kw_lists.specs.Walks.{IsGoneBy}
 use Rattle.kw_world.specs.declared.activity.Activity.{Activity}
 use Rattle.kw_world.specs.declared.activity.rebalance.gather.Gather.TheVariants as Gather
 use Rattle.kw_world.specs.declared.activity.rebalance.Rebalance.TheVariants as Rebalance
@@ -59,7 +59,7 @@ abbrev pub HasTaken : Activity → Type 0
 HasTaken (Activity.Rebalance (Rebalance.Gather Gather.Link)) = ⊥
 HasTaken a = IsGathering a
 
--- one that it met in the list
+-- one that it reached in the list
 abbrev pub HasTakenListed : Activity → Type 0
 HasTakenListed (Activity.Rebalance (Rebalance.Gather Gather.Key)) = Unit {0}
 HasTakenListed (Activity.Rebalance (Rebalance.Gather Gather.Version)) = Unit {0}
@@ -79,7 +79,7 @@ HasTakenKey (Activity.Rebalance (Rebalance.Gather Gather.Value)) = Unit {0}
 HasTakenKey (Activity.Rebalance (Rebalance.Gather Gather.LeftOverValue)) = Unit {0}
 HasTakenKey _ = ⊥
 
--- the walk will meet the cell, or it is in hand
+-- the walk will reach the cell, or it is in hand
 abbrev pub IsToTake : Row → Activity → Local → ℕ → Type 0
 IsToTake r (Activity.Rebalance (Rebalance.Gather Gather.Link)) l c = (r.listed c ≡ true) × IsBehind r l.link c
 IsToTake r (Activity.Rebalance (Rebalance.Gather Gather.LeftOverKey)) l c = c ≡ l.place
@@ -106,7 +106,7 @@ pub record Gathering (n : ℕ) (r : Row) (h : History) (o : Origins) (a : Activi
   pub few : length l.rebalance.gathered ≤ count_below n (λ c. has_place c l.rebalance.gathered)
   pub below : (c : ℕ) → has_place c l.rebalance.gathered ≡ true → c < n
   pub unmarked : (c : ℕ) → is_marked c l.rebalance.marks ≡ true → has_place c l.rebalance.gathered ≡ false
-  pub passed : IsTakeListing a → (c : ℕ) → has_place c l.rebalance.gathered ≡ true → (r.listed c ≡ true) × IsPassed r l.link c
+  pub gone_by : IsTakeListing a → (c : ℕ) → has_place c l.rebalance.gathered ≡ true → (r.listed c ≡ true) × IsGoneBy r l.link c
   pub fresh : HasTaken a → (IsTakeListing a → ⊥) → has_place l.place l.rebalance.gathered ≡ false
   pub held : HasTaken a → is_marked l.place l.rebalance.marks ≡ false
 

@@ -1,5 +1,6 @@
 -- What holds of the rows that seats freeze: a count that is frozen gives no cell any more, an entry
--- that was passed is never pending again, and the stamped cells that are not listed are remembered.
+-- that was gone by is never pending again, and the stamped cells that are not listed are
+-- remembered.
 use Rattle.std.specs.Prelude.{ℕ, ◌≡◌, ◌⊎◌, ◌<◌, true, Option, Some, All, length}
 use Rattle.kw_words.specs.declared.layout.Name.TheVariants as name
 use Rattle.kw_words.specs.declared.pend.Pend.{Pend}
@@ -31,7 +32,7 @@ IsFrozen v r = has_frozen (count_of (v (name.Count r))) ≡ true
 
 -- The entry that a seat is to freeze.
 
--- such an entry is idle or pending: a stamped one is remembered, and a frozen one is passed over
+-- such an entry is idle or pending: a stamped one is remembered, and a frozen one is gone by
 abbrev pub IsUnsettled : Pend → Type 0
 IsUnsettled Idle = Unit {0}
 IsUnsettled (Pending cell) = Unit {0}
@@ -52,7 +53,7 @@ pub data IsSettled (v : Words) (locals : ℕ → Option Local) (q j : ℕ) : Typ
   settled_stamped : (cell version : ℕ) → v (name.Pend q j) ≡ pend_word (Stamped cell version) → IsSettled v locals q j
   settled_idle : v (name.Pend q j) ≡ pend_word Idle → ((k : Local) → locals j ≡ Some k → IsFresh k.activity → k.row ≡ q → ⊥) → IsSettled v locals q j
 
--- the count of the row is frozen, and each entry that the seat has passed is settled
+-- the count of the row is frozen, and each entry that the seat has gone by is settled
 pub record Freezes (z : Sizes) (v : Words) (locals : ℕ → Option Local) (a : Activity) (l : Local) : Type 0 where
   pub count : HasFrozen a → IsFrozen v l.row
   pub settled : HasFrozen a → (j : ℕ) → j < z.seats → j < frozen_by z a → IsSettled v locals l.row j
@@ -66,7 +67,7 @@ pub record IsMarkOf (h : History) (o : Origins) (row : ℕ) (m : Mark) : Type 0 
   pub stamped : (attempt h put).is_stamped ≡ true
   pub version : (attempt h put).version ≡ m.version
 
--- the seat passes the entries of its row, or looks at the scans, and has gathered no cell
+-- the seat goes by the entries of its row, or looks at the scans, and has gathered no cell
 abbrev pub IsBeforeTaking : Activity → Type 0
 IsBeforeTaking (Activity.Rebalance (Rebalance.Freeze (Freeze.Look i))) = Unit {0}
 IsBeforeTaking (Activity.Rebalance (Rebalance.Freeze (Freeze.Entry i))) = Unit {0}
@@ -76,8 +77,8 @@ IsBeforeTaking (Activity.Rebalance (Rebalance.Freeze (Freeze.Settle i))) = Unit 
 IsBeforeTaking _ = ⊥
 
 -- what is remembered is the cells of stamped attempts. Each stamped attempt that was made in the
--- row since it was linked, and whose seat's entry was passed, is remembered, or its cell is listed,
--- until the seat walks along the list
+-- row since it was linked, and whose seat's entry was gone by, is remembered, or its cell is
+-- listed, until the seat walks along the list
 pub record Remembers (z : Sizes) (g : Ledger) (h : History) (o : Origins) (f : Listed) (a : Activity) (l : Local) : Type 0 where
   pub marks : HasFrozen a → All (IsMarkOf h o l.row) l.rebalance.marks
   pub noted : IsBeforeTaking a → (p : ℕ) → p < length h.attempts → IsMadeIn g h l.row p → (attempt h p).is_stamped ≡ true → (attempt h p).seat < frozen_by z a →

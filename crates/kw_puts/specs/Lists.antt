@@ -3,7 +3,7 @@
 --
 -- A cell is listed by the exchange that inserts it, after its version was stored and before its
 -- entry is cleared. So an attempt that no seat is at work on any more is listed, and a walk along
--- the list of its row meets it, unless it never gets a version, or its row was used again.
+-- the list of its row reaches it, unless it never gets a version, or its row was used again.
 use Rattle.std.specs.Prelude.{ℕ, ◌≡◌, ◌⊎◌, ◌<◌, true, false, Some, length, slice_get}
 use Rattle.kw_words.specs.declared.layout.Name.TheVariants as name
 use Rattle.kw_lists.specs.Rows.{Row, IsBehind, IsSound}
@@ -58,9 +58,9 @@ Inserts n r (Activity.Insert Insert.Set) l = IsAt n r l.cell l.lost l.link l.hel
 Inserts n r (Activity.Insert Insert.Exchange) l = IsSet n r l.cell l.lost l.link l.held
 Inserts n r _ l = Unit {0}
 
--- where a put's walk is: at its link, or at the cell that it has met, which is listed and stands
--- behind the link. It has counted no more cells than there are listed ones up to there, for it
--- meets none twice
+-- where a put's walk is: at its link, or at the cell that it has reached, which is listed and
+-- stands behind the link. It has counted no more cells than there are listed ones up to there, for
+-- it reaches none twice
 abbrev pub WalksList : ℕ → Row → Activity → Local → Type 0
 WalksList n r (Activity.Insert Insert.Link) l = IsWalking n r l.link l.walked
 WalksList n r (Activity.Insert Insert.Key) l = IsBehind r l.link l.place × IsWalking n r (Some l.place) l.walked

@@ -7,8 +7,8 @@
 --
 -- A row may be used again once no seat can name it. Of an attempt that was made in an earlier use
 -- of its row nothing is said here but what it is of: its cell may be another attempt's now, or a
--- copy, even one of its own. A seat that is at work on an attempt is in its pass, so its row is not
--- used again before it has done.
+-- copy, even one of its own. A seat that is at work on an attempt is in its visit, so its row is
+-- not used again before it has done.
 use Rattle.std.specs.Prelude.{ℕ, ◌≡◌, ◌≢◌, ◌⊎◌, ◌<◌, ◌≤◌, true, false, if◌then◌else◌, Option, Some, None, length, slice_get}
 use Rattle.kw_words.specs.declared.layout.Name.TheVariants as name
 use Rattle.kw_words.specs.declared.pend.Pend.TheVariants.{Idle, Pending, Stamped, Frozen}
@@ -32,7 +32,7 @@ use Rattle.kw_puts.specs.Freezes.{IsFrozen, IsToFreeze, IsSettled, Freezes, Reme
 use Rattle.kw_puts.specs.Builds.{Builds}
 -- an attempt whose row was not used again, and one that was made in this row since it was linked
 pub use Rattle.kw_puts.specs.Here.{IsHere, IsMadeIn}
-use Rattle.kw_core.specs.Stages.{IsPutting, IsFresh, HasKey, IsAnnounce, IsPublished, IsStamp, IsStamped, IsStored, HasMet, IsToHelp, IsHelp}
+use Rattle.kw_core.specs.Stages.{IsPutting, IsFresh, HasKey, IsAnnounce, IsPublished, IsStamp, IsStamped, IsStored, HasSeenPending, IsToHelp, IsHelp}
 
 -- The cells of attempts.
 
@@ -146,7 +146,7 @@ pub record IsOld (v : Words) (g : Ledger) (h : History) (p : ℕ) : Type 0 where
   pub stamped : (attempt h p).is_stamped ≡ true
   pub version : IsHere g h p → v (name.Version (attempt h p).row (attempt h p).cell) ≡ (attempt h p).version
 
--- the attempt never gets a version: it is lost, or its seat met a frozen entry before it was
+-- the attempt never gets a version: it is lost, or its seat saw a frozen entry before it was
 -- announced
 pub record IsOver (h : History) (p : ℕ) : Type 0 where
   pub unstamped : (attempt h p).is_stamped ≡ false
@@ -161,12 +161,12 @@ pub record IsPublishedAt (locals : ℕ → Option Local) (r i : ℕ) : Type 0 wh
 
 -- The attempt that a reader helps.
 
--- the entry that the reader met is that of an announced attempt of the seat looked at; once the
+-- the entry that the reader saw is that of an announced attempt of the seat looked at; once the
 -- reader is to help it, its key is one that the reader reads, and the reader has loaded the clock
 -- after the announcement
 pub record Helps (h : History) (o : Origins) (a : Activity) (l : Local) (g : SeatLog) : Type 0 where
   pub put : ℕ
-  pub origin : o l.row l.met ≡ Some put
+  pub origin : o l.row l.saw ≡ Some put
   pub seat : (attempt h put).seat ≡ l.looked
   pub announced : (attempt h put).is_announced ≡ true
   pub key : IsToHelp a → is_in_range l.call (attempt h put).key ≡ true
@@ -190,7 +190,7 @@ pub record Puts (z : Sizes) (r : Run) : Type 0 where
   pub tries : (t : ℕ) (l : Local) → slice_get r.world.locals t ≡ Some l → IsToFreeze l.activity l
   pub freezes : (t : ℕ) (l : Local) → slice_get r.world.locals t ≡ Some l → Freezes z (word z r.world) (slice_get r.world.locals) l.activity l
   pub remembers : (t : ℕ) (l : Local) → slice_get r.world.locals t ≡ Some l → Remembers z r.ledger.rows r.history r.origin r.listed l.activity l
-  pub helps : (t : ℕ) (l : Local) → slice_get r.world.locals t ≡ Some l → HasMet l.activity → Helps r.history r.origin l.activity l (r.seats t)
+  pub helps : (t : ℕ) (l : Local) → slice_get r.world.locals t ≡ Some l → HasSeenPending l.activity → Helps r.history r.origin l.activity l (r.seats t)
   pub born : (q : ℕ) → WasLinked r.ledger.rows q → (r.ledger.rows.fates q).born ≤ length r.history.log
   pub dead : (q j : ℕ) → IsDead r.ledger.rows q → j < z.seats → IsSettled (word z r.world) (slice_get r.world.locals) q j
   pub gone : (p : ℕ) → p < length r.history.attempts → IsHere r.ledger.rows r.history p → IsDead r.ledger.rows (attempt r.history p).row → (attempt r.history p).is_stamped ≡ true → (attempt r.history p).at < (r.ledger.rows.fates (attempt r.history p).row).gone

@@ -63,20 +63,20 @@ module _ (z : Sizes) (r : Run) (i : Below z r) (row : ℕ) (call : Option Call) 
   id_beside (d ∷ cells) [] x n c w e = absurd x
   id_beside (d ∷ cells) (q ∷ ids) x zero c w e =
       let y : IsCopyOf r.history r.origin row call c q = subst (λ (u : kw_cell.Cell). IsCopyOf r.history r.origin row call u q) e x.0 in
-      (q, met (d.place == c.place) refl, y)
+      (q, saw (d.place == c.place) refl, y)
     where
-      met : (b : Bool) → (d.place == c.place) ≡ b → (if b then Some q else id_at c.place cells ids) ≡ Some q
-      met true f = refl
-      met false f = absurd (eq_not d.place c.place f (ap (λ (u : kw_cell.Cell). u.place) e))
+      saw : (b : Bool) → (d.place == c.place) ≡ b → (if b then Some q else id_at c.place cells ids) ≡ Some q
+      saw true f = refl
+      saw false f = absurd (eq_not d.place c.place f (ap (λ (u : kw_cell.Cell). u.place) e))
   id_beside (d ∷ cells) (q ∷ ids) x (suc n) c w e =
       let t = id_beside cells ids x.1 n c (omega arith) e in
-      (t.0, met t.0 t.2 t.1 (d.place == c.place) refl, t.2)
+      (t.0, saw t.0 t.2 t.1 (d.place == c.place) refl, t.2)
     where
-      met : (p : ℕ) → IsCopyOf r.history r.origin row call c p → id_at c.place cells ids ≡ Some p → (b : Bool) → (d.place == c.place) ≡ b → (if b then Some q else id_at c.place cells ids) ≡ Some p
-      met p y f true g =
+      saw : (p : ℕ) → IsCopyOf r.history r.origin row call c p → id_at c.place cells ids ≡ Some p → (b : Bool) → (d.place == c.place) ≡ b → (if b then Some q else id_at c.place cells ids) ≡ Some p
+      saw p y f true g =
           let same : q ≡ p = same_Some q p (sym x.0.origin ∙ ap (r.origin row) (eq_from d.place c.place g) ∙ y.origin) in
           ap Some same
-      met p y f false g = f
+      saw p y f false g = f
 
   -- of one key and one version, the attempt of the cell further on is the later one
   later_one : WasLinked r.ledger.rows row → (b c p q : ℕ) → b < z.cells → r.origin row b ≡ Some p → r.origin row c ≡ Some q → (attempt r.history q).key ≡ (attempt r.history p).key → (attempt r.history q).version ≡ (attempt r.history p).version → c ≤ b → StandsUpTo r.history (Some p) q

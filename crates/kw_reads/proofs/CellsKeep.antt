@@ -1,5 +1,5 @@
 -- A reader reads the cells of its row: each attempt that is due to it is gathered when its cell is
--- met, or else as one of the cells that are remembered.
+-- reached, or else as one of the cells that are remembered.
 --
 -- `ReadLeft` says it where the walk along the list is over, without an activity: so it holds where
 -- the reader goes on to a remembered cell, and where the row is read.
@@ -37,7 +37,7 @@ use Rattle.kw_reads.specs.Inv.{Inv}
 use Rattle.kw_core.proofs.Steps.{announced_within}
 use Rattle.kw_puts.proofs.Owners.{true_false}
 use Rattle.kw_core.proofs.BuiltNext.{built_next}
-use Rattle.kw_core.proofs.Arrows.{builds, NextLook, looks, lists, meets_stamped, meets_neither, is_passed, helps, finds_stamped, finds_other, NextRest, rests, answers, ends_scan, scans_on, Arrow, list_leads, list_ends, key_below, key_within, key_above, loads_version, gathers_listed, rest_wanted, rest_passed, gathers_rest}
+use Rattle.kw_core.proofs.Arrows.{builds, NextLook, looks, lists, sees_stamped, sees_neither, is_gone_by, helps, finds_stamped, finds_other, NextLeftOver, goes_to_left_over, answers, ends_scan, scans_on, Arrow, list_leads, list_ends, key_below, key_within, key_above, loads_version, gathers_listed, left_over_wanted, left_over_gone_by, gathers_left_over}
 use Rattle.kw_core.proofs.Happens.{Happens}
 use Rattle.kw_core.proofs.InRange.{least_holds}
 use Rattle.kw_core.proofs.Marks.{marked_other, least_none, contains_new, contains_old}
@@ -84,8 +84,8 @@ seen_end h o l a next g e n f d = record {
     which c p (inr x) = true_false x (least_none c l.remembered e)
 
 -- a seat that goes on to a remembered cell reads it
-reads_next : (row : Row) (h : History) (o : Origins) (l next : Local) (g : SeatLog) → NextRest l next → ReadLeft h o l g.looked g.ids → All (IsMarkOf h o l.row) l.remembered → IsTaking next.activity → Reads row h o next.activity next (log_read next.activity l.row g)
-reads_next row h o l _ g (rests m e) n k x = record {
+reads_next : (row : Row) (h : History) (o : Origins) (l next : Local) (g : SeatLog) → NextLeftOver l next → ReadLeft h o l g.looked g.ids → All (IsMarkOf h o l.row) l.remembered → IsTaking next.activity → Reads row h o next.activity next (log_read next.activity l.row g)
+reads_next row h o l _ g (goes_to_left_over m e) n k x = record {
   stamped = n.stamped;
   found = λ c p d. which c p (n.found c p d) (cases_eq c m.cell);
   hand = λ y. let q = least_holds (IsMarkOf h o l.row) l.remembered m e k in record { put = q.put; origin = q.origin; stamped = q.stamped; version = λ u. q.version; key = λ u. absurd u; in_range = λ u. absurd u };
@@ -100,15 +100,15 @@ reads_next row h o l _ g (ends_scan c e f) n k x = absurd x
 reads_next row h o l _ g (scans_on q c e f u) n k x = absurd x
 
 -- where the row is read, each attempt that is due is stamped and gathered
-pub seen_next : (h : History) (o : Origins) (l next : Local) (g : SeatLog) → NextRest l next → ReadLeft h o l g.looked g.ids → g.read ≡ None → HasSeen h o next.activity next (log_read next.activity l.row g)
-seen_next h o l _ g (rests m e) n f = record { unread = λ x. f; stamped = λ x q e. let y : None ≡ Some q = sym f ∙ e in absurd (cc); taken = λ x q e. let y : None ≡ Some q = sym f ∙ e in absurd (cc) }
+pub seen_next : (h : History) (o : Origins) (l next : Local) (g : SeatLog) → NextLeftOver l next → ReadLeft h o l g.looked g.ids → g.read ≡ None → HasSeen h o next.activity next (log_read next.activity l.row g)
+seen_next h o l _ g (goes_to_left_over m e) n f = record { unread = λ x. f; stamped = λ x q e. let y : None ≡ Some q = sym f ∙ e in absurd (cc); taken = λ x q e. let y : None ≡ Some q = sym f ∙ e in absurd (cc) }
 seen_next h o l _ g (answers c e) n f = seen_end h o l _ _ g c n refl (λ x. x)
 seen_next h o l _ g (ends_scan c e u) n f = seen_end h o l _ _ g c n refl (λ x. x)
 seen_next h o l _ g (scans_on q c e u w) n f = seen_end h o l _ _ g c n refl (λ x. x)
 
 -- what was gathered is still there
-pub copies_next : (h : History) (o : Origins) (l next : Local) (g : SeatLog) → NextRest l next → AreCopies h o l.row l.call l.gathered g.ids → g.read ≡ None → Gathers h o next.activity next (log_read next.activity l.row g)
-copies_next h o l _ g (rests m e) k f = record { empty = λ x. absurd x; no_ids = λ x. absurd x; taking = λ x. k; kept = λ x q e. let y : None ≡ Some q = sym f ∙ e in absurd (cc) }
+pub copies_next : (h : History) (o : Origins) (l next : Local) (g : SeatLog) → NextLeftOver l next → AreCopies h o l.row l.call l.gathered g.ids → g.read ≡ None → Gathers h o next.activity next (log_read next.activity l.row g)
+copies_next h o l _ g (goes_to_left_over m e) k f = record { empty = λ x. absurd x; no_ids = λ x. absurd x; taking = λ x. k; kept = λ x q e. let y : None ≡ Some q = sym f ∙ e in absurd (cc) }
 copies_next h o l _ g (answers c e) k f = record { empty = λ x. absurd x; no_ids = λ x. absurd x; taking = λ x. absurd x; kept = λ x q e. subst (λ q. AreCopies h o q l.call l.gathered g.ids) (same_Some l.row q e) k }
 copies_next h o l _ g (ends_scan c e u) k f = record { empty = λ x. absurd x; no_ids = λ x. absurd x; taking = λ x. absurd x; kept = λ x q e. subst (λ q. AreCopies h o q l.call l.gathered g.ids) (same_Some l.row q e) k }
 copies_next h o l _ g (scans_on q' c e u w) k f = record { empty = λ x. absurd x; no_ids = λ x. absurd x; taking = λ x. absurd x; kept = λ x q e. subst (λ q. AreCopies h o q l.call l.gathered g.ids) (same_Some l.row q e) k }
@@ -179,9 +179,9 @@ module _ {z : Sizes} {r r' : Run} {s : ℕ} {choice : Choice} {l l' : Local} (h 
   before_link : Reads (list_in (word z r'.world) r'.listed l.row) r'.history r'.origin (Activity.Read Read.Link) l (r.seats s)
   before_link = cells_after h i tt tt
 
-  -- it leads to a cell, which is met
-  reads_met : (n : ℕ) → cell_of_link_word (word z r.world (link_name l.row l.link)) ≡ Some n → (m : Local) → m.row ≡ l.row → m.call ≡ l.call → m.place ≡ n → m.remembered ≡ unmarked n l.remembered → Reads (list_in (word z r'.world) r'.listed l.row) r'.history r'.origin (Activity.Read Read.Key) m (r.seats s)
-  reads_met n e m row call place marks = record {
+  -- it leads to a cell, which is reached
+  reads_reached : (n : ℕ) → cell_of_link_word (word z r.world (link_name l.row l.link)) ≡ Some n → (m : Local) → m.row ≡ l.row → m.call ≡ l.call → m.place ≡ n → m.remembered ≡ unmarked n l.remembered → Reads (list_in (word z r'.world) r'.listed l.row) r'.history r'.origin (Activity.Read Read.Key) m (r.seats s)
+  reads_reached n e m row call place marks = record {
     stamped = λ c p d. before_link.stamped c p (due c p d);
     found = λ c p d. rw (place, marks) (which c p (before_link.found c p (due c p d)) (cases_eq c n));
     hand = λ y. listed_in_hand k (Activity.Read Read.Key) m _ (rw row (row_linked_on h i tt)) (rw (row, place) (cell_next h i n e).listed) refl (λ u. absurd u) (λ u. absurd u) (λ u. absurd u);
@@ -212,7 +212,7 @@ module _ {z : Sizes} {r r' : Run} {s : ℕ} {choice : Choice} {l l' : Local} (h 
       which c p (inr (inl x)) = inr x
       which c p (inr (inr x)) = absurd (reading.list_ends (list_in (word z r'.world) r'.listed l.row) l.link _ c ((row_sound h i tt).list l.link (walks_after h i tt).on) (link_loaded h i None e) x.0 x.1)
 
--- the reader loads the key of a cell that it has met
+-- the reader loads the key of a cell that it has reached
 module _ {z : Sizes} {r r' : Run} {s : ℕ} {choice : Choice} {l l' : Local} (h : Happens z r r' s choice l l' (Activity.Read Read.Key)) (i : Inv z r) (k : Below z r') where
   -- what it knew of the cells
   before_key : Reads (list_in (word z r'.world) r'.listed l.row) r'.history r'.origin (Activity.Read Read.Key) l (r.seats s)
@@ -226,7 +226,7 @@ module _ {z : Sizes} {r r' : Run} {s : ℕ} {choice : Choice} {l l' : Local} (h 
   due_between : (c p : ℕ) → IsDue r'.history r'.origin l.row l.call (r.seats s).looked c p → (first_key l.call ≤ (list_in (word z r'.world) r'.listed l.row).key c) × ((list_in (word z r'.world) r'.listed l.row).key c ≤ last_key l.call)
   due_between c p d = rw (due_key_stands k l.call l.row (r.seats s).looked c p (row_linked_on h i tt) (within h i l.row c p d.origin) d) (in_range_between l.call (attempt r'.history p).key d.key)
 
-  -- it is below the range: the cell is passed
+  -- it is below the range: the cell is gone by
   reads_below : key_of_word (word z r.world (name.Key l.row l.place)) < first_key l.call → (m : Local) → m.row ≡ l.row → m.call ≡ l.call → m.link ≡ Some l.place → m.remembered ≡ l.remembered → Reads (list_in (word z r'.world) r'.listed l.row) r'.history r'.origin (Activity.Read Read.Link) m (r.seats s)
   reads_below e m row call link marks = record {
     stamped = λ c p d. before_key.stamped c p (due c p d);
@@ -272,8 +272,8 @@ module _ {z : Sizes} {r r' : Run} {s : ℕ} {choice : Choice} {l l' : Local} {a 
   hand_taken n c p d f = rw (hand_put.origin, is_hand c p d f) (contains_new (r.seats s).ids n hand_put.put)
 
 -- the key of a remembered cell is not one of the range: no attempt that is due has it
-pub left_passed : {z : Sizes} {r r' : Run} {s : ℕ} {choice : Choice} {l l' : Local} (h : Happens z r r' s choice l l' (Activity.Read Read.LeftOverKey)) (i : Inv z r) (k : Below z r') → is_in_range l.call (key_of_word (word z r.world (name.Key l.row l.place))) ≡ false → ReadLeft r'.history r'.origin l (r.seats s).looked (r.seats s).ids
-left_passed {z} {r} {r'} {s} {choice} {l} {l'} h i k e = record { stamped = n.stamped; found = λ c p d. which c p d (n.found c p d) }
+pub left_gone_by : {z : Sizes} {r r' : Run} {s : ℕ} {choice : Choice} {l l' : Local} (h : Happens z r r' s choice l l' (Activity.Read Read.LeftOverKey)) (i : Inv z r) (k : Below z r') → is_in_range l.call (key_of_word (word z r.world (name.Key l.row l.place))) ≡ false → ReadLeft r'.history r'.origin l (r.seats s).looked (r.seats s).ids
+left_gone_by {z} {r} {r'} {s} {choice} {l} {l'} h i k e = record { stamped = n.stamped; found = λ c p d. which c p d (n.found c p d) }
   where
     n : Reads (list_in (word z r'.world) r'.listed l.row) r'.history r'.origin (Activity.Read Read.LeftOverKey) l (r.seats s)
     n = cells_after h i tt tt
@@ -298,7 +298,7 @@ left_gathered {z} {r} {r'} {s} {choice} {l} {l'} h i k value at = record { stamp
     which c p d (inr (inl x)) = inr x
     which c p d (inr (inr x)) = inl (hand_taken h i k tt tt at c p d x)
 
--- a listed cell is gathered, and passed
+-- a listed cell is gathered, and gone by
 reads_gathered : {z : Sizes} {r r' : Run} {s : ℕ} {choice : Choice} {l l' : Local} (h : Happens z r r' s choice l l' (Activity.Read Read.Value)) (i : Inv z r) (k : Below z r') (m : Local) (at : ℕ) → m.row ≡ l.row → m.call ≡ l.call → m.link ≡ Some l.place → m.remembered ≡ l.remembered → Reads (list_in (word z r'.world) r'.listed l.row) r'.history r'.origin (Activity.Read Read.Link) m (log_gathered (r.origin l.row l.place) at (r.seats s))
 reads_gathered {z} {r} {r'} {s} {choice} {l} {l'} h i k m at row call link marks = record {
   stamped = λ c p d. n.stamped c p (due c p d);
@@ -322,7 +322,7 @@ reads_gathered {z} {r} {r'} {s} {choice} {l} {l'} h i k m at row call link marks
 -- the cells that the acting reader reads
 pub reads_by : (z : Sizes) (r r' : Run) (s : ℕ) (choice : Choice) (l : Local) (a : Activity) (l' : Local) → Arrow z (word z r.world) s choice l a l' → Happens z r r' s choice l l' a → Inv z r → Below z r' → IsTaking l'.activity → Reads (list_in (word z r'.world) r'.listed l'.row) r'.history r'.origin l'.activity l' (r'.seats s)
 reads_by z r r' s choice l a l' (builds b next y t) h i k p = after_rests l'.activity (built_next z (word z r.world) choice l b l' t) (inr p)
-reads_by z r r' s choice l _ _ (list_leads c e) h i k p = subst (Reads (list_in (word z r'.world) r'.listed l.row) r'.history r'.origin (Activity.Read Read.Key) _) (sym h.log) (reads_met h i k c e _ refl refl refl refl)
+reads_by z r r' s choice l _ _ (list_leads c e) h i k p = subst (Reads (list_in (word z r'.world) r'.listed l.row) r'.history r'.origin (Activity.Read Read.Key) _) (sym h.log) (reads_reached h i k c e _ refl refl refl refl)
 reads_by z r r' s choice l _ _ (list_ends next e n) h i k p = subst (Reads _ r'.history r'.origin next.activity next) (sym h.log) (reads_next _ r'.history r'.origin l next (r.seats s) n (left_at_end h i k e) (marks_after h i (inr tt)) p)
 reads_by z r r' s choice l _ _ (key_below e) h i k p = subst (Reads (list_in (word z r'.world) r'.listed l.row) r'.history r'.origin (Activity.Read Read.Link) _) (sym h.log) (reads_below h i k e _ refl refl refl refl)
 reads_by z r r' s choice l _ _ (key_within e w) h i k p = subst (Reads (list_in (word z r'.world) r'.listed l.row) r'.history r'.origin (Activity.Read Read.Version) _) (sym h.log)
@@ -333,16 +333,16 @@ reads_by z r r' s choice l _ _ loads_version h i k p = subst (Reads (list_in (wo
     (let n = cells_after h i tt tt in
     record { stamped = n.stamped; found = n.found; hand = λ x. listed_in_hand k (Activity.Read Read.Value) _ _ (row_linked_on h i tt) (walks_after h i tt).walks.on (h.changed.loaded refl (name.Version l.row l.place)) (λ y. refl) (λ y. hand_key h i k n) (λ y. (n.hand tt).in_range tt) })
 reads_by z r r' s choice l _ _ gathers_listed h i k p = subst (Reads (list_in (word z r'.world) r'.listed l.row) r'.history r'.origin (Activity.Read Read.Link) _) (sym h.log) (reads_gathered h i k _ _ refl refl refl refl)
-reads_by z r r' s choice l _ _ (rest_wanted e) h i k p = subst (Reads (list_in (word z r'.world) r'.listed l.row) r'.history r'.origin (Activity.Read Read.LeftOverValue) _) (sym h.log)
+reads_by z r r' s choice l _ _ (left_over_wanted e) h i k p = subst (Reads (list_in (word z r'.world) r'.listed l.row) r'.history r'.origin (Activity.Read Read.LeftOverValue) _) (sym h.log)
     (let n = cells_after h i tt tt in
     let m = n.hand tt in
     record { stamped = n.stamped; found = n.found; hand = λ x. record { put = m.put; origin = m.origin; stamped = m.stamped; version = λ y. m.version tt; key = λ y. sym (key_stands k l.row l.place m.put (row_linked_on h i tt) (within h i l.row l.place m.put m.origin) m.origin m.stamped) ∙ ap key_of_word (h.changed.loaded refl (name.Key l.row l.place)); in_range = λ y. e } })
-reads_by z r r' s choice l _ _ (rest_passed next e n) h i k p = subst (Reads _ r'.history r'.origin next.activity next) (sym h.log) (reads_next _ r'.history r'.origin l next (r.seats s) n (left_passed h i k e) (marks_after h i (inr tt)) p)
-reads_by z r r' s choice l _ _ (gathers_rest next n) h i k p = subst (Reads _ r'.history r'.origin next.activity next) (sym h.log) (reads_next _ r'.history r'.origin _ next _ n (left_gathered h i k _ _) (marks_after h i (inr tt)) p)
-reads_by z r r' s choice l _ _ (meets_stamped j c version next e n) h i k p = reads_begin k (j + 1) next (remembering c version l) (r'.seats s) n p (looks_by z r r' s choice l _ _ (meets_stamped j c version next e n) h i k (inr tt)) (walks_after h i tt).0
-reads_by z r r' s choice l _ _ (meets_neither j next e n) h i k p = reads_begin k (j + 1) next l (r'.seats s) n p (looks_by z r r' s choice l _ _ (meets_neither j next e n) h i k (inr tt)) (walks_after h i tt).0
-reads_by z r r' s choice l _ _ (is_passed next e n) h i k p = reads_begin k (l.looked + 1) next l (r'.seats s) n p (looks_by z r r' s choice l _ _ (is_passed next e n) h i k (inr tt)) (walks_after h i tt).0
-reads_by z r r' s choice l _ _ (helps next e n) h i k p = reads_begin k (l.looked + 1) next (remembering l.met l.helping l) (r'.seats s) n p (looks_by z r r' s choice l _ _ (helps next e n) h i k (inr tt)) (walks_after h i tt).0
+reads_by z r r' s choice l _ _ (left_over_gone_by next e n) h i k p = subst (Reads _ r'.history r'.origin next.activity next) (sym h.log) (reads_next _ r'.history r'.origin l next (r.seats s) n (left_gone_by h i k e) (marks_after h i (inr tt)) p)
+reads_by z r r' s choice l _ _ (gathers_left_over next n) h i k p = subst (Reads _ r'.history r'.origin next.activity next) (sym h.log) (reads_next _ r'.history r'.origin _ next _ n (left_gathered h i k _ _) (marks_after h i (inr tt)) p)
+reads_by z r r' s choice l _ _ (sees_stamped j c version next e n) h i k p = reads_begin k (j + 1) next (remembering c version l) (r'.seats s) n p (looks_by z r r' s choice l _ _ (sees_stamped j c version next e n) h i k (inr tt)) (walks_after h i tt).0
+reads_by z r r' s choice l _ _ (sees_neither j next e n) h i k p = reads_begin k (j + 1) next l (r'.seats s) n p (looks_by z r r' s choice l _ _ (sees_neither j next e n) h i k (inr tt)) (walks_after h i tt).0
+reads_by z r r' s choice l _ _ (is_gone_by next e n) h i k p = reads_begin k (l.looked + 1) next l (r'.seats s) n p (looks_by z r r' s choice l _ _ (is_gone_by next e n) h i k (inr tt)) (walks_after h i tt).0
+reads_by z r r' s choice l _ _ (helps next e n) h i k p = reads_begin k (l.looked + 1) next (remembering l.saw l.helping l) (r'.seats s) n p (looks_by z r r' s choice l _ _ (helps next e n) h i k (inr tt)) (walks_after h i tt).0
 reads_by z r r' s choice l _ _ (finds_stamped c version next e n) h i k p = reads_begin k (l.looked + 1) next (remembering c version l) (r'.seats s) n p (looks_by z r r' s choice l _ _ (finds_stamped c version next e n) h i k (inr tt)) (walks_after h i tt).0
 reads_by z r r' s choice l _ _ (finds_other next e n) h i k p = reads_begin k (l.looked + 1) next l (r'.seats s) n p (looks_by z r r' s choice l _ _ (finds_other next e n) h i k (inr tt)) (walks_after h i tt).0
 reads_by z r r' s choice l a l' b h i k p = absurd p

@@ -64,16 +64,16 @@ module _ {z : Sizes} {r : Run} (k : Below z r) where
 
   -- an entry that is that of an attempt which is not lost, as it is read
   own_entry : (q j p : ℕ) → p < length r.history.attempts → (attempt r.history p).is_lost ≡ false → word z r.world (name.Pend q j) ≡ entry_of (attempt r.history p) → (pend_of (word z r.world (name.Pend q j)) ≡ Some (pend.Pending (attempt r.history p).cell)) ⊎ IsPut r.history p × (pend_of (word z r.world (name.Pend q j)) ≡ Some (pend.Stamped (attempt r.history p).cell (attempt r.history p).version))
-  own_entry q j p w n e = met (attempt r.history p).is_stamped refl (rw n at e)
+  own_entry q j p w n e = saw (attempt r.history p).is_stamped refl (rw n at e)
     where
       cell : (attempt r.history p).cell < z.cells
       cell = (k.puts.placed p w).cell
 
-      met : (b : Bool) → (attempt r.history p).is_stamped ≡ b → word z r.world (name.Pend q j) ≡ (if b then pend_word (pend.Stamped (attempt r.history p).cell (attempt r.history p).version) else pend_word (pend.Pending (attempt r.history p).cell)) → (pend_of (word z r.world (name.Pend q j)) ≡ Some (pend.Pending (attempt r.history p).cell)) ⊎ IsPut r.history p × (pend_of (word z r.world (name.Pend q j)) ≡ Some (pend.Stamped (attempt r.history p).cell (attempt r.history p).version))
-      met true s x =
+      saw : (b : Bool) → (attempt r.history p).is_stamped ≡ b → word z r.world (name.Pend q j) ≡ (if b then pend_word (pend.Stamped (attempt r.history p).cell (attempt r.history p).version) else pend_word (pend.Pending (attempt r.history p).cell)) → (pend_of (word z r.world (name.Pend q j)) ≡ Some (pend.Pending (attempt r.history p).cell)) ⊎ IsPut r.history p × (pend_of (word z r.world (name.Pend q j)) ≡ Some (pend.Stamped (attempt r.history p).cell (attempt r.history p).version))
+      saw true s x =
           let y = version_ranges p s in
           inr (s, ap pend_of x ∙ pend_of-Stamped (attempt r.history p).cell (attempt r.history p).version (omega (arith, cell, k.shape.sane.sized.few_cells)) y.0 y.1)
-      met false s x = inl (ap pend_of x ∙ pend_of-Pending (attempt r.history p).cell (omega (arith, cell, k.shape.sane.sized.few_cells)))
+      saw false s x = inl (ap pend_of x ∙ pend_of-Pending (attempt r.history p).cell (omega (arith, cell, k.shape.sane.sized.few_cells)))
 
   -- what the entry of its seat says of an announced attempt that is not lost, and whose own cell
   -- this is
@@ -113,11 +113,11 @@ module _ {z : Sizes} {r : Run} (k : Below z r) where
 
   -- an attempt whose entry is stamped is not lost
   stamped_kept : (q j p c version : ℕ) → word z r.world (name.Pend q j) ≡ entry_of (attempt r.history p) → pend_of (word z r.world (name.Pend q j)) ≡ Some (pend.Stamped c version) → (attempt r.history p).is_lost ≡ false
-  stamped_kept q j p c version e f = met (attempt r.history p).is_lost refl
+  stamped_kept q j p c version e f = saw (attempt r.history p).is_lost refl
     where
-      met : (b : Bool) → (attempt r.history p).is_lost ≡ b → (attempt r.history p).is_lost ≡ false
-      met true y = let x : word z r.world (name.Pend q j) ≡ pend_word pend.Frozen = rw y at e in let u : Some pend.Frozen ≡ Some (pend.Stamped c version) = sym pend_of-Frozen ∙ sym (ap pend_of x) ∙ f in absurd (cc)
-      met false y = y
+      saw : (b : Bool) → (attempt r.history p).is_lost ≡ b → (attempt r.history p).is_lost ≡ false
+      saw true y = let x : word z r.world (name.Pend q j) ≡ pend_word pend.Frozen = rw y at e in let u : Some pend.Frozen ≡ Some (pend.Stamped c version) = sym pend_of-Frozen ∙ sym (ap pend_of x) ∙ f in absurd (cc)
+      saw false y = y
 
   -- the cell of a stamped entry is that of an attempt that is stamped with the entry's version
   pub stamped_owner : (q j c version : ℕ) → q < r.world.rows → j < z.seats → pend_of (word z r.world (name.Pend q j)) ≡ Some (pend.Stamped c version) → IsMarkOf r.history r.origin q (mark_of c version)

@@ -73,27 +73,27 @@ module _ (z : Sizes) (r : Run) (i : Inv z r) (t : ℕ) (l : Local) (k : slice_ge
 
   -- the floor lies before now
   pub floor_before : floor_of r t l < length r.history.log
-  floor_before = met (is_scan l.call) refl
+  floor_before = saw (is_scan l.call) refl
     where
-      met : (b : Bool) → is_scan l.call ≡ b → (let f : ℕ = if b then (r.seats t).drawn else (called r.history (r.seats t).call).first in f) < length r.history.log
-      met true e = let d = (i.positions.draws t l k).drawn e (way_draws l.activity l x (i.shape.kinds t l k).kind e) in stands_before r.history (r.seats t).drawn d.kind l.version d.stands
-      met false e = i.history.past.first (r.seats t).call call_within
+      saw : (b : Bool) → is_scan l.call ≡ b → (let f : ℕ = if b then (r.seats t).drawn else (called r.history (r.seats t).call).first in f) < length r.history.log
+      saw true e = let d = (i.positions.draws t l k).drawn e (way_draws l.activity l x (i.shape.kinds t l k).kind e) in stands_before r.history (r.seats t).drawn d.kind l.version d.stands
+      saw false e = i.history.past.first (r.seats t).call call_within
 
   -- it is the same after an event of another seat
   pub floor_other : (r' : Run) → Rely z r r' t l → floor_of r' t l ≡ floor_of r t l
-  floor_other r' y = met (is_scan l.call)
+  floor_other r' y = saw (is_scan l.call)
     where
-      met : (b : Bool) → (let f : ℕ = if b then (r'.seats t).drawn else (called r'.history (r'.seats t).call).first in f) ≡ (let f : ℕ = if b then (r.seats t).drawn else (called r.history (r.seats t).call).first in f)
-      met true = ap (λ (g : SeatLog). g.drawn) y.log
-      met false = ap (λ (g : SeatLog). (called r'.history g.call).first) y.log ∙ (y.goes_on.calls (r.seats t).call call_within).first
+      saw : (b : Bool) → (let f : ℕ = if b then (r'.seats t).drawn else (called r'.history (r'.seats t).call).first in f) ≡ (let f : ℕ = if b then (r.seats t).drawn else (called r.history (r.seats t).call).first in f)
+      saw true = ap (λ (g : SeatLog). g.drawn) y.log
+      saw false = ap (λ (g : SeatLog). (called r'.history g.call).first) y.log ∙ (y.goes_on.calls (r.seats t).call call_within).first
 
 -- and after the seat's own, with a local of the same call
 pub floor_own : (z : Sizes) (r r' : Run) (s : ℕ) (choice : Choice) (l : Local) (a : Activity) (l' : Local) → Happens z r r' s choice l l' a → Inv z r → IsUnderway a → IsNoDraw a → (m : Local) → m.call ≡ l.call → floor_of r' s m ≡ floor_of r s l
-floor_own z r r' s choice l a l' h i u n m c = ap (λ q. (let f : ℕ = if is_scan q then (r'.seats s).drawn else (called r'.history (r'.seats s).call).first in f)) c ∙ met (is_scan l.call)
+floor_own z r r' s choice l a l' h i u n m c = ap (λ q. (let f : ℕ = if is_scan q then (r'.seats s).drawn else (called r'.history (r'.seats s).call).first in f)) c ∙ saw (is_scan l.call)
   where
     st : Step r.history r'.history (log_entry z r a s choice l)
     st = history_step z r r' s choice l a l' h i
 
-    met : (b : Bool) → (let f : ℕ = if b then (r'.seats s).drawn else (called r'.history (r'.seats s).call).first in f) ≡ (let f : ℕ = if b then (r.seats s).drawn else (called r.history (r.seats s).call).first in f)
-    met true = drawn_kept z r r' s choice l a l' h.arrow h (lower i) st n
-    met false = call_first z r r' s choice l a l' h.arrow h (lower i) st u
+    saw : (b : Bool) → (let f : ℕ = if b then (r'.seats s).drawn else (called r'.history (r'.seats s).call).first in f) ≡ (let f : ℕ = if b then (r.seats s).drawn else (called r.history (r.seats s).call).first in f)
+    saw true = drawn_kept z r r' s choice l a l' h.arrow h (lower i) st n
+    saw false = call_first z r r' s choice l a l' h.arrow h (lower i) st u

@@ -94,14 +94,14 @@ module _ {z : Sizes} {r r' : Run} {s : ℕ} {choice : Choice} {l l' : Local} whe
 module _ (z : Sizes) (r : Run) (i : Inv z r) (c : Contents z r) (t : ℕ) (l : Local) (k : slice_get r.world.locals t ≡ Some l) (at : l.activity ≡ Activity.Look (Look.Entry 0)) where
   -- the version at which it reads is needed
   version_needed : Needed z r (version_of l)
-  version_needed = met (is_scan l.call) refl
+  version_needed = saw (is_scan l.call) refl
     where
       seat : t < z.seats
       seat = omega (arith, slice_get_within r.world.locals t l k, i.shape.sane.seats)
 
-      met : (b : Bool) → is_scan l.call ≡ b → Needed z r (if b then l.version else NEWEST)
-      met true e = inr (t, has_drawn seat ((i.positions.draws t l k).settled e (subst IsSettled (sym at) tt)))
-      met false e = inl (omega (arith, (i.shape.sane.each name.Clock tt).1))
+      saw : (b : Bool) → is_scan l.call ≡ b → Needed z r (if b then l.version else NEWEST)
+      saw true e = inr (t, has_drawn seat ((i.positions.draws t l k).settled e (subst IsSettled (sym at) tt)))
+      saw false e = inl (omega (arith, (i.shape.sane.each name.Clock tt).1))
 
   at_row : IsAtItsRow (word z r.world) r.ledger.rows t l
   at_row = (i.shape.walks t l k).at (subst IsAtRow (sym at) tt)
@@ -161,7 +161,7 @@ module _ (z : Sizes) (r : Run) (i : Inv z r) (c : Contents z r) (t : ℕ) (l : L
 
       past : (p : ℕ) → IsPast r p → ((attempt r.history p).is_lost ≡ true) ⊎ IsPut r.history p × ((attempt r.history p).at < (r.ledger.rows.fates l.row).gone)
       past p (inl x) = inl x
-      past p (inr x) = inr (x.0, omega (arith, x.1 t a.since a.passes, a.before))
+      past p (inr x) = inr (x.0, omega (arith, x.1 t a.since a.visits, a.before))
 
       here : (p : ℕ) → (attempt r.history p).is_announced ≡ true → (attempt r.history p).announced < floor_of r t l → IsHere r.ledger.rows r.history p →
           ((r.ledger.rows.fates l.row).gone < (r.ledger.rows.fates (attempt r.history p).row).born) ⊎ IsDead r.ledger.rows (attempt r.history p).row × ((r.ledger.rows.fates (attempt r.history p).row).gone < (r.ledger.rows.fates l.row).born) →

@@ -24,7 +24,7 @@ use Rattle.kw_core.specs.History.{LoadClock}
 use Rattle.kw_core.specs.HistoryLaws.{Makes, Answers, DrawLogged, RisesWithin}
 use Rattle.kw_core.specs.Noted.{MayStamp}
 use Rattle.kw_core.specs.Step.{MayEnd}
-use Rattle.kw_core.specs.Stages.{IsBalancing, IsBusy, IsPutting, IsFresh, IsStamp, HasMet, IsHelp, IsPublished, IsDone, HasDrawn}
+use Rattle.kw_core.specs.Stages.{IsBalancing, IsBusy, IsPutting, IsFresh, IsStamp, HasSeenPending, IsHelp, IsPublished, IsDone, HasDrawn}
 use Rattle.kw_shape.specs.Shape.{IsPutCall, IsAnswerOf, IsKind}
 use Rattle.kw_reads.specs.Replies.{RisesBelow, IsCovered, IsAnswered, Covers}
 use Rattle.std.proofs.lemmas.Option.{same_Some}
@@ -167,14 +167,14 @@ may_make z r r' s choice l a l' c (makes_stamp e) h i =
     let st = pending_entry (attempt r.history (r.seats s).own) l.cell (sym (own.entry y) ∙ e) in
     may_stamp z r r' s choice l l' i (r.seats s).own l.version (r.seats s).loaded own.within (own.announced y) st.0 (pending_kept (attempt r.history (r.seats s).own) l.cell (sym (own.entry y) ∙ e)) (rw own.call x.runs) (rw own.call x.own) (own.after (subst IsStamp (sym h.activity) tt)) (own.loaded (subst IsStamp (sym h.activity) tt))
 may_make z r r' s choice l a l' c (makes_help p e f) h i =
-    let helper = i.puts.helps s l h.knows (subst HasMet (sym h.activity) tt) in
+    let helper = i.puts.helps s l h.knows (subst HasSeenPending (sym h.activity) tt) in
     let known = i.shape.sane.locals s l h.knows in
-    let w = entry_owner i.puts l.row l.looked l.met known.below.row known.ranges.looked e in
+    let w = entry_owner i.puts l.row l.looked l.saw known.below.row known.ranges.looked e in
     let puts = published_puts w.local.activity w.published in
     let own = i.puts.owns l.looked w.local w.knows puts in
     let x = i.positions.calling l.looked w.local w.knows (puts_busy w.local.activity puts) in
-    let place = pending_cell i.puts l.row l.looked l.met p known.below.row known.ranges.looked e f in
-    let same : p ≡ (r.seats l.looked).own = pending_own i.puts l.row l.looked l.met p known.below.row known.ranges.looked e f in
+    let place = pending_cell i.puts l.row l.looked l.saw p known.below.row known.ranges.looked e f in
+    let same : p ≡ (r.seats l.looked).own = pending_own i.puts l.row l.looked l.saw p known.below.row known.ranges.looked e f in
     let is_put : helper.put ≡ p = same_Some helper.put p (sym helper.origin ∙ f) in
     may_stamp z r r' s choice l l' i p l.helping (r.seats s).loaded place.within
     (subst (λ q. (attempt r.history q).is_announced ≡ true) is_put helper.announced)

@@ -20,7 +20,7 @@ use Rattle.kw_core.specs.Run.{Run}
 use Rattle.kw_core.specs.Step.{Step}
 use Rattle.kw_core.proofs.Attempts.{in_range}
 use Rattle.kw_core.proofs.Happens.{Happens, log_entry}
-use Rattle.kw_shape.proofs.InfantsRely.{place_of_row}
+use Rattle.kw_shape.proofs.InfantsRely.{index_of_row}
 use Rattle.kw_shape.specs.RowsIn.{rows_in}
 use Rattle.kw_shape.specs.Shape.{HoldsKey}
 use Rattle.kw_kept.specs.Kept.{Kept, Stamps}
@@ -33,7 +33,7 @@ use Rattle.kw_kept.proofs.StampKept.{stamp_kept}
 use Rattle.kw_puts.specs.Below.{Below}
 use Rattle.kw_puts.proofs.Rely.{SameAttempt}
 use Rattle.kw_puts.proofs.RelyProof.{goes_on_by}
-use Rattle.kw_reads.specs.Contents.{Contents, HasPassedRow, InRow, IsHolding, IsOlder, Needed, Needs, Through, has_drawn, is_held, is_helped, puts_of, rows_of}
+use Rattle.kw_reads.specs.Contents.{Contents, HasGoneByRow, InRow, IsHolding, IsOlder, Needed, Needs, Through, has_drawn, is_held, is_helped, puts_of, rows_of}
 use Rattle.kw_shape.proofs.LinkedRows.{ComesNow, FreesNow, GoesNow, full_live, linked_before, linked_fate, linked_keeps}
 use Rattle.kw_reads.proofs.NewRows.{held_by_full}
 use Rattle.kw_reads.proofs.Rebuilt.{is_rebuilt}
@@ -88,10 +88,10 @@ rebuilt_shows z r r' s choice l l' h i st c q k u y x m =
     (c.kept l.row k u (record { live = full_live h i.shape y.won; holds = held_by_full h i.shape place.0 q place.1 k y.fate x }) m)
   where
     place : (n : ℕ) × (slice_get l.rebalance.taken n ≡ Some q)
-    place = place_of_row l.rebalance.taken q y.taken
+    place = index_of_row l.rebalance.taken q y.taken
 
     needs : Needs z r (Activity.Rebalance (Rebalance.Replace Replace.Exchange)) l
-    needs = subst (λ b. Needs z r b l) h.activity (c.needs s l h.knows (subst HasPassedRow (sym h.activity) tt))
+    needs = subst (λ b. Needs z r b l) h.activity (c.needs s l h.knows (subst HasGoneByRow (sym h.activity) tt))
 
 -- Over an event.
 

@@ -16,12 +16,12 @@ use Rattle.kw_world.specs.Sizes.{Sizes}
 use Rattle.kw_world.specs.Transition.{row_or_first}
 use Rattle.kw_core.specs.Stages.{IsAtRow}
 use Rattle.kw_core.specs.Words.{Words, next_in}
-use Rattle.kw_core.proofs.Arrows.{Arrow, starts_at_head, guesses, takes_head, guess_serves, puts_in_last, reads_last, meets_next, walks_on, puts_before, reads_before, meets_pending, meets_stamped, meets_neither, is_wanted, is_passed, loads_to_help, helps, finds_stamped, finds_other, list_leads, list_ends, key_below, key_within, key_above, loads_version, gathers_listed, rest_wanted, rest_passed, gathers_rest, finds_room, takes_cell, stores_key, stores_value, announces, loads_clock, stamps, is_stamped, stores_version, meets_cell, meets_none, key_before, key_same, key_after, version_before, version_after, stores_after, inserts, loses, NextLook, looks, lists, NextRest, rests, answers, ends_scan, scans_on, builds}
+use Rattle.kw_core.proofs.Arrows.{Arrow, starts_at_head, guesses, takes_head, guess_serves, puts_in_last, reads_last, reaches_next, walks_on, puts_before, reads_before, sees_pending, sees_stamped, sees_neither, is_wanted, is_gone_by, loads_to_help, helps, finds_stamped, finds_other, list_leads, list_ends, key_below, key_within, key_above, loads_version, gathers_listed, left_over_wanted, left_over_gone_by, gathers_left_over, finds_room, takes_cell, stores_key, stores_value, announces, loads_clock, stamps, is_stamped, stores_version, reaches_cell, sees_none, key_before, key_same, key_after, version_before, version_after, stores_after, inserts, loses, NextLook, looks, lists, NextLeftOver, goes_to_left_over, answers, ends_scan, scans_on, builds}
 use Rattle.kw_rows.specs.Ledger.{Dead, IsDead, IsFresh, IsHeld, IsLive, Ledger, Live}
 use Rattle.kw_rows.specs.Rows.{Closed}
 use Rattle.kw_rows.specs.Structure.{Structure}
 use Rattle.kw_rows.proofs.Named.{held_by, normal_live}
-use Rattle.kw_shape.specs.RowsIn.{rows_in, state_met}
+use Rattle.kw_shape.specs.RowsIn.{rows_in, state_seen}
 use Rattle.kw_shape.specs.Shape.{Walks}
 use Rattle.kw_reads.specs.Contents.{HasCandidate, HasRow, IsLater, IsSince}
 use Rattle.kw_core.proofs.BuiltNext.{IsAfterBuilding, built_next}
@@ -61,11 +61,11 @@ after_building _ x y = absurd y
 module _ (g : Ledger) (d : ℕ) where
   -- a seat that is at no row of a walk names none
   nowhere : (a : Activity) (l : Local) → (HasRow a → ⊥) → (HasCandidate a → ⊥) → (IsAtRow a → ⊥) → IsLater g d a l
-  nowhere a l x y u = record { row = λ q. absurd (x q); met = λ q. absurd (y q); next = λ q. absurd (u q) }
+  nowhere a l x y u = record { row = λ q. absurd (x q); saw = λ q. absurd (y q); next = λ q. absurd (u q) }
 
   -- a seat that stays at its row
   stays : (a : Activity) (l : Local) (b : Activity) (k : Local) → IsAtRow a → IsAtRow b → k.row ≡ l.row → k.next ≡ l.next → IsLater g d a l → IsLater g d b k
-  stays a l b k x y row next w = record { row = λ q. subst (IsSince g d) (sym row) (w.row (at_row_has a x)); met = λ q. no_candidate b y q; next = λ q n e. w.next x n (sym next ∙ e) }
+  stays a l b k x y row next w = record { row = λ q. subst (IsSince g d) (sym row) (w.row (at_row_has a x)); saw = λ q. no_candidate b y q; next = λ q n e. w.next x n (sym next ∙ e) }
 
   -- the next look of a reader
   look_stays : (z : Sizes) (j : ℕ) (a : Activity) (l : Local) (next : Activity) (k : Local) → NextLook z j next → IsAtRow a → k.row ≡ l.row → k.next ≡ l.next → IsLater g d a l → IsLater g d next k
@@ -73,23 +73,23 @@ module _ (g : Ledger) (d : ℕ) where
   look_stays z j a l next k (lists o) x row after w = stays a l (Activity.Read Read.Link) k x tt row after w
 
   -- the next cell of a reader, or the next row of a scan
-  cell_goes : (a : Activity) (l : Local) (k next : Local) → NextRest k next → IsAtRow a → k.row ≡ l.row → k.next ≡ l.next → IsLater g d a l → IsLater g d next.activity next
-  cell_goes a l k next (rests m o) x row after w = stays a l (Activity.Read Read.LeftOverKey) next x tt row after w
+  cell_goes : (a : Activity) (l : Local) (k next : Local) → NextLeftOver k next → IsAtRow a → k.row ≡ l.row → k.next ≡ l.next → IsLater g d a l → IsLater g d next.activity next
+  cell_goes a l k next (goes_to_left_over m o) x row after w = stays a l (Activity.Read Read.LeftOverKey) next x tt row after w
   cell_goes a l k next (answers o n) x row after w = nowhere _ next (λ u. u) (λ u. u) (λ u. u)
   cell_goes a l k next (ends_scan o y n) x row after w = nowhere _ next (λ u. u) (λ u. u) (λ u. u)
-  cell_goes a l k next (scans_on q o y n u) x row after w = record { row = λ c. w.next x q (sym after ∙ n); met = λ c. absurd c; next = λ c. absurd c }
+  cell_goes a l k next (scans_on q o y n u) x row after w = record { row = λ c. w.next x q (sym after ∙ n); saw = λ c. absurd c; next = λ c. absurd c }
 
   -- a seat that has come to the row before its candidate
   arrives_before : (b : Activity) (l k : Local) → IsAtRow b → k.row ≡ l.row → k.next ≡ Some l.candidate → IsLater g d (Activity.Walk Walk.NextLeast) l → IsLater g d b k
-  arrives_before b l k y row next w = record { row = λ q. subst (IsSince g d) (sym row) (w.row tt); met = λ q. no_candidate b y q; next = λ q n e. subst (IsSince g d) (same_Some l.candidate n (sym next ∙ e)) (w.met tt) }
+  arrives_before b l k y row next w = record { row = λ q. subst (IsSince g d) (sym row) (w.row tt); saw = λ q. no_candidate b y q; next = λ q n e. subst (IsSince g d) (same_Some l.candidate n (sym next ∙ e)) (w.saw tt) }
 
   -- or to the last one
   arrives_last : (b : Activity) (l k : Local) → IsAtRow b → k.row ≡ l.row → k.next ≡ None → IsLater g d (Activity.Walk Walk.Next) l → IsLater g d b k
-  arrives_last b l k y row next w = record { row = λ q. subst (IsSince g d) (sym row) (w.row tt); met = λ q. no_candidate b y q; next = λ q n e. let x : None ≡ Some n = sym next ∙ e in absurd (cc) }
+  arrives_last b l k y row next w = record { row = λ q. subst (IsSince g d) (sym row) (w.row tt); saw = λ q. no_candidate b y q; next = λ q n e. let x : None ≡ Some n = sym next ∙ e in absurd (cc) }
 
   -- a row of the list is later than any position
   in_list : (a : Activity) (l : Local) → IsLive g l.row → (HasCandidate a → ⊥) → (IsAtRow a → ⊥) → IsLater g d a l
-  in_list a l e y u = record { row = λ q. inl e; met = λ q. absurd (y q); next = λ q. absurd (u q) }
+  in_list a l e y u = record { row = λ q. inl e; saw = λ q. absurd (y q); next = λ q. absurd (u q) }
 
   -- the row after one that was not gone then was not either
   next_since : (v : Words) (t x y : ℕ) → Closed (rows_in v) g → IsFresh g t x → next_in v x ≡ Some y → IsSince g d x → IsSince g d y
@@ -108,22 +108,22 @@ pub later_by : (z : Sizes) (v : Words) (g : Ledger) {now : ℕ} (s : ℕ) (choic
 later_by z v g s choice l a l' d (builds b next y t) c k w = built l' (built_next z v choice l a l' t)
   where
     built : (k : Local) → IsAfterBuilding k.activity → IsLater g d k.activity k
-    built k x = record { row = λ q. after_building k.activity x q; met = λ q. after_building k.activity x (candidate_has k.activity q); next = λ q. after_building k.activity x (at_row_has k.activity q) }
+    built k x = record { row = λ q. after_building k.activity x q; saw = λ q. after_building k.activity x (candidate_has k.activity q); next = λ q. after_building k.activity x (at_row_has k.activity q) }
 later_by z v g s choice l a l' d starts_at_head c k w = in_list g d (Activity.Walk Walk.Next) _ (subst (IsLive g) (sym (ap row_or_first c.chain.leads)) c.chain.first_live) (λ x. x) (λ x. x)
 later_by z v g s choice l a l' d takes_head c k w = in_list g d (Activity.Walk Walk.Next) _ (subst (IsLive g) (sym (ap row_or_first c.chain.leads)) c.chain.first_live) (λ x. x) (λ x. x)
-later_by z v g s choice l a l' d (guesses q y n) c k w = in_list g d (Activity.Walk Walk.GuessedLeast) _ (normal_live (rows_in v) g q c.states (ap state_met n)) (λ x. x) (λ x. x)
-later_by z v g s choice l a l' d (guess_serves o) c k w = record { row = λ x. w.row tt; met = λ x. absurd x; next = λ x. absurd x }
-later_by z v g s choice l a l' d (meets_next q n) c k w = record { row = λ x. w.row tt; met = λ x. next_since g d v s l.row q c.closed k.on.0 n (w.row tt); next = λ x. absurd x }
-later_by z v g s choice l a l' d (walks_on o) c k w = record { row = λ x. w.met tt; met = λ x. absurd x; next = λ x. absurd x }
+later_by z v g s choice l a l' d (guesses q y n) c k w = in_list g d (Activity.Walk Walk.GuessedLeast) _ (normal_live (rows_in v) g q c.states (ap state_seen n)) (λ x. x) (λ x. x)
+later_by z v g s choice l a l' d (guess_serves o) c k w = record { row = λ x. w.row tt; saw = λ x. absurd x; next = λ x. absurd x }
+later_by z v g s choice l a l' d (reaches_next q n) c k w = record { row = λ x. w.row tt; saw = λ x. next_since g d v s l.row q c.closed k.on.0 n (w.row tt); next = λ x. absurd x }
+later_by z v g s choice l a l' d (walks_on o) c k w = record { row = λ x. w.saw tt; saw = λ x. absurd x; next = λ x. absurd x }
 later_by z v g s choice l a l' d (puts_in_last y n) c k w = arrives_last g d (Activity.Put Put.Count) l _ tt refl refl w
 later_by z v g s choice l a l' d (reads_last y n) c k w = arrives_last g d (Activity.Look (Look.Entry 0)) l _ tt refl refl w
 later_by z v g s choice l a l' d (puts_before y o) c k w = arrives_before g d (Activity.Put Put.Count) l _ tt refl refl w
 later_by z v g s choice l a l' d (reads_before y o) c k w = arrives_before g d (Activity.Look (Look.Entry 0)) l _ tt refl refl w
-later_by z v g s choice l a l' d (meets_pending j x y) c k w = stays g d (Activity.Look (Look.Entry j)) l (Activity.Look Look.Key) _ tt tt refl refl w
-later_by z v g s choice l a l' d (meets_stamped j x version next y n) c k w = look_stays g d z _ (Activity.Look (Look.Entry j)) l next _ n tt refl refl w
-later_by z v g s choice l a l' d (meets_neither j next y n) c k w = look_stays g d z _ (Activity.Look (Look.Entry j)) l next _ n tt refl refl w
+later_by z v g s choice l a l' d (sees_pending j x y) c k w = stays g d (Activity.Look (Look.Entry j)) l (Activity.Look Look.Key) _ tt tt refl refl w
+later_by z v g s choice l a l' d (sees_stamped j x version next y n) c k w = look_stays g d z _ (Activity.Look (Look.Entry j)) l next _ n tt refl refl w
+later_by z v g s choice l a l' d (sees_neither j next y n) c k w = look_stays g d z _ (Activity.Look (Look.Entry j)) l next _ n tt refl refl w
 later_by z v g s choice l a l' d (is_wanted y) c k w = stays g d (Activity.Look Look.Key) l (Activity.Look Look.Clock) _ tt tt refl refl w
-later_by z v g s choice l a l' d (is_passed next y n) c k w = look_stays g d z _ (Activity.Look Look.Key) l next _ n tt refl refl w
+later_by z v g s choice l a l' d (is_gone_by next y n) c k w = look_stays g d z _ (Activity.Look Look.Key) l next _ n tt refl refl w
 later_by z v g s choice l a l' d loads_to_help c k w = stays g d (Activity.Look Look.Clock) l (Activity.Look Look.Help) _ tt tt refl refl w
 later_by z v g s choice l a l' d (helps next y n) c k w = look_stays g d z _ (Activity.Look Look.Help) l next _ n tt refl refl w
 later_by z v g s choice l a l' d (finds_stamped x version next y n) c k w = look_stays g d z _ (Activity.Look Look.Help) l next _ n tt refl refl w
@@ -134,10 +134,10 @@ later_by z v g s choice l a l' d (key_below y) c k w = stays g d (Activity.Read 
 later_by z v g s choice l a l' d (key_within y u) c k w = stays g d (Activity.Read Read.Key) l (Activity.Read Read.Version) _ tt tt refl refl w
 later_by z v g s choice l a l' d loads_version c k w = stays g d (Activity.Read Read.Version) l (Activity.Read Read.Value) _ tt tt refl refl w
 later_by z v g s choice l a l' d gathers_listed c k w = stays g d (Activity.Read Read.Value) l (Activity.Read Read.Link) _ tt tt refl refl w
-later_by z v g s choice l a l' d (rest_wanted y) c k w = stays g d (Activity.Read Read.LeftOverKey) l (Activity.Read Read.LeftOverValue) _ tt tt refl refl w
+later_by z v g s choice l a l' d (left_over_wanted y) c k w = stays g d (Activity.Read Read.LeftOverKey) l (Activity.Read Read.LeftOverValue) _ tt tt refl refl w
 later_by z v g s choice l a l' d (key_above next y n) c k w = cell_goes g d (Activity.Read Read.Key) l _ next n tt refl refl w
-later_by z v g s choice l a l' d (rest_passed next y n) c k w = cell_goes g d (Activity.Read Read.LeftOverKey) l _ next n tt refl refl w
-later_by z v g s choice l a l' d (gathers_rest next n) c k w = cell_goes g d (Activity.Read Read.LeftOverValue) l _ next n tt refl refl w
+later_by z v g s choice l a l' d (left_over_gone_by next y n) c k w = cell_goes g d (Activity.Read Read.LeftOverKey) l _ next n tt refl refl w
+later_by z v g s choice l a l' d (gathers_left_over next n) c k w = cell_goes g d (Activity.Read Read.LeftOverValue) l _ next n tt refl refl w
 later_by z v g s choice l a l' d (finds_room y) c k w = stays g d (Activity.Put Put.Count) l (Activity.Put Put.Add) _ tt tt refl refl w
 later_by z v g s choice l a l' d (takes_cell y) c k w = stays g d (Activity.Put Put.Add) l (Activity.Put Put.Key) _ tt tt refl refl w
 later_by z v g s choice l a l' d stores_key c k w = stays g d (Activity.Put Put.Key) l (Activity.Put Put.Value) _ tt tt refl refl w
@@ -147,8 +147,8 @@ later_by z v g s choice l a l' d loads_clock c k w = stays g d (Activity.Put Put
 later_by z v g s choice l a l' d (stamps y) c k w = stays g d (Activity.Put Put.Stamp) l (Activity.Put Put.Version) _ tt tt refl refl w
 later_by z v g s choice l a l' d (is_stamped version y) c k w = stays g d (Activity.Put Put.Stamp) l (Activity.Put Put.Version) _ tt tt refl refl w
 later_by z v g s choice l a l' d stores_version c k w = stays g d (Activity.Put Put.Version) l (Activity.Insert Insert.Link) _ tt tt refl refl w
-later_by z v g s choice l a l' d (meets_cell x y) c k w = stays g d (Activity.Insert Insert.Link) l (Activity.Insert Insert.Key) _ tt tt refl refl w
-later_by z v g s choice l a l' d (meets_none y) c k w = stays g d (Activity.Insert Insert.Link) l (Activity.Insert Insert.Set) _ tt tt refl refl w
+later_by z v g s choice l a l' d (reaches_cell x y) c k w = stays g d (Activity.Insert Insert.Link) l (Activity.Insert Insert.Key) _ tt tt refl refl w
+later_by z v g s choice l a l' d (sees_none y) c k w = stays g d (Activity.Insert Insert.Link) l (Activity.Insert Insert.Set) _ tt tt refl refl w
 later_by z v g s choice l a l' d (key_before y) c k w = stays g d (Activity.Insert Insert.Key) l (Activity.Insert Insert.Link) _ tt tt refl refl w
 later_by z v g s choice l a l' d (key_same y) c k w = stays g d (Activity.Insert Insert.Key) l (Activity.Insert Insert.Version) _ tt tt refl refl w
 later_by z v g s choice l a l' d (key_after y) c k w = stays g d (Activity.Insert Insert.Key) l (Activity.Insert Insert.Set) _ tt tt refl refl w
@@ -157,4 +157,4 @@ later_by z v g s choice l a l' d (version_after y) c k w = stays g d (Activity.I
 later_by z v g s choice l a l' d stores_after c k w = stays g d (Activity.Insert Insert.Set) l (Activity.Insert Insert.Exchange) _ tt tt refl refl w
 later_by z v g s choice l a l' d (inserts y) c k w = stays g d (Activity.Insert Insert.Exchange) l (Activity.Put Put.Clear) _ tt tt refl refl w
 later_by z v g s choice l a l' d (loses y) c k w = stays g d (Activity.Insert Insert.Exchange) l (Activity.Insert Insert.Link) _ tt tt refl refl w
-later_by z v g s choice l a l' d _ c k w = record { row = λ x. absurd x; met = λ x. absurd x; next = λ x. absurd x }
+later_by z v g s choice l a l' d _ c k w = record { row = λ x. absurd x; saw = λ x. absurd x; next = λ x. absurd x }

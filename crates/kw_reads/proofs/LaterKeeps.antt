@@ -29,7 +29,7 @@ use Rattle.kw_reads.proofs.Relying.{rely}
 
 -- it is enough to say so of a seat that has a row
 pub later_if : (z : Sizes) (r : Run) (d : ℕ) (a : Activity) (l : Local) → (HasRow a → IsLater r.ledger.rows d a l) → IsLater r.ledger.rows d a l
-later_if z r d a l f = record { row = λ x. (f x).row x; met = λ x. (f (candidate_has a x)).met x; next = λ x n e. (f (at_row_has a x)).next x n e }
+later_if z r d a l f = record { row = λ x. (f x).row x; saw = λ x. (f (candidate_has a x)).saw x; next = λ x n e. (f (at_row_has a x)).next x n e }
 
 -- a seat that has a row is on its way
 row_way : (a : Activity) → HasRow a → IsOnWay a
@@ -40,12 +40,12 @@ row_way _ x = x
 -- the rows that a walk names are linked, or were
 pub record AreLinked (g : Ledger) (a : Activity) (l : Local) : Type 0 where
   pub row : HasRow a → WasLinked g l.row
-  pub met : HasCandidate a → WasLinked g l.candidate
+  pub saw : HasCandidate a → WasLinked g l.candidate
   pub next : IsAtRow a → (n : ℕ) → l.next ≡ Some n → WasLinked g n
 
 -- they are, since the seat may name them
 pub named_linked : (v : Words) (g : Ledger) (t : ℕ) (a : Activity) (l : Local) → Walks v g t a l → AreLinked g a l
-named_linked v g t a l w = record { row = row a w; met = met a w; next = λ x n e. fresh_linked g t n ((w.at x).next n e).fresh }
+named_linked v g t a l w = record { row = row a w; saw = saw a w; next = λ x n e. fresh_linked g t n ((w.at x).next n e).fresh }
   where
     row : (b : Activity) → Walks v g t b l → HasRow b → WasLinked g l.row
     row (Activity.Walk Walk.GuessedLeast) k x = fresh_linked g t l.row k.on
@@ -53,9 +53,9 @@ named_linked v g t a l w = record { row = row a w; met = met a w; next = λ x n 
     row (Activity.Walk Walk.NextLeast) k x = fresh_linked g t l.row k.on.0
     row _ k x = fresh_linked g t l.row (k.at x).fresh
 
-    met : (b : Activity) → Walks v g t b l → HasCandidate b → WasLinked g l.candidate
-    met (Activity.Walk Walk.NextLeast) k x = fresh_linked g t l.candidate k.on.2
-    met _ k x = absurd x
+    saw : (b : Activity) → Walks v g t b l → HasCandidate b → WasLinked g l.candidate
+    saw (Activity.Walk Walk.NextLeast) k x = fresh_linked g t l.candidate k.on.2
+    saw _ k x = absurd x
 
 module _ {z : Sizes} {r r' : Run} {s : ℕ} {choice : Choice} {l l' : Local} where
   -- a row that was not gone before this position goes later, if the position has been
@@ -74,7 +74,7 @@ module _ {z : Sizes} {r r' : Run} {s : ℕ} {choice : Choice} {l l' : Local} whe
 
   -- so do the rows that a seat names
   pub later_lasts : (a : Activity) → Happens z r r' s choice l l' a → Inv z r → (d : ℕ) (b : Activity) (k : Local) → d < length r.history.log → AreLinked r'.ledger.rows b k → IsLater r.ledger.rows d b k → IsLater r'.ledger.rows d b k
-  later_lasts a h i d b k o y w = record { row = λ x. since_lasts a h i d k.row o (y.row x) (w.row x); met = λ x. since_lasts a h i d k.candidate o (y.met x) (w.met x); next = λ x n e. since_lasts a h i d n o (y.next x n e) (w.next x n e) }
+  later_lasts a h i d b k o y w = record { row = λ x. since_lasts a h i d k.row o (y.row x) (w.row x); saw = λ x. since_lasts a h i d k.candidate o (y.saw x) (w.saw x); next = λ x n e. since_lasts a h i d n o (y.next x n e) (w.next x n e) }
 
 module _ (z : Sizes) (r r' : Run) (s : ℕ) (choice : Choice) (l : Local) (a : Activity) (l' : Local) (h : Happens z r r' s choice l l' a) (i : Inv z r) (after : Below z r') (c : Contents z r) where
   -- the acting seat

@@ -22,7 +22,7 @@ use Rattle.kw_world.specs.Sizes.{Sizes}
 use Rattle.kw_world.specs.Step.{word}
 use Rattle.kw_world.specs.WriteTransitions.{infant_cells}
 use Rattle.kw_core.specs.Run.{Origins, Run, copied, with_copy, with_origin}
-use Rattle.kw_core.proofs.Arrows.{eq_from, builds, NextLook, looks, lists, NextRest, rests, answers, ends_scan, scans_on, Arrow, reads_last, reads_before, meets_pending, meets_stamped, meets_neither, is_wanted, is_passed, loads_to_help, helps, finds_stamped, finds_other, list_leads, list_ends, key_below, key_within, key_above, loads_version, gathers_listed, rest_wanted, rest_passed, gathers_rest}
+use Rattle.kw_core.proofs.Arrows.{eq_from, builds, NextLook, looks, lists, NextLeftOver, goes_to_left_over, answers, ends_scan, scans_on, Arrow, reads_last, reads_before, sees_pending, sees_stamped, sees_neither, is_wanted, is_gone_by, loads_to_help, helps, finds_stamped, finds_other, list_leads, list_ends, key_below, key_within, key_above, loads_version, gathers_listed, left_over_wanted, left_over_gone_by, gathers_left_over}
 use Rattle.kw_core.proofs.Happens.{Happens, exchanged, not_exchanged}
 use Rattle.kw_core.proofs.RoomBelow.{room_below}
 use Rattle.kw_reads.specs.Inv.{Inv, lower}
@@ -93,10 +93,10 @@ ready_marked f h l d version c p s e = record { stamped = s; noted = inl (rw e (
 ready_at : (f : Listed) (h : History) (l : Local) (next : Activity) (c p : ℕ) → IsReady f h l c p → IsReady f h (record l { activity = next }) c p
 ready_at f h l next c p n = record { stamped = n.stamped; noted = n.noted }
 
--- the cell that was met, or what is ready, for another local that notes the same cells
-met_as : (f : Listed) (h : History) (l l' : Local) (d c p : ℕ) → ((u : ℕ) → IsNoted f l u → IsNoted f l' u) → (c ≡ d) ⊎ IsReady f h l c p → (c ≡ d) ⊎ IsReady f h l' c p
-met_as f h l l' d c p g (inl e) = inl e
-met_as f h l l' d c p g (inr n) = inr (record { stamped = n.stamped; noted = g c n.noted })
+-- the cell that was reached, or what is ready, for another local that notes the same cells
+saw_as : (f : Listed) (h : History) (l l' : Local) (d c p : ℕ) → ((u : ℕ) → IsNoted f l u → IsNoted f l' u) → (c ≡ d) ⊎ IsReady f h l c p → (c ≡ d) ⊎ IsReady f h l' c p
+saw_as f h l l' d c p g (inl e) = inl e
+saw_as f h l l' d c p g (inr n) = inr (record { stamped = n.stamped; noted = g c n.noted })
 
 -- what the reader knows at the next look, or at the row's first link
 looks_next : (z : Sizes) (f : Listed) (h : History) (o : Origins) (j : ℕ) (next : Activity) (l : Local) (g : SeatLog) → NextLook z j next → ((c p : ℕ) → IsDue h o l.row l.call g.looked c p → (attempt h p).seat < j → IsReady f h l c p) → Looks z f h o next (record l { activity = next }) g
@@ -112,13 +112,13 @@ below_next a i w = which (cases_eq a i)
     which (inr d) = inl (omega arith)
 
 -- a seat that reads on, ends its call or goes on with the next row does not look
-pub not_looking : (l next : Local) → NextRest l next → IsLooking next.activity → ⊥
-not_looking l _ (rests m e) x = x
+pub not_looking : (l next : Local) → NextLeftOver l next → IsLooking next.activity → ⊥
+not_looking l _ (goes_to_left_over m e) x = x
 not_looking l _ (answers c e) x = x
 not_looking l _ (ends_scan c e n) x = x
 not_looking l _ (scans_on q c e n u) x = x
 
--- what the entry that was met says of a cell of its row that stands for an attempt of its seat
+-- what the entry that was seen says of a cell of its row that stands for an attempt of its seat
 -- which is due
 module _ {z : Sizes} {r : Run} (k : Below z r) (within : (q c p : ℕ) → r.origin q c ≡ Some p → c < z.cells) (l : Local) (linked : WasLinked r.ledger.rows l.row) (j looked c p : ℕ) (due : IsDue r.history r.origin l.row l.call looked c p) (f : (attempt r.history p).seat ≡ j) where
   says : EntrySays (word z r.world) r.listed r.history l.row j c p
@@ -152,8 +152,8 @@ module _ {z : Sizes} {r : Run} (k : Below z r) (within : (q c p : ℕ) → r.ori
       which (is_stamped s x) = absurd (n _ _ x)
 
 -- a seat that reads on remembers what it remembered
-marks_on : (P : ℕ → Mark → Type 0) (l next : Local) → NextRest l next → IsLooking next.activity ⊎ IsTaking next.activity → All (P l.row) l.remembered → All (P next.row) next.remembered
-marks_on P l _ (rests m e) x k = unmarked_in_range (P l.row) m.cell l.remembered k
+marks_on : (P : ℕ → Mark → Type 0) (l next : Local) → NextLeftOver l next → IsLooking next.activity ⊎ IsTaking next.activity → All (P l.row) l.remembered → All (P next.row) next.remembered
+marks_on P l _ (goes_to_left_over m e) x k = unmarked_in_range (P l.row) m.cell l.remembered k
 marks_on P l _ (answers c e) (inl x) m = absurd x
 marks_on P l _ (answers c e) (inr x) m = absurd x
 marks_on P l _ (ends_scan c e n) (inl x) m = absurd x
@@ -212,20 +212,20 @@ module _ {z : Sizes} {r r' : Run} {s : ℕ} {choice : Choice} {l l' : Local} (j 
 -- the key of the cell of a pending entry is loaded, or the clock, or the entry is stamped
 module _ {z : Sizes} {r r' : Run} {s : ℕ} {choice : Choice} {l l' : Local} (h : Happens z r r' s choice l l' (Activity.Look Look.Help)) (i : Inv z r) where
   -- the cell is one that an entry may name
-  help_cell : l.met < MOST_CELLS
-  help_cell = omega (arith, (ranges h i).met, i.shape.sane.sized.few_cells)
+  help_cell : l.saw < MOST_CELLS
+  help_cell = omega (arith, (ranges h i).saw, i.shape.sane.sized.few_cells)
 
   -- the entry is stamped with the reader's version
-  help_stamped : pend_of (word z r.world (name.Pend l.row l.looked)) ≡ Some (pend.Pending l.met) → pend_of (word z r'.world (name.Pend l.row l.looked)) ≡ Some (pend.Stamped l.met l.helping)
-  help_stamped e = ap pend_of (exchanged _ _ _ _ h.changed.same (sym (pend_word_of _ (pend.Pending l.met) e))) ∙ pend_of-Stamped l.met l.helping help_cell (ranges h i).helping.0 (ranges h i).helping.1
+  help_stamped : pend_of (word z r.world (name.Pend l.row l.looked)) ≡ Some (pend.Pending l.saw) → pend_of (word z r'.world (name.Pend l.row l.looked)) ≡ Some (pend.Stamped l.saw l.helping)
+  help_stamped e = ap pend_of (exchanged _ _ _ _ h.changed.same (sym (pend_word_of _ (pend.Pending l.saw) e))) ∙ pend_of-Stamped l.saw l.helping help_cell (ranges h i).helping.0 (ranges h i).helping.1
 
   -- or it is as it was found
-  help_kept : pend_of (word z r.world (name.Pend l.row l.looked)) ≢ Some (pend.Pending l.met) → word z r'.world (name.Pend l.row l.looked) ≡ word z r.world (name.Pend l.row l.looked)
-  help_kept d = not_exchanged _ _ _ _ h.changed.same (λ e. d (ap pend_of e ∙ pend_of-Pending l.met help_cell))
+  help_kept : pend_of (word z r.world (name.Pend l.row l.looked)) ≢ Some (pend.Pending l.saw) → word z r'.world (name.Pend l.row l.looked) ≡ word z r.world (name.Pend l.row l.looked)
+  help_kept d = not_exchanged _ _ _ _ h.changed.same (λ e. d (ap pend_of e ∙ pend_of-Pending l.saw help_cell))
 
   -- the same, where the entry was found stamped
   help_found : (c version : ℕ) → pend_of (word z r.world (name.Pend l.row l.looked)) ≡ Some (pend.Stamped c version) → pend_of (word z r'.world (name.Pend l.row l.looked)) ≡ Some (pend.Stamped c version)
-  help_found c version e = ap pend_of (help_kept (λ x. let y : Some (pend.Stamped c version) ≡ Some (pend.Pending l.met) = sym e ∙ x in cc)) ∙ e
+  help_found c version e = ap pend_of (help_kept (λ x. let y : Some (pend.Stamped c version) ≡ Some (pend.Pending l.saw) = sym e ∙ x in cc)) ∙ e
 
   -- what the reader knew
   help_after : Looks z r'.listed r'.history r'.origin (Activity.Look Look.Help) l (r'.seats s)
@@ -236,13 +236,13 @@ pub marks_by : (z : Sizes) (r r' : Run) (s : ℕ) (choice : Choice) (l : Local) 
 marks_by z r r' s choice l a l' (builds b next y t) h i k p = after_rests l'.activity (built_next z (word z r.world) choice l b l' t) p
 marks_by z r r' s choice l _ _ (reads_last f n) h i k p = All-nil (IsMarkOf r'.history r'.origin l.row)
 marks_by z r r' s choice l _ _ (reads_before f w) h i k p = All-nil (IsMarkOf r'.history r'.origin l.row)
-marks_by z r r' s choice l _ _ (meets_pending j c e) h i k p = marks_after h i (inl tt)
-marks_by z r r' s choice l _ _ (meets_stamped j c version next e n) h i k p = All-push (IsMarkOf r'.history r'.origin l.row) l.remembered (mark_of c version) (marks_after h i (inl tt)) (stamped_owner k l.row j c version (rw h.rows (row_below h i)) (look_seat j h i) (ap pend_of (look_found j h i) ∙ e))
-marks_by z r r' s choice l _ _ (meets_neither j next e n) h i k p = marks_after h i (inl tt)
+marks_by z r r' s choice l _ _ (sees_pending j c e) h i k p = marks_after h i (inl tt)
+marks_by z r r' s choice l _ _ (sees_stamped j c version next e n) h i k p = All-push (IsMarkOf r'.history r'.origin l.row) l.remembered (mark_of c version) (marks_after h i (inl tt)) (stamped_owner k l.row j c version (rw h.rows (row_below h i)) (look_seat j h i) (ap pend_of (look_found j h i) ∙ e))
+marks_by z r r' s choice l _ _ (sees_neither j next e n) h i k p = marks_after h i (inl tt)
 marks_by z r r' s choice l _ _ (is_wanted e) h i k p = marks_after h i (inl tt)
-marks_by z r r' s choice l _ _ (is_passed next e n) h i k p = marks_after h i (inl tt)
+marks_by z r r' s choice l _ _ (is_gone_by next e n) h i k p = marks_after h i (inl tt)
 marks_by z r r' s choice l _ _ loads_to_help h i k p = marks_after h i (inl tt)
-marks_by z r r' s choice l _ _ (helps next e n) h i k p = All-push (IsMarkOf r'.history r'.origin l.row) l.remembered (mark_of l.met l.helping) (marks_after h i (inl tt)) (stamped_owner k l.row l.looked l.met l.helping (rw h.rows (row_below h i)) (ranges h i).looked (help_stamped h i e))
+marks_by z r r' s choice l _ _ (helps next e n) h i k p = All-push (IsMarkOf r'.history r'.origin l.row) l.remembered (mark_of l.saw l.helping) (marks_after h i (inl tt)) (stamped_owner k l.row l.looked l.saw l.helping (rw h.rows (row_below h i)) (ranges h i).looked (help_stamped h i e))
 marks_by z r r' s choice l _ _ (finds_stamped c version next e n) h i k p = All-push (IsMarkOf r'.history r'.origin l.row) l.remembered (mark_of c version) (marks_after h i (inl tt)) (stamped_owner k l.row l.looked c version (rw h.rows (row_below h i)) (ranges h i).looked (help_found h i c version e))
 marks_by z r r' s choice l _ _ (finds_other next e n) h i k p = marks_after h i (inl tt)
 marks_by z r r' s choice l _ _ (list_leads c e) h i k p = unmarked_in_range (IsMarkOf r'.history r'.origin l.row) c l.remembered (marks_after h i (inr tt))
@@ -252,9 +252,9 @@ marks_by z r r' s choice l _ _ (key_within e w) h i k p = marks_after h i (inr t
 marks_by z r r' s choice l _ _ (key_above next e n) h i k p = marks_on (IsMarkOf r'.history r'.origin) _ next n p (marks_after h i (inr tt))
 marks_by z r r' s choice l _ _ loads_version h i k p = marks_after h i (inr tt)
 marks_by z r r' s choice l _ _ gathers_listed h i k p = marks_after h i (inr tt)
-marks_by z r r' s choice l _ _ (rest_wanted e) h i k p = marks_after h i (inr tt)
-marks_by z r r' s choice l _ _ (rest_passed next e n) h i k p = marks_on (IsMarkOf r'.history r'.origin) _ next n p (marks_after h i (inr tt))
-marks_by z r r' s choice l _ _ (gathers_rest next n) h i k p = marks_on (IsMarkOf r'.history r'.origin) _ next n p (marks_after h i (inr tt))
+marks_by z r r' s choice l _ _ (left_over_wanted e) h i k p = marks_after h i (inr tt)
+marks_by z r r' s choice l _ _ (left_over_gone_by next e n) h i k p = marks_on (IsMarkOf r'.history r'.origin) _ next n p (marks_after h i (inr tt))
+marks_by z r r' s choice l _ _ (gathers_left_over next n) h i k p = marks_on (IsMarkOf r'.history r'.origin) _ next n p (marks_after h i (inr tt))
 marks_by z r r' s choice l a l' b h i k (inl p) = absurd p
 marks_by z r r' s choice l a l' b h i k (inr p) = absurd p
 
@@ -266,11 +266,11 @@ each_below f h o l looked i past here c p d w = which (below_next (attempt h p).
     which (inl x) = past c p d x
     which (inr x) = here c p d x
 
--- the key of the cell that was met is passed over: it is that of no attempt that is due
-passed : {z : Sizes} {r : Run} (k : Below z r) (within : (q c p : ℕ) → r.origin q c ≡ Some p → c < z.cells) (l : Local) (linked : WasLinked r.ledger.rows l.row) (w : ℕ) (c p looked : ℕ) → word z r.world (name.Key l.row l.met) ≡ w → is_in_range l.call (key_of_word w) ≡ false → IsDue r.history r.origin l.row l.call looked c p → (c ≡ l.met) ⊎ IsReady r.listed r.history l c p → IsReady r.listed r.history l c p
-passed k within l linked w c p looked e f d (inr n) = n
-passed {z} {r} k within l linked w c p looked e f d (inl m) =
-    let y : key_of_word (word z r.world (name.Key l.row l.met)) ≡ (attempt r.history p).key = rw m at (cell_key k.puts l.row c p (k.puts.places.owner l.row c p linked (within l.row c p d.origin) d.origin) d.announced) in
+-- the key of the cell that was seen is gone by: it is that of no attempt that is due
+gone_by : {z : Sizes} {r : Run} (k : Below z r) (within : (q c p : ℕ) → r.origin q c ≡ Some p → c < z.cells) (l : Local) (linked : WasLinked r.ledger.rows l.row) (w : ℕ) (c p looked : ℕ) → word z r.world (name.Key l.row l.saw) ≡ w → is_in_range l.call (key_of_word w) ≡ false → IsDue r.history r.origin l.row l.call looked c p → (c ≡ l.saw) ⊎ IsReady r.listed r.history l c p → IsReady r.listed r.history l c p
+gone_by k within l linked w c p looked e f d (inr n) = n
+gone_by {z} {r} k within l linked w c p looked e f d (inl m) =
+    let y : key_of_word (word z r.world (name.Key l.row l.saw)) ≡ (attempt r.history p).key = rw m at (cell_key k.puts l.row c p (k.puts.places.owner l.row c p linked (within l.row c p d.origin) d.origin) d.announced) in
     true_false d.key (rw (← e, y) at f)
 
 -- the entries that it has looked at, after its last look too
@@ -279,29 +279,29 @@ looks_by z r r' s choice l a l' (builds b next y t) h i k (inl p) = after_rests 
 looks_by z r r' s choice l a l' (builds b next y t) h i k (inr p) = after_rests b (building_after b y) (inl p)
 looks_by z r r' s choice l _ _ (reads_last f n) h i k p = record { past = λ c p d w. absurd (omega (arith, w)); here = λ m. absurd m }
 looks_by z r r' s choice l _ _ (reads_before f w) h i k p = record { past = λ c p d w. absurd (omega (arith, w)); here = λ m. absurd m }
-looks_by z r r' s choice l _ _ (meets_pending j d e) h i k p = record {
+looks_by z r r' s choice l _ _ (sees_pending j d e) h i k p = record {
   past = λ c p x w. let n = look_past j h i c p x w in record { stamped = n.stamped; noted = n.noted };
-  here = λ m c p x f. met_as r'.listed r'.history l _ d c p (λ u v. v) (pending_here k (within h i) l (row_linked_on h i tt) j (r'.seats s).looked c p x f d (ap pend_of (look_found j h i) ∙ e));
+  here = λ m c p x f. saw_as r'.listed r'.history l _ d c p (λ u v. v) (pending_here k (within h i) l (row_linked_on h i tt) j (r'.seats s).looked c p x f d (ap pend_of (look_found j h i) ∙ e));
 }
-looks_by z r r' s choice l _ _ (meets_stamped j d version next e n) h i k p = looks_next z r'.listed r'.history r'.origin (j + 1) next (remembering d version l) (r'.seats s) n (each_below r'.listed r'.history r'.origin (remembering d version l) (r'.seats s).looked j (λ c p x w. ready_more r'.listed r'.history l d version c p (look_past j h i c p x w)) (λ c p x f. stamped_here k (within h i) l (row_linked_on h i tt) j (r'.seats s).looked c p x f d version (ap pend_of (look_found j h i) ∙ e)))
-looks_by z r r' s choice l _ _ (meets_neither j next e n) h i k p = looks_next z r'.listed r'.history r'.origin (j + 1) next l (r'.seats s) n (each_below r'.listed r'.history r'.origin l (r'.seats s).looked j (look_past j h i) (λ c p x f. neither_here k (within h i) l (row_linked_on h i tt) j (r'.seats s).looked c p x f (λ y. e.pending _ (sym (ap pend_of (look_found j h i)) ∙ y)) (λ d u y. e.stamped d u (sym (ap pend_of (look_found j h i)) ∙ y))))
-looks_by z r r' s choice l _ _ (is_wanted e) h i k p = let n = looks_after h i tt (ap (λ g. g.looked) h.log) in record { past = λ c p x w. ready_at r'.listed r'.history l (Activity.Look Look.Clock) c p (n.past c p x w); here = λ m c p x f. met_as r'.listed r'.history l _ l.met c p (λ u v. v) (n.here tt c p x f) }
-looks_by z r r' s choice l _ _ (is_passed next e n) h i k p = let m = looks_after h i tt (ap (λ g. g.looked) h.log) in
-    looks_next z r'.listed r'.history r'.origin (l.looked + 1) next l (r'.seats s) n (each_below r'.listed r'.history r'.origin l (r'.seats s).looked l.looked m.past (λ c p x f. passed k (within h i) l (row_linked_on h i tt) (word z r.world (name.Key l.row l.met)) c p (r'.seats s).looked (h.changed.loaded refl (name.Key l.row l.met)) e x (m.here tt c p x f)))
-looks_by z r r' s choice l _ _ loads_to_help h i k p = let n = looks_after h i tt (ap (λ g. g.looked) h.log) in record { past = λ c p x w. let y = n.past c p x w in record { stamped = y.stamped; noted = y.noted }; here = λ m c p x f. met_as r'.listed r'.history l _ l.met c p (λ u v. v) (n.here tt c p x f) }
-looks_by z r r' s choice l _ _ (helps next e n) h i k p = looks_next z r'.listed r'.history r'.origin (l.looked + 1) next (remembering l.met l.helping l) (r'.seats s) n (each_below r'.listed r'.history r'.origin (remembering l.met l.helping l) (r'.seats s).looked l.looked (λ c p x w. ready_more r'.listed r'.history l l.met l.helping c p ((help_after h i).past c p x w)) (λ c p x f. stamped_here k (within h i) l (row_linked_on h i tt) l.looked (r'.seats s).looked c p x f l.met l.helping (help_stamped h i e)))
+looks_by z r r' s choice l _ _ (sees_stamped j d version next e n) h i k p = looks_next z r'.listed r'.history r'.origin (j + 1) next (remembering d version l) (r'.seats s) n (each_below r'.listed r'.history r'.origin (remembering d version l) (r'.seats s).looked j (λ c p x w. ready_more r'.listed r'.history l d version c p (look_past j h i c p x w)) (λ c p x f. stamped_here k (within h i) l (row_linked_on h i tt) j (r'.seats s).looked c p x f d version (ap pend_of (look_found j h i) ∙ e)))
+looks_by z r r' s choice l _ _ (sees_neither j next e n) h i k p = looks_next z r'.listed r'.history r'.origin (j + 1) next l (r'.seats s) n (each_below r'.listed r'.history r'.origin l (r'.seats s).looked j (look_past j h i) (λ c p x f. neither_here k (within h i) l (row_linked_on h i tt) j (r'.seats s).looked c p x f (λ y. e.pending _ (sym (ap pend_of (look_found j h i)) ∙ y)) (λ d u y. e.stamped d u (sym (ap pend_of (look_found j h i)) ∙ y))))
+looks_by z r r' s choice l _ _ (is_wanted e) h i k p = let n = looks_after h i tt (ap (λ g. g.looked) h.log) in record { past = λ c p x w. ready_at r'.listed r'.history l (Activity.Look Look.Clock) c p (n.past c p x w); here = λ m c p x f. saw_as r'.listed r'.history l _ l.saw c p (λ u v. v) (n.here tt c p x f) }
+looks_by z r r' s choice l _ _ (is_gone_by next e n) h i k p = let m = looks_after h i tt (ap (λ g. g.looked) h.log) in
+    looks_next z r'.listed r'.history r'.origin (l.looked + 1) next l (r'.seats s) n (each_below r'.listed r'.history r'.origin l (r'.seats s).looked l.looked m.past (λ c p x f. gone_by k (within h i) l (row_linked_on h i tt) (word z r.world (name.Key l.row l.saw)) c p (r'.seats s).looked (h.changed.loaded refl (name.Key l.row l.saw)) e x (m.here tt c p x f)))
+looks_by z r r' s choice l _ _ loads_to_help h i k p = let n = looks_after h i tt (ap (λ g. g.looked) h.log) in record { past = λ c p x w. let y = n.past c p x w in record { stamped = y.stamped; noted = y.noted }; here = λ m c p x f. saw_as r'.listed r'.history l _ l.saw c p (λ u v. v) (n.here tt c p x f) }
+looks_by z r r' s choice l _ _ (helps next e n) h i k p = looks_next z r'.listed r'.history r'.origin (l.looked + 1) next (remembering l.saw l.helping l) (r'.seats s) n (each_below r'.listed r'.history r'.origin (remembering l.saw l.helping l) (r'.seats s).looked l.looked (λ c p x w. ready_more r'.listed r'.history l l.saw l.helping c p ((help_after h i).past c p x w)) (λ c p x f. stamped_here k (within h i) l (row_linked_on h i tt) l.looked (r'.seats s).looked c p x f l.saw l.helping (help_stamped h i e)))
 looks_by z r r' s choice l _ _ (finds_stamped d version next e n) h i k p = looks_next z r'.listed r'.history r'.origin (l.looked + 1) next (remembering d version l) (r'.seats s) n (each_below r'.listed r'.history r'.origin (remembering d version l) (r'.seats s).looked l.looked (λ c p x w. ready_more r'.listed r'.history l d version c p ((help_after h i).past c p x w)) (λ c p x f. stamped_here k (within h i) l (row_linked_on h i tt) l.looked (r'.seats s).looked c p x f d version (help_found h i d version e)))
 looks_by z r r' s choice l _ _ (finds_other next e n) h i k p = looks_next z r'.listed r'.history r'.origin (l.looked + 1) next l (r'.seats s) n (each_below r'.listed r'.history r'.origin l (r'.seats s).looked l.looked (help_after h i).past (λ c p x f. left c p x f ((help_after h i).here tt c p x f)))
   where
     kept : pend_of (word z r'.world (name.Pend l.row l.looked)) ≡ pend_of (word z r.world (name.Pend l.row l.looked))
     kept = ap pend_of (help_kept h i e.pending)
 
-    left : (c p : ℕ) → IsDue r'.history r'.origin l.row l.call (r'.seats s).looked c p → (attempt r'.history p).seat ≡ l.looked → (c ≡ l.met) ⊎ IsReady r'.listed r'.history l c p → IsReady r'.listed r'.history l c p
+    left : (c p : ℕ) → IsDue r'.history r'.origin l.row l.call (r'.seats s).looked c p → (attempt r'.history p).seat ≡ l.looked → (c ≡ l.saw) ⊎ IsReady r'.listed r'.history l c p → IsReady r'.listed r'.history l c p
     left c p x f (inr n) = n
     left c p x f (inl m) = neither_here k (within h i) l (row_linked_on h i tt) l.looked (r'.seats s).looked c p x f (λ y. e.pending (sym kept ∙ y ∙ ap (λ u. Some (pend.Pending u)) m)) (λ d u y. e.stamped d u (sym kept ∙ y))
 looks_by z r r' s choice l _ _ (list_ends next e n) h i k (inl p) = absurd (not_looking _ next n p)
 looks_by z r r' s choice l _ _ (key_above next e n) h i k (inl p) = absurd (not_looking _ next n p)
-looks_by z r r' s choice l _ _ (rest_passed next e n) h i k (inl p) = absurd (not_looking _ next n p)
-looks_by z r r' s choice l _ _ (gathers_rest next n) h i k (inl p) = absurd (not_looking _ next n p)
+looks_by z r r' s choice l _ _ (left_over_gone_by next e n) h i k (inl p) = absurd (not_looking _ next n p)
+looks_by z r r' s choice l _ _ (gathers_left_over next n) h i k (inl p) = absurd (not_looking _ next n p)
 looks_by z r r' s choice l a l' b h i k (inl p) = absurd p
 looks_by z r r' s choice l a l' b h i k (inr p) = absurd p

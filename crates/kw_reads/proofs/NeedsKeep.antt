@@ -30,7 +30,7 @@ use Rattle.kw_core.specs.Run.{Run}
 use Rattle.kw_core.specs.Stages.{IsBalancing}
 use Rattle.kw_core.specs.Step.{Step}
 use Rattle.kw_core.specs.Words.{Words}
-use Rattle.kw_core.proofs.Arrows.{builds, Arrow, meets_stamped, meets_neither, is_passed, helps, finds_stamped, finds_other, list_ends, key_above, rest_passed, gathers_rest, remembers_last, meets_frozen_last, freezes_last, meets_quiet, meets_quiet_last, helps_scan, meets_drawn, meets_drawn_last, draws_for, settles_scan, settles_last, finds_drawn, finds_drawn_last, finds_no_scan, finds_no_scan_last, IsNoScan, take_leads, takes_left, takes_no_more, takes_key, takes_version, keeps_taken, takes_left_key, keeps_left, keeps_no_more}
+use Rattle.kw_core.proofs.Arrows.{builds, Arrow, sees_stamped, sees_neither, is_gone_by, helps, finds_stamped, finds_other, list_ends, key_above, left_over_gone_by, gathers_left_over, remembers_last, sees_frozen_last, freezes_last, sees_quiet, sees_quiet_last, helps_scan, sees_drawn, sees_drawn_last, draws_for, settles_scan, settles_last, finds_drawn, finds_drawn_last, finds_no_scan, finds_no_scan_last, IsNoScan, take_leads, takes_left, takes_no_more, takes_key, takes_version, keeps_taken, takes_left_key, keeps_left, keeps_no_more}
 use Rattle.kw_core.proofs.Building.{Building, IsBuilding, makes_normal, makes_last_normal, draws_number, retires_row, retires_and_leaves}
 use Rattle.kw_core.proofs.Frame.{unwritten}
 use Rattle.kw_core.proofs.FreezeFrame.{clock_never_falls}
@@ -39,39 +39,39 @@ use Rattle.kw_core.proofs.Steps.{now_grows}
 use Rattle.kw_shape.proofs.LinkedRows.{fresh_linked}
 use Rattle.kw_kept.specs.Needed.{IsCovered, Moves}
 use Rattle.kw_kept.specs.Puts.{Put}
-use Rattle.kw_kept.proofs.NeededLists.{covered_still, late_starts, late_still, passes_covered}
+use Rattle.kw_kept.proofs.NeededLists.{covered_still, late_starts, late_still, goes_by_covered}
 use Rattle.kw_puts.specs.Below.{Below}
 use Rattle.kw_puts.specs.Freezes.{HasFrozen, IsSettled}
 use Rattle.kw_puts.specs.Positions.{HelpsScan}
-use Rattle.kw_puts.proofs.Freezes.{look_freezes, rest_freezes}
+use Rattle.kw_puts.proofs.Freezes.{look_freezes, left_over_freezes}
 use Rattle.kw_puts.proofs.Helpers.{ScanStep, is_kept, begins_to_wait, waits_no_more, scan_step}
-use Rattle.kw_reads.specs.Contents.{Contents, HasPassedRow, InRow, Needs, Through, has_drawn, is_held, is_helped, scans_passed}
+use Rattle.kw_reads.specs.Contents.{Contents, HasGoneByRow, InRow, Needs, Through, has_drawn, is_held, is_helped, scans_gone_by}
 use Rattle.kw_core.proofs.BuiltNext.{IsAfterBuilding, built_goes, built_keeps}
 use Rattle.kw_puts.proofs.RelyProof.{waits_stay}
 use Rattle.kw_reads.proofs.KeptKeeps.{same_put}
 use Rattle.kw_reads.proofs.RowCells.{settled_in_row}
 use Rattle.kw_reads.proofs.ScanMoves.{scans_move}
 
--- The row of a seat that has passed its entries.
+-- The row of a seat that has gone by its entries.
 
--- it has frozen the row, rebalances it, and has passed all entries
-record PassesRow (z : Sizes) (a : Activity) : Type 0 where
+-- it has frozen the row, rebalances it, and has gone by all entries
+record GoesByRow (z : Sizes) (a : Activity) : Type 0 where
   frozen : HasFrozen a
   balances : IsBalancing a
   all : frozen_by z a ≡ z.seats
 
--- a seat that has passed all entries has frozen the row
-passed_frozen : (a : Activity) → HasPassedRow a → HasFrozen a
-passed_frozen (Activity.Rebalance (Rebalance.Freeze (Freeze.Look i))) x = absurd x
-passed_frozen (Activity.Rebalance (Rebalance.Freeze (Freeze.Entry i))) x = absurd x
-passed_frozen (Activity.Rebalance (Rebalance.Replace Replace.First)) x = x
-passed_frozen _ x = x
+-- a seat that has gone by all entries has frozen the row
+gone_by_frozen : (a : Activity) → HasGoneByRow a → HasFrozen a
+gone_by_frozen (Activity.Rebalance (Rebalance.Freeze (Freeze.Look i))) x = absurd x
+gone_by_frozen (Activity.Rebalance (Rebalance.Freeze (Freeze.Entry i))) x = absurd x
+gone_by_frozen (Activity.Rebalance (Rebalance.Replace Replace.First)) x = x
+gone_by_frozen _ x = x
 
--- it has passed as many as there are seats
-passed_all : (z : Sizes) (a : Activity) → HasPassedRow a → frozen_by z a ≡ z.seats
-passed_all z (Activity.Rebalance (Rebalance.Freeze (Freeze.Look i))) x = absurd x
-passed_all z (Activity.Rebalance (Rebalance.Freeze (Freeze.Entry i))) x = absurd x
-passed_all z _ x = refl
+-- it has gone by as many as there are seats
+gone_by_all : (z : Sizes) (a : Activity) → HasGoneByRow a → frozen_by z a ≡ z.seats
+gone_by_all z (Activity.Rebalance (Rebalance.Freeze (Freeze.Look i))) x = absurd x
+gone_by_all z (Activity.Rebalance (Rebalance.Freeze (Freeze.Entry i))) x = absurd x
+gone_by_all z _ x = refl
 
 -- a seat that has frozen a row rebalances
 frozen_balances : (a : Activity) → HasFrozen a → IsBalancing a
@@ -83,18 +83,18 @@ frozen_balances (Activity.Rebalance (Rebalance.Replace Replace.Retire)) x = tt
 frozen_balances _ x = x
 
 -- all of it at once
-passes_row : (z : Sizes) (a : Activity) → HasPassedRow a → PassesRow z a
-passes_row z a x = record { frozen = passed_frozen a x; balances = frozen_balances a (passed_frozen a x); all = passed_all z a x }
+goes_by_row : (z : Sizes) (a : Activity) → HasGoneByRow a → GoesByRow z a
+goes_by_row z a x = record { frozen = gone_by_frozen a x; balances = frozen_balances a (gone_by_frozen a x); all = gone_by_all z a x }
 
 -- the entries of the row are settled, and the row was linked
-record IsPassedRow (z : Sizes) (r : Run) (q : ℕ) : Type 0 where
+record IsGoneByRow (z : Sizes) (r : Run) (q : ℕ) : Type 0 where
   linked : WasLinked r.ledger.rows q
   settled : (j : ℕ) → j < z.seats → IsSettled (word z r.world) (slice_get r.world.locals) q j
 
--- such is the row of a seat that has passed all entries
-passed_row : (z : Sizes) (r : Run) → Below z r → (t : ℕ) (k : Local) → slice_get r.world.locals t ≡ Some k → HasPassedRow k.activity → IsPassedRow z r k.row
-passed_row z r i t k g x =
-    let p = passes_row z k.activity x in
+-- such is the row of a seat that has gone by all entries
+gone_by_row : (z : Sizes) (r : Run) → Below z r → (t : ℕ) (k : Local) → slice_get r.world.locals t ≡ Some k → HasGoneByRow k.activity → IsGoneByRow z r k.row
+gone_by_row z r i t k g x =
+    let p = goes_by_row z k.activity x in
     record {
       linked = fresh_linked r.ledger.rows t k.row ((i.shape.balances t k g).fresh p.balances);
       settled = λ j o. (i.puts.freezes t k g).settled p.frozen j o (omega (arith, p.all, o));
@@ -123,9 +123,9 @@ module _ (z : Sizes) (r r' : Run) (s : ℕ) (choice : Choice) (l : Local) (a : A
   moves : Moves (word z r.world name.Clock) (word z r'.world name.Clock) r.ledger.waits r'.ledger.waits (Through z r) (Through z r')
   moves = scans_move z r r' s choice l a l' h i
 
-  -- what is known of a row whose entries are passed stays, whoever acts, where all is covered after
-  -- the event
-  needs_on : (b b' : Activity) (m m' : Local) → IsPassedRow z r m.row → m'.row ≡ m.row → (n : Needs z r b m) → IsCovered (Through z r') (scans_passed z b') (Contains m'.rebalance.needed) n.most →
+  -- what is known of a row whose entries are gone by stays, whoever acts, where all is covered
+  -- after the event
+  needs_on : (b b' : Activity) (m m' : Local) → IsGoneByRow z r m.row → m'.row ≡ m.row → (n : Needs z r b m) → IsCovered (Through z r') (scans_gone_by z b') (Contains m'.rebalance.needed) n.most →
       ((j clock : ℕ) → HelpsScan j b' → word z r'.world (name.Scan j) ≡ scan_word (Waiting clock) → (clock ≡ m'.rebalance.waiting) ⊎ (n.since < r'.ledger.waits j)) → Needs z r' b' m'
   needs_on b b' m m' x e n covered again = record {
     most = n.most;
@@ -141,12 +141,12 @@ module _ (z : Sizes) (r r' : Run) (s : ℕ) (choice : Choice) (l : Local) (a : A
   }
 
   -- what was covered is
-  still_covered : (b : Activity) (m : Local) (n : Needs z r b m) → IsCovered (Through z r') (scans_passed z b) (Contains m.rebalance.needed) n.most
-  still_covered b m n = covered_still _ _ _ _ _ _ moves (scans_passed z b) (Contains m.rebalance.needed) n.most n.reached n.covered
+  still_covered : (b : Activity) (m : Local) (n : Needs z r b m) → IsCovered (Through z r') (scans_gone_by z b) (Contains m.rebalance.needed) n.most
+  still_covered b m n = covered_still _ _ _ _ _ _ moves (scans_gone_by z b) (Contains m.rebalance.needed) n.most n.reached n.covered
 
   -- so of a seat that does not act
-  pub needs_other : Contents z r → (t : ℕ) (k : Local) → t ≢ s → slice_get r.world.locals t ≡ Some k → HasPassedRow k.activity → Needs z r' k.activity k
-  needs_other c t k d g x = needs_on k.activity k.activity k k (passed_row z r i t k g x) refl n (still_covered k.activity k n) again
+  pub needs_other : Contents z r → (t : ℕ) (k : Local) → t ≢ s → slice_get r.world.locals t ≡ Some k → HasGoneByRow k.activity → Needs z r' k.activity k
+  needs_other c t k d g x = needs_on k.activity k.activity k k (gone_by_row z r i t k g x) refl n (still_covered k.activity k n) again
     where
       n : Needs z r k.activity k
       n = c.needs t k g x
@@ -172,11 +172,11 @@ module _ (z : Sizes) (r r' : Run) (s : ℕ) (choice : Choice) (l : Local) (a : A
 
   -- The acting seat.
 
-  -- after the event, where one more scan is passed that needs nothing but what is listed, or began
+  -- after the event, where one more scan is gone by that needs nothing but what is listed, or began
   -- to wait late
-  passes_one : (b : Activity) (m : Local) (listed : List ℕ) (passed : ℕ → Type 0) (j : ℕ) (n : Needs z r b m) → ((q : ℕ) → passed q → (q ≡ j) ⊎ scans_passed z b q) → ((u : ℕ) → Contains m.rebalance.needed u → Contains listed u) → ((u : ℕ) → Through z r' j u → Contains listed u) ⊎ (n.since < r'.ledger.waits j) →
-      IsCovered (Through z r') passed (Contains listed) n.most
-  passes_one b m listed passed j n seat old looked = passes_covered n.since r'.ledger.waits (Through z r') (scans_passed z b) passed (Contains m.rebalance.needed) (Contains listed) n.most j
+  goes_by_one : (b : Activity) (m : Local) (listed : List ℕ) (gone_by : ℕ → Type 0) (j : ℕ) (n : Needs z r b m) → ((q : ℕ) → gone_by q → (q ≡ j) ⊎ scans_gone_by z b q) → ((u : ℕ) → Contains m.rebalance.needed u → Contains listed u) → ((u : ℕ) → Through z r' j u → Contains listed u) ⊎ (n.since < r'.ledger.waits j) →
+      IsCovered (Through z r') gone_by (Contains listed) n.most
+  goes_by_one b m listed gone_by j n seat old looked = goes_by_covered n.since r'.ledger.waits (Through z r') (scans_gone_by z b) gone_by (Contains m.rebalance.needed) (Contains listed) n.most j
       (record { seat = seat; old = old; looked = looked })
       (late_still _ _ _ _ _ _ moves n.since n.most n.reached n.late)
       (still_covered b m n)
@@ -217,7 +217,7 @@ is_quiet : (z : Sizes) (r : Run) (j : ℕ) → Below z r → j < z.seats → (sc
 is_quiet z r j i o (inl e) = sym (scan_word_of _ Quiet e)
 is_quiet z r j i o (inr e) = absurd (subst IsKnownWord e (i.shape.sane.each (name.Scan j) o))
 
--- a scan that is passed as the last of those below a bound
+-- a scan that is gone by as the last of those below a bound
 below_or_last : (m n q : ℕ) → n ≤ m + 1 → q < n → (q ≡ m) ⊎ (q < m)
 below_or_last m n q o w = which (cases_lt q m)
   where
@@ -227,26 +227,26 @@ below_or_last m n q o w = which (cases_lt q m)
 
 -- The acting seat.
 
-module _ (z : Sizes) (r r' : Run) (s : ℕ) (choice : Choice) (l : Local) (a : Activity) (l' : Local) (h : Happens z r r' s choice l l' a) (i : Below z r) (st : Step r.history r'.history (log_entry z r a s choice l)) (c : Contents z r) (x : HasPassedRow a) where
+module _ (z : Sizes) (r r' : Run) (s : ℕ) (choice : Choice) (l : Local) (a : Activity) (l' : Local) (h : Happens z r r' s choice l l' a) (i : Below z r) (st : Step r.history r'.history (log_entry z r a s choice l)) (c : Contents z r) (x : HasGoneByRow a) where
   -- what it knew
   own_needs : Needs z r a l
-  own_needs = subst (λ b. Needs z r b l) h.activity (c.needs s l h.knows (subst HasPassedRow (sym h.activity) x))
+  own_needs = subst (λ b. Needs z r b l) h.activity (c.needs s l h.knows (subst HasGoneByRow (sym h.activity) x))
 
   -- its entries are settled
-  own_row : IsPassedRow z r l.row
-  own_row = passed_row z r i s l h.knows (subst HasPassedRow (sym h.activity) x)
+  own_row : IsGoneByRow z r l.row
+  own_row = gone_by_row z r i s l h.knows (subst HasGoneByRow (sym h.activity) x)
 
   -- the seat goes on to no scan, and to none that waits
   goes_on : (b : Activity) (k : Local) → k.row ≡ l.row → k.rebalance.needed ≡ l.rebalance.needed → needed_by z b ≡ needed_by z a → ((j : ℕ) → HelpsScan j b → ⊥) → Needs z r' b k
   goes_on b k e f g n = needs_on z r r' s choice l a l' h i st a b l k own_row e own_needs covered (λ j clock y. absurd (n j y))
     where
-      covered : IsCovered (Through z r') (scans_passed z b) (Contains k.rebalance.needed) own_needs.most
+      covered : IsCovered (Through z r') (scans_gone_by z b) (Contains k.rebalance.needed) own_needs.most
       covered j u p t = subst (λ xs. Contains xs u ⊎ (own_needs.most ≤ u)) (sym f) (still_covered z r r' s choice l a l' h i st a l own_needs j u (omega (arith, p, g)) t)
 
-  -- it has passed one more scan
-  passes_scan : (m : ℕ) (b : Activity) (k : Local) → k.row ≡ l.row → needed_by z a ≡ m → needed_by z b ≤ m + 1 → ((u : ℕ) → Contains l.rebalance.needed u → Contains k.rebalance.needed u) → ((u : ℕ) → Through z r' m u → Contains k.rebalance.needed u) ⊎ (own_needs.since < r'.ledger.waits m) → ((j : ℕ) → HelpsScan j b → ⊥) → Needs z r' b k
-  passes_scan m b k e f g old looked n = needs_on z r r' s choice l a l' h i st a b l k own_row e own_needs
-      (passes_one z r r' s choice l a l' h i st a l k.rebalance.needed (scans_passed z b) m own_needs seat old looked)
+  -- it has gone by one more scan
+  goes_by_scan : (m : ℕ) (b : Activity) (k : Local) → k.row ≡ l.row → needed_by z a ≡ m → needed_by z b ≤ m + 1 → ((u : ℕ) → Contains l.rebalance.needed u → Contains k.rebalance.needed u) → ((u : ℕ) → Through z r' m u → Contains k.rebalance.needed u) ⊎ (own_needs.since < r'.ledger.waits m) → ((j : ℕ) → HelpsScan j b → ⊥) → Needs z r' b k
+  goes_by_scan m b k e f g old looked n = needs_on z r r' s choice l a l' h i st a b l k own_row e own_needs
+      (goes_by_one z r r' s choice l a l' h i st a l k.rebalance.needed (scans_gone_by z b) m own_needs seat old looked)
       (λ j clock y. absurd (n j y))
     where
       seat : (q : ℕ) → q < needed_by z b → (q ≡ m) ⊎ (q < needed_by z a)
@@ -257,13 +257,13 @@ module _ (z : Sizes) (r r' : Run) (s : ℕ) (choice : Choice) (l : Local) (a : A
           which (inr y) = inr (omega (arith, y, f))
 
   -- which says what it needs, by one word
-  passes_drawn : (m version : ℕ) (b : Activity) (k : Local) → k.row ≡ l.row → k.rebalance.needed ≡ l.rebalance.needed ++ version ∷ [] → needed_by z a ≡ m → needed_by z b ≤ m + 1 → word z r'.world (name.Scan m) ≡ scan_word (Drawn version) → ((j : ℕ) → HelpsScan j b → ⊥) → Needs z r' b k
-  passes_drawn m version b k e needed f g w n = passes_scan m b k e f g (λ u y. subst (λ xs. Contains xs u) (sym needed) (Contains-append_left l.rebalance.needed (version ∷ []) u y))
+  goes_by_drawn : (m version : ℕ) (b : Activity) (k : Local) → k.row ≡ l.row → k.rebalance.needed ≡ l.rebalance.needed ++ version ∷ [] → needed_by z a ≡ m → needed_by z b ≤ m + 1 → word z r'.world (name.Scan m) ≡ scan_word (Drawn version) → ((j : ℕ) → HelpsScan j b → ⊥) → Needs z r' b k
+  goes_by_drawn m version b k e needed f g w n = goes_by_scan m b k e f g (λ u y. subst (λ xs. Contains xs u) (sym needed) (Contains-append_left l.rebalance.needed (version ∷ []) u y))
       (inl (λ u t. subst (λ xs. Contains xs u) (sym needed) (subst (Contains (l.rebalance.needed ++ version ∷ [])) (drawn_only z r' m u version w t) (Contains-push l.rebalance.needed version)))) n
 
   -- it needs nothing, by its word
-  passes_quiet : (m : ℕ) (b : Activity) (k : Local) → k.row ≡ l.row → k.rebalance.needed ≡ l.rebalance.needed → needed_by z a ≡ m → needed_by z b ≤ m + 1 → word z r'.world (name.Scan m) ≡ scan_word Quiet → ((j : ℕ) → HelpsScan j b → ⊥) → Needs z r' b k
-  passes_quiet m b k e needed f g w n = passes_scan m b k e f g (λ u y. subst (λ xs. Contains xs u) (sym needed) y) (inl (λ u t. absurd (quiet_none z r' m u w t))) n
+  goes_by_quiet : (m : ℕ) (b : Activity) (k : Local) → k.row ≡ l.row → k.rebalance.needed ≡ l.rebalance.needed → needed_by z a ≡ m → needed_by z b ≤ m + 1 → word z r'.world (name.Scan m) ≡ scan_word Quiet → ((j : ℕ) → HelpsScan j b → ⊥) → Needs z r' b k
+  goes_by_quiet m b k e needed f g w n = goes_by_scan m b k e f g (λ u y. subst (λ xs. Contains xs u) (sym needed) y) (inl (λ u t. absurd (quiet_none z r' m u w t))) n
 
 -- the seats that an activity names are seats
 own_seat : (z : Sizes) (r r' : Run) (s : ℕ) (choice : Choice) (l : Local) (a : Activity) (l' : Local) → Happens z r r' s choice l l' a → Below z r → IsActivity z a
@@ -275,17 +275,17 @@ module _ (z : Sizes) (r r' : Run) (s : ℕ) (choice : Choice) (l l' : Local) (m 
   left_alone d = not_exchanged _ _ _ _ h.changed.same d
 
   -- a scan that waits since another clock began to wait late
-  passes_none : (b : Activity) (k : Local) → k.row ≡ l.row → k.rebalance.needed ≡ l.rebalance.needed → needed_by z b ≤ m + 1 → IsNoScan l.rebalance.waiting (word z r.world (name.Scan m)) → ((j : ℕ) → HelpsScan j b → ⊥) → Needs z r' b k
-  passes_none b k e needed g w n = which (scan_of (word z r.world (name.Scan m))) refl
+  goes_by_none : (b : Activity) (k : Local) → k.row ≡ l.row → k.rebalance.needed ≡ l.rebalance.needed → needed_by z b ≤ m + 1 → IsNoScan l.rebalance.waiting (word z r.world (name.Scan m)) → ((j : ℕ) → HelpsScan j b → ⊥) → Needs z r' b k
+  goes_by_none b k e needed g w n = which (scan_of (word z r.world (name.Scan m))) refl
     where
       quiet : (scan_of (word z r.world (name.Scan m)) ≡ Some Quiet) ⊎ (scan_of (word z r.world (name.Scan m)) ≡ None) → Needs z r' b k
       quiet f =
           let q = is_quiet z r m i (own_seat z r r' s choice l (Activity.Rebalance (Rebalance.Freeze (Freeze.Settle m))) l' h i) f in
-          passes_quiet z r r' s choice l (Activity.Rebalance (Rebalance.Freeze (Freeze.Settle m))) l' h i st c tt m b k e needed refl g (left_alone (λ y. let x : scan_word Quiet ≡ scan_word (Waiting l.rebalance.waiting) = sym q ∙ y in omega (arith, x)) ∙ q) n
+          goes_by_quiet z r r' s choice l (Activity.Rebalance (Rebalance.Freeze (Freeze.Settle m))) l' h i st c tt m b k e needed refl g (left_alone (λ y. let x : scan_word Quiet ≡ scan_word (Waiting l.rebalance.waiting) = sym q ∙ y in omega (arith, x)) ∙ q) n
 
       waits : (clock : ℕ) → scan_of (word z r.world (name.Scan m)) ≡ Some (Waiting clock) → (clock ≡ l.rebalance.waiting) ⊎ ((own_needs z r r' s choice l (Activity.Rebalance (Rebalance.Freeze (Freeze.Settle m))) l' h i st c tt).since < r.ledger.waits m) → Needs z r' b k
       waits clock f (inl y) = absurd (w.waiting (f ∙ ap (λ v. Some (Waiting v)) y))
-      waits clock f (inr y) = passes_scan z r r' s choice l (Activity.Rebalance (Rebalance.Freeze (Freeze.Settle m))) l' h i st c tt m b k e refl g (λ u v. subst (λ xs. Contains xs u) (sym needed) v) (inr (omega (arith, y, waits_stay z r r' s choice l (Activity.Rebalance (Rebalance.Freeze (Freeze.Settle m))) l' h m (λ v t. cc)))) n
+      waits clock f (inr y) = goes_by_scan z r r' s choice l (Activity.Rebalance (Rebalance.Freeze (Freeze.Settle m))) l' h i st c tt m b k e refl g (λ u v. subst (λ xs. Contains xs u) (sym needed) v) (inr (omega (arith, y, waits_stay z r r' s choice l (Activity.Rebalance (Rebalance.Freeze (Freeze.Settle m))) l' h m (λ v t. cc)))) n
 
       which : (o : Option ScanWord) → scan_of (word z r.world (name.Scan m)) ≡ o → Needs z r' b k
       which None f = quiet (inr f)
@@ -294,14 +294,14 @@ module _ (z : Sizes) (r r' : Run) (s : ℕ) (choice : Choice) (l l' : Local) (m 
       which (Some (Drawn version)) f = absurd (w.drawn version f)
 
   -- one that waits as the seat found it has now what was drawn for it
-  passes_helped : (b : Activity) (k : Local) → k.row ≡ l.row → k.rebalance.needed ≡ l.rebalance.needed ++ l.rebalance.drawn ∷ [] → needed_by z b ≤ m + 1 → scan_of (word z r.world (name.Scan m)) ≡ Some (Waiting l.rebalance.waiting) → ((j : ℕ) → HelpsScan j b → ⊥) → Needs z r' b k
-  passes_helped b k e needed g w n = passes_drawn z r r' s choice l (Activity.Rebalance (Rebalance.Freeze (Freeze.Settle m))) l' h i st c tt m l.rebalance.drawn b k e needed refl g (exchanged _ _ _ _ h.changed.same (sym (scan_word_of _ (Waiting l.rebalance.waiting) w))) n
+  goes_by_helped : (b : Activity) (k : Local) → k.row ≡ l.row → k.rebalance.needed ≡ l.rebalance.needed ++ l.rebalance.drawn ∷ [] → needed_by z b ≤ m + 1 → scan_of (word z r.world (name.Scan m)) ≡ Some (Waiting l.rebalance.waiting) → ((j : ℕ) → HelpsScan j b → ⊥) → Needs z r' b k
+  goes_by_helped b k e needed g w n = goes_by_drawn z r r' s choice l (Activity.Rebalance (Rebalance.Freeze (Freeze.Settle m))) l' h i st c tt m l.rebalance.drawn b k e needed refl g (exchanged _ _ _ _ h.changed.same (sym (scan_word_of _ (Waiting l.rebalance.waiting) w))) n
 
   -- one that has drawn keeps it
-  passes_found : (version : ℕ) (b : Activity) (k : Local) → k.row ≡ l.row → k.rebalance.needed ≡ l.rebalance.needed ++ version ∷ [] → needed_by z b ≤ m + 1 → scan_of (word z r.world (name.Scan m)) ≡ Some (Drawn version) → ((j : ℕ) → HelpsScan j b → ⊥) → Needs z r' b k
-  passes_found version b k e needed g w n =
+  goes_by_found : (version : ℕ) (b : Activity) (k : Local) → k.row ≡ l.row → k.rebalance.needed ≡ l.rebalance.needed ++ version ∷ [] → needed_by z b ≤ m + 1 → scan_of (word z r.world (name.Scan m)) ≡ Some (Drawn version) → ((j : ℕ) → HelpsScan j b → ⊥) → Needs z r' b k
+  goes_by_found version b k e needed g w n =
       let q = sym (scan_word_of _ (Drawn version) w) in
-      passes_drawn z r r' s choice l (Activity.Rebalance (Rebalance.Freeze (Freeze.Settle m))) l' h i st c tt m version b k e needed refl g (left_alone (λ y. let x : scan_word (Drawn version) ≡ scan_word (Waiting l.rebalance.waiting) = sym q ∙ y in omega (arith, x)) ∙ q) n
+      goes_by_drawn z r r' s choice l (Activity.Rebalance (Rebalance.Freeze (Freeze.Settle m))) l' h i st c tt m version b k e needed refl g (left_alone (λ y. let x : scan_word (Drawn version) ≡ scan_word (Waiting l.rebalance.waiting) = sym q ∙ y in omega (arith, x)) ∙ q) n
 
 module _ (z : Sizes) (r r' : Run) (s : ℕ) (choice : Choice) (l l' : Local) (m : ℕ) (h : Happens z r r' s choice l l' (Activity.Rebalance (Rebalance.Freeze (Freeze.Scan m)))) (i : Below z r) (st : Step r.history r'.history (log_entry z r (Activity.Rebalance (Rebalance.Freeze (Freeze.Scan m))) s choice l)) (c : Contents z r) where
   -- a look leaves the word
@@ -310,28 +310,28 @@ module _ (z : Sizes) (r r' : Run) (s : ℕ) (choice : Choice) (l l' : Local) (m 
 
   -- a scan that is not at work needs nothing
   looks_quiet : (b : Activity) (k : Local) → k.row ≡ l.row → k.rebalance.needed ≡ l.rebalance.needed → needed_by z b ≤ m + 1 → (scan_of (word z r.world (name.Scan m)) ≡ Some Quiet) ⊎ (scan_of (word z r.world (name.Scan m)) ≡ None) → ((j : ℕ) → HelpsScan j b → ⊥) → Needs z r' b k
-  looks_quiet b k e needed g w n = passes_quiet z r r' s choice l (Activity.Rebalance (Rebalance.Freeze (Freeze.Scan m))) l' h i st c tt m b k e needed refl g (same_word ∙ is_quiet z r m i (own_seat z r r' s choice l (Activity.Rebalance (Rebalance.Freeze (Freeze.Scan m))) l' h i) w) n
+  looks_quiet b k e needed g w n = goes_by_quiet z r r' s choice l (Activity.Rebalance (Rebalance.Freeze (Freeze.Scan m))) l' h i st c tt m b k e needed refl g (same_word ∙ is_quiet z r m i (own_seat z r r' s choice l (Activity.Rebalance (Rebalance.Freeze (Freeze.Scan m))) l' h i) w) n
 
   -- one that has drawn needs that version
   looks_drawn : (version : ℕ) (b : Activity) (k : Local) → k.row ≡ l.row → k.rebalance.needed ≡ l.rebalance.needed ++ version ∷ [] → needed_by z b ≤ m + 1 → scan_of (word z r.world (name.Scan m)) ≡ Some (Drawn version) → ((j : ℕ) → HelpsScan j b → ⊥) → Needs z r' b k
-  looks_drawn version b k e needed g w n = passes_drawn z r r' s choice l (Activity.Rebalance (Rebalance.Freeze (Freeze.Scan m))) l' h i st c tt m version b k e needed refl g (same_word ∙ sym (scan_word_of _ (Drawn version) w)) n
+  looks_drawn version b k e needed g w n = goes_by_drawn z r r' s choice l (Activity.Rebalance (Rebalance.Freeze (Freeze.Scan m))) l' h i st c tt m version b k e needed refl g (same_word ∙ sym (scan_word_of _ (Drawn version) w)) n
 
--- a seat that builds after the event had passed its row, and needs as many scans
-built_passed : {z : Sizes} {v : Words} {choice : Choice} {l : Local} (a : Activity) (k : Local) → Building z v choice l a k → HasPassedRow k.activity → HasPassedRow a
-built_passed a k (makes_normal o) x = absurd x
-built_passed a k (makes_last_normal o) x = absurd x
-built_passed a k draws_number x = absurd x
-built_passed a k (retires_row nd) x = absurd x
-built_passed a k (retires_and_leaves dn) x = absurd x
-built_passed a k b x = tt
+-- a seat that builds after the event had gone by its row, and needs as many scans
+built_gone_by : {z : Sizes} {v : Words} {choice : Choice} {l : Local} (a : Activity) (k : Local) → Building z v choice l a k → HasGoneByRow k.activity → HasGoneByRow a
+built_gone_by a k (makes_normal o) x = absurd x
+built_gone_by a k (makes_last_normal o) x = absurd x
+built_gone_by a k draws_number x = absurd x
+built_gone_by a k (retires_row nd) x = absurd x
+built_gone_by a k (retires_and_leaves dn) x = absurd x
+built_gone_by a k b x = tt
 
 -- such a seat builds
-after_passed : (a : Activity) → IsAfterBuilding a → HasPassedRow a → IsBuilding a
-after_passed Activity.Retry n x = absurd x
-after_passed (Activity.Rebalance (Rebalance.Engage Engage.Clock)) n x = absurd x
-after_passed (Activity.Leave answer) n x = absurd x
-after_passed (Activity.Rebalance (Rebalance.Freeze Freeze.Count)) n x = n
-after_passed _ n x = n
+after_gone_by : (a : Activity) → IsAfterBuilding a → HasGoneByRow a → IsBuilding a
+after_gone_by Activity.Retry n x = absurd x
+after_gone_by (Activity.Rebalance (Rebalance.Engage Engage.Clock)) n x = absurd x
+after_gone_by (Activity.Leave answer) n x = absurd x
+after_gone_by (Activity.Rebalance (Rebalance.Freeze Freeze.Count)) n x = n
+after_gone_by _ n x = n
 
 -- it has looked at all scans
 built_needed : (z : Sizes) (a : Activity) → IsBuilding a → needed_by z a ≡ z.seats
@@ -360,30 +360,30 @@ still_again z r r' s choice l l' m h i st c clock w j e = which ((own_needs z r 
     which (inr y) = inr (omega (arith, y, ap r.ledger.waits e, waits_stay z r r' s choice l (Activity.Rebalance (Rebalance.Freeze (Freeze.Draw m))) l' h j (λ v t. cc)))
 
 -- what the acting seat knows
-needs_by : (z : Sizes) (r r' : Run) (s : ℕ) (choice : Choice) (l : Local) (a : Activity) (l' : Local) → Arrow z (word z r.world) s choice l a l' → Happens z r r' s choice l l' a → Below z r → Step r.history r'.history (log_entry z r a s choice l) → Below z r' → Contents z r → HasPassedRow l'.activity → Needs z r' l'.activity l'
+needs_by : (z : Sizes) (r r' : Run) (s : ℕ) (choice : Choice) (l : Local) (a : Activity) (l' : Local) → Arrow z (word z r.world) s choice l a l' → Happens z r r' s choice l l' a → Below z r → Step r.history r'.history (log_entry z r a s choice l) → Below z r' → Contents z r → HasGoneByRow l'.activity → Needs z r' l'.activity l'
 needs_by z r r' s choice l a l' (builds b next y t) h i st after c x =
-    let k = built_keeps z (word z r.world) choice l a l' t (after_passed l'.activity (built_goes z (word z r.world) choice l a l' t).next x) in
-    let d = after_passed l'.activity (built_goes z (word z r.world) choice l a l' t).next x in
-    goes_on z r r' s choice l a l' h i st c (built_passed a l' t x) l'.activity l' k.row k.needed (built_needed z l'.activity d ∙ sym (built_needed z a y)) (λ j. built_helps j l'.activity d)
+    let k = built_keeps z (word z r.world) choice l a l' t (after_gone_by l'.activity (built_goes z (word z r.world) choice l a l' t).next x) in
+    let d = after_gone_by l'.activity (built_goes z (word z r.world) choice l a l' t).next x in
+    goes_on z r r' s choice l a l' h i st c (built_gone_by a l' t x) l'.activity l' k.row k.needed (built_needed z l'.activity d ∙ sym (built_needed z a y)) (λ j. built_helps j l'.activity d)
 needs_by z r r' s choice l a l' (remembers_last m n version e u) h i st after c x = needs_start z r r' s choice l a l' h i st after c (λ y. cc) refl
-needs_by z r r' s choice l a l' (meets_frozen_last m e u) h i st after c x = needs_start z r r' s choice l a l' h i st after c (λ y. cc) refl
+needs_by z r r' s choice l a l' (sees_frozen_last m e u) h i st after c x = needs_start z r r' s choice l a l' h i st after c (λ y. cc) refl
 needs_by z r r' s choice l a l' (freezes_last m e u) h i st after c x = needs_start z r r' s choice l a l' h i st after c (λ y. cc) refl
-needs_by z r r' s choice l a l' (meets_quiet m e u) h i st after c x = looks_quiet z r r' s choice l l' m h i st c (Activity.Rebalance (Rebalance.Freeze (Freeze.Scan (m + 1)))) l' refl refl (omega arith) e (λ j y. y)
-needs_by z r r' s choice l a l' (meets_quiet_last m e u) h i st after c x = looks_quiet z r r' s choice l l' m h i st c (Activity.Rebalance (Rebalance.Gather Gather.Link)) l' refl refl u e (λ j y. y)
+needs_by z r r' s choice l a l' (sees_quiet m e u) h i st after c x = looks_quiet z r r' s choice l l' m h i st c (Activity.Rebalance (Rebalance.Freeze (Freeze.Scan (m + 1)))) l' refl refl (omega arith) e (λ j y. y)
+needs_by z r r' s choice l a l' (sees_quiet_last m e u) h i st after c x = looks_quiet z r r' s choice l l' m h i st c (Activity.Rebalance (Rebalance.Gather Gather.Link)) l' refl refl u e (λ j y. y)
 needs_by z r r' s choice l a l' (helps_scan m clock e) h i st after c x = needs_on z r r' s choice l a l' h i st a (Activity.Rebalance (Rebalance.Freeze (Freeze.Draw m))) l l' (own_row z r r' s choice l a l' h i st c tt) refl (own_needs z r r' s choice l a l' h i st c tt)
     (still_covered z r r' s choice l a l' h i st a l (own_needs z r r' s choice l a l' h i st c tt))
     (λ j n y w. inl (waits_since clock n (scan_word_of _ (Waiting clock) e ∙ sym (h.changed.loaded refl (name.Scan m)) ∙ subst (λ q. word z r'.world (name.Scan q) ≡ scan_word (Waiting n)) y w)))
-needs_by z r r' s choice l a l' (meets_drawn m version e u) h i st after c x = looks_drawn z r r' s choice l l' m h i st c version (Activity.Rebalance (Rebalance.Freeze (Freeze.Scan (m + 1)))) l' refl refl (omega arith) e (λ j y. y)
-needs_by z r r' s choice l a l' (meets_drawn_last m version e u) h i st after c x = looks_drawn z r r' s choice l l' m h i st c version (Activity.Rebalance (Rebalance.Gather Gather.Link)) l' refl refl u e (λ j y. y)
+needs_by z r r' s choice l a l' (sees_drawn m version e u) h i st after c x = looks_drawn z r r' s choice l l' m h i st c version (Activity.Rebalance (Rebalance.Freeze (Freeze.Scan (m + 1)))) l' refl refl (omega arith) e (λ j y. y)
+needs_by z r r' s choice l a l' (sees_drawn_last m version e u) h i st after c x = looks_drawn z r r' s choice l l' m h i st c version (Activity.Rebalance (Rebalance.Gather Gather.Link)) l' refl refl u e (λ j y. y)
 needs_by z r r' s choice l a l' (draws_for m) h i st after c x = needs_on z r r' s choice l a l' h i st a (Activity.Rebalance (Rebalance.Freeze (Freeze.Settle m))) l l' (own_row z r r' s choice l a l' h i st c tt) refl (own_needs z r r' s choice l a l' h i st c tt)
     (still_covered z r r' s choice l a l' h i st a l (own_needs z r r' s choice l a l' h i st c tt))
     (λ j n y w. still_again z r r' s choice l l' m h i st c n (subst (λ q. word z r'.world (name.Scan q) ≡ scan_word (Waiting n)) y w) j y)
-needs_by z r r' s choice l a l' (settles_scan m e u) h i st after c x = passes_helped z r r' s choice l l' m h i st c (Activity.Rebalance (Rebalance.Freeze (Freeze.Scan (m + 1)))) l' refl refl (omega arith) e (λ j y. y)
-needs_by z r r' s choice l a l' (settles_last m e u) h i st after c x = passes_helped z r r' s choice l l' m h i st c (Activity.Rebalance (Rebalance.Gather Gather.Link)) l' refl refl u e (λ j y. y)
-needs_by z r r' s choice l a l' (finds_drawn m version e u) h i st after c x = passes_found z r r' s choice l l' m h i st c version (Activity.Rebalance (Rebalance.Freeze (Freeze.Scan (m + 1)))) l' refl refl (omega arith) e (λ j y. y)
-needs_by z r r' s choice l a l' (finds_drawn_last m version e u) h i st after c x = passes_found z r r' s choice l l' m h i st c version (Activity.Rebalance (Rebalance.Gather Gather.Link)) l' refl refl u e (λ j y. y)
-needs_by z r r' s choice l a l' (finds_no_scan m e u) h i st after c x = passes_none z r r' s choice l l' m h i st c (Activity.Rebalance (Rebalance.Freeze (Freeze.Scan (m + 1)))) l' refl refl (omega arith) e (λ j y. y)
-needs_by z r r' s choice l a l' (finds_no_scan_last m e u) h i st after c x = passes_none z r r' s choice l l' m h i st c (Activity.Rebalance (Rebalance.Gather Gather.Link)) l' refl refl u e (λ j y. y)
+needs_by z r r' s choice l a l' (settles_scan m e u) h i st after c x = goes_by_helped z r r' s choice l l' m h i st c (Activity.Rebalance (Rebalance.Freeze (Freeze.Scan (m + 1)))) l' refl refl (omega arith) e (λ j y. y)
+needs_by z r r' s choice l a l' (settles_last m e u) h i st after c x = goes_by_helped z r r' s choice l l' m h i st c (Activity.Rebalance (Rebalance.Gather Gather.Link)) l' refl refl u e (λ j y. y)
+needs_by z r r' s choice l a l' (finds_drawn m version e u) h i st after c x = goes_by_found z r r' s choice l l' m h i st c version (Activity.Rebalance (Rebalance.Freeze (Freeze.Scan (m + 1)))) l' refl refl (omega arith) e (λ j y. y)
+needs_by z r r' s choice l a l' (finds_drawn_last m version e u) h i st after c x = goes_by_found z r r' s choice l l' m h i st c version (Activity.Rebalance (Rebalance.Gather Gather.Link)) l' refl refl u e (λ j y. y)
+needs_by z r r' s choice l a l' (finds_no_scan m e u) h i st after c x = goes_by_none z r r' s choice l l' m h i st c (Activity.Rebalance (Rebalance.Freeze (Freeze.Scan (m + 1)))) l' refl refl (omega arith) e (λ j y. y)
+needs_by z r r' s choice l a l' (finds_no_scan_last m e u) h i st after c x = goes_by_none z r r' s choice l l' m h i st c (Activity.Rebalance (Rebalance.Gather Gather.Link)) l' refl refl u e (λ j y. y)
 needs_by z r r' s choice l a l' (take_leads n e) h i st after c x = goes_on z r r' s choice l a l' h i st c tt _ l' refl refl refl (λ j y. y)
 needs_by z r r' s choice l a l' (takes_left m e u) h i st after c x = goes_on z r r' s choice l a l' h i st c tt _ l' refl refl refl (λ j y. y)
 needs_by z r r' s choice l a l' (takes_no_more e u) h i st after c x = goes_on z r r' s choice l a l' h i st c tt _ l' refl refl refl (λ j y. y)
@@ -393,18 +393,18 @@ needs_by z r r' s choice l a l' keeps_taken h i st after c x = goes_on z r r' s 
 needs_by z r r' s choice l a l' takes_left_key h i st after c x = goes_on z r r' s choice l a l' h i st c tt _ l' refl refl refl (λ j y. y)
 needs_by z r r' s choice l a l' (keeps_left m e) h i st after c x = goes_on z r r' s choice l a l' h i st c tt _ l' refl refl refl (λ j y. y)
 needs_by z r r' s choice l a l' (keeps_no_more e) h i st after c x = goes_on z r r' s choice l a l' h i st c tt _ l' refl refl refl (λ j y. y)
-needs_by z r r' s choice l a l' (meets_stamped j n version next e f) h i st after c x = absurd (look_freezes z _ next f (passed_frozen next x))
-needs_by z r r' s choice l a l' (meets_neither j next e f) h i st after c x = absurd (look_freezes z _ next f (passed_frozen next x))
-needs_by z r r' s choice l a l' (is_passed next e f) h i st after c x = absurd (look_freezes z _ next f (passed_frozen next x))
-needs_by z r r' s choice l a l' (helps next e f) h i st after c x = absurd (look_freezes z _ next f (passed_frozen next x))
-needs_by z r r' s choice l a l' (finds_stamped n version next e f) h i st after c x = absurd (look_freezes z _ next f (passed_frozen next x))
-needs_by z r r' s choice l a l' (finds_other next e f) h i st after c x = absurd (look_freezes z _ next f (passed_frozen next x))
-needs_by z r r' s choice l a l' (list_ends next e f) h i st after c x = absurd (rest_freezes _ next f (passed_frozen next.activity x))
-needs_by z r r' s choice l a l' (key_above next e f) h i st after c x = absurd (rest_freezes _ next f (passed_frozen next.activity x))
-needs_by z r r' s choice l a l' (rest_passed next e f) h i st after c x = absurd (rest_freezes _ next f (passed_frozen next.activity x))
-needs_by z r r' s choice l a l' (gathers_rest next f) h i st after c x = absurd (rest_freezes _ next f (passed_frozen next.activity x))
+needs_by z r r' s choice l a l' (sees_stamped j n version next e f) h i st after c x = absurd (look_freezes z _ next f (gone_by_frozen next x))
+needs_by z r r' s choice l a l' (sees_neither j next e f) h i st after c x = absurd (look_freezes z _ next f (gone_by_frozen next x))
+needs_by z r r' s choice l a l' (is_gone_by next e f) h i st after c x = absurd (look_freezes z _ next f (gone_by_frozen next x))
+needs_by z r r' s choice l a l' (helps next e f) h i st after c x = absurd (look_freezes z _ next f (gone_by_frozen next x))
+needs_by z r r' s choice l a l' (finds_stamped n version next e f) h i st after c x = absurd (look_freezes z _ next f (gone_by_frozen next x))
+needs_by z r r' s choice l a l' (finds_other next e f) h i st after c x = absurd (look_freezes z _ next f (gone_by_frozen next x))
+needs_by z r r' s choice l a l' (list_ends next e f) h i st after c x = absurd (left_over_freezes _ next f (gone_by_frozen next.activity x))
+needs_by z r r' s choice l a l' (key_above next e f) h i st after c x = absurd (left_over_freezes _ next f (gone_by_frozen next.activity x))
+needs_by z r r' s choice l a l' (left_over_gone_by next e f) h i st after c x = absurd (left_over_freezes _ next f (gone_by_frozen next.activity x))
+needs_by z r r' s choice l a l' (gathers_left_over next f) h i st after c x = absurd (left_over_freezes _ next f (gone_by_frozen next.activity x))
 needs_by z r r' s choice l a l' b h i st after c x = absurd x
 
 -- so the acting seat knows it after its event
-pub needs_own : (z : Sizes) (r r' : Run) (s : ℕ) (choice : Choice) (l : Local) (a : Activity) (l' : Local) → Happens z r r' s choice l l' a → Below z r → Step r.history r'.history (log_entry z r a s choice l) → Below z r' → Contents z r → HasPassedRow l'.activity → Needs z r' l'.activity l'
+pub needs_own : (z : Sizes) (r r' : Run) (s : ℕ) (choice : Choice) (l : Local) (a : Activity) (l' : Local) → Happens z r r' s choice l l' a → Below z r → Step r.history r'.history (log_entry z r a s choice l) → Below z r' → Contents z r → HasGoneByRow l'.activity → Needs z r' l'.activity l'
 needs_own z r r' s choice l a l' h i st after c x = needs_by z r r' s choice l a l' h.arrow h i st after c x

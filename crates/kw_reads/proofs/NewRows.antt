@@ -122,10 +122,10 @@ module _ (built : ℕ) (l : Local) (plan : IsPlan built l) where
 -- The row that is linked now.
 
 -- what stands at a place of a list is in it
-row_of_place : (xs : List ℕ) (n q : ℕ) → slice_get xs n ≡ Some q → IsIn xs q
-row_of_place [] n q e = let x : None ≡ Some q = e in absurd (cc)
-row_of_place (x ∷ xs) zero q e = inl (sym (same_Some x q e))
-row_of_place (x ∷ xs) (suc n) q e = inr (row_of_place xs n q e)
+row_of_index : (xs : List ℕ) (n q : ℕ) → slice_get xs n ≡ Some q → IsIn xs q
+row_of_index [] n q e = let x : None ≡ Some q = e in absurd (cc)
+row_of_index (x ∷ xs) zero q e = inl (sym (same_Some x q e))
+row_of_index (x ∷ xs) (suc n) q e = inr (row_of_index xs n q e)
 
 module _ {z : Sizes} {r r' : Run} {s : ℕ} {choice : Choice} {l l' : Local} (h : Happens z r r' s choice l l' (Activity.Rebalance (Rebalance.Replace Replace.Exchange))) (i : Shape z r) (n q : ℕ) (e : slice_get l.rebalance.taken n ≡ Some q) where
   -- its link leads to the next of the new rows, or to the row after the full one
@@ -155,7 +155,7 @@ module _ {z : Sizes} {r r' : Run} {s : ℕ} {choice : Choice} {l l' : Local} (h 
             omega (arith, t, key_below (Some b) (ap (λ a. row_or a l.rebalance.after) y ∙ f) b refl)
         under (Some b) f u g (Some p) y =
             let t = same_Some (least_in (word z r.world) b) u (sym (ap (bound (rows_in (word z r.world))) f) ∙ g) in
-            omega (arith, t, key_below (Some p) (ap (λ a. row_or a l.rebalance.after) y) p refl, (may_replace h i).below p b (row_of_place l.rebalance.taken (n + 1) p y) f)
+            omega (arith, t, key_below (Some p) (ap (λ a. row_or a l.rebalance.after) y) p refl, (may_replace h i).below p b (row_of_index l.rebalance.taken (n + 1) p y) f)
 
     -- and all kept cells of the key are in the row
     pub cell_in_new : (c : Cell) → Contains l.rebalance.kept c → c.key ≡ k → Contains (infant_cells (at_infant n l)) c

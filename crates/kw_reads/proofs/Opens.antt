@@ -45,7 +45,7 @@ module _ (z : Sizes) (o : Opening) (i : IsOpening z o) where
     older = older_start z o i;
     kept = kept_start z o i;
     dead = dead_start z o i;
-    later = each_rests z o (λ t l. IsLater (start z o).ledger.rows (floor_of (start z o) t l) l.activity l) (λ t. record { row = λ x. absurd x; met = λ x. absurd x; next = λ x. absurd x });
+    later = each_rests z o (λ t l. IsLater (start z o).ledger.rows (floor_of (start z o) t l) l.activity l) (λ t. record { row = λ x. absurd x; saw = λ x. absurd x; next = λ x. absurd x });
     needs = needs_start z o i;
     front = each_rests z o (λ t l. IsReading l.activity → IsFronted z (start z o) l.row (version_of l) (floor_of (start z o) t l) no_log.looked) (λ t x. absurd x);
   }

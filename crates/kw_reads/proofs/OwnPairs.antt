@@ -24,7 +24,7 @@ use Rattle.kw_core.specs.Grows.{Grows}
 use Rattle.kw_core.specs.History.{History, called}
 use Rattle.kw_core.specs.Run.{Run, is_at_cell, best_id}
 use Rattle.kw_core.specs.declared.seat_log.SeatLog.{SeatLog}
-use Rattle.kw_core.specs.Stages.{IsAtRow, IsPassing, IsPastStart, IsCovering, IsEarly, IsReading, IsKeeping, IsSettling, IsUnderway}
+use Rattle.kw_core.specs.Stages.{IsAtRow, IsVisiting, IsPastStart, IsCovering, IsEarly, IsReading, IsKeeping, IsSettling, IsUnderway}
 use Rattle.kw_core.specs.Words.{Words, least_in}
 use Rattle.kw_shape.specs.Shape.{IsAtItsRow, IsPutCall, IsScanCall}
 use Rattle.kw_reads.specs.Readers.{AreCopies, IsDue, Readers}
@@ -36,7 +36,7 @@ use Rattle.kw_rows.specs.Ledger.{Ledger}
 use Rattle.kw_shape.proofs.RelyRows.{row_stable}
 use Rattle.kw_shape.proofs.RowsKeep.{own_rely}
 use Rattle.kw_core.proofs.Happens.{Happens, knows_next}
-use Rattle.kw_core.proofs.Arrows.{NextRest, rests, answers, ends_scan, scans_on, Arrow, not_below, below}
+use Rattle.kw_core.proofs.Arrows.{NextLeftOver, goes_to_left_over, answers, ends_scan, scans_on, Arrow, not_below, below}
 use Rattle.kw_core.proofs.SeatLogs.{IsEnding, read_to_end}
 use Rattle.kw_shape.proofs.NextCalls.{arrow_call}
 use Rattle.kw_puts.proofs.OwnScans.{call_first, drawn_kept, looked_kept, was_scan, drawn_underway, not_idle_drawn, covering_draws, settled_from, covering_settled, draws_no_more, reading_draws}
@@ -97,13 +97,13 @@ same_at v g t l m q x = record {
       record { fresh = k.fresh; least = q.upper ∙ k.least; ends = rw (q.row, q.upper) k.ends; below = rw (q.want, q.upper) k.below };
 }
 
--- a reader at the end of its row is in its pass
-ending_passes : (a : Activity) → IsEnding a → IsPassing a × (WritesPass a → ⊥)
-ending_passes (Activity.Read Read.Link) x = (tt, λ y. y)
-ending_passes (Activity.Read Read.Key) x = (tt, λ y. y)
-ending_passes (Activity.Read Read.LeftOverKey) x = (tt, λ y. y)
-ending_passes (Activity.Read Read.LeftOverValue) x = (tt, λ y. y)
-ending_passes _ x = absurd x
+-- a reader at the end of its row is in its visit
+ending_visits : (a : Activity) → IsEnding a → IsVisiting a × (WritesPass a → ⊥)
+ending_visits (Activity.Read Read.Link) x = (tt, λ y. y)
+ending_visits (Activity.Read Read.Key) x = (tt, λ y. y)
+ending_visits (Activity.Read Read.LeftOverKey) x = (tt, λ y. y)
+ending_visits (Activity.Read Read.LeftOverValue) x = (tt, λ y. y)
+ending_visits _ x = absurd x
 
 module _ (z : Sizes) (r r' : Run) (s : ℕ) (choice : Choice) (l : Local) (a : Activity) (l' : Local) (b : Arrow z (word z r.world) s choice l a l') (h : Happens z r r' s choice l l' a) (i : Before z r r') where
   -- the event of the record
@@ -117,7 +117,7 @@ module _ (z : Sizes) (r r' : Run) (s : ℕ) (choice : Choice) (l : Local) (a : A
   -- it was at its row, and is so with the words after the event
   at_row : IsEnding a → IsAtItsRow (word z r'.world) r'.ledger.rows s l
   at_row x =
-      let p = ending_passes a x in
+      let p = ending_visits a x in
       row_stable _ _ _ _ s (own_rely z r r' s choice l a l' h i.inv.shape p.0 p.1) l ((i.inv.shape.walks s l h.knows).at (subst IsAtRow (sym h.activity) (ending_reads a x).2))
 
   -- the row that a reader has read
@@ -231,8 +231,8 @@ get_row : (z : Sizes) (r : Run) (t : ℕ) (m : Local) → is_scan m.call ≡ fal
 get_row z r t m e k = subst (λ v. HasReadRow z r t m (r.seats t) v (called r.history (r.seats t).call).first) (rw e refl) (subst (HasReadRow z r t m (r.seats t) (version_of m)) (rw e refl) k)
 
 -- a reader that goes on to a remembered cell, or has read its row
-pub cell_pairs : (z : Sizes) (r r' : Run) (s : ℕ) (choice : Choice) (l : Local) (a : Activity) (m : Local) (l' : Local) → Arrow z (word z r.world) s choice l a l' → Happens z r r' s choice l l' a → Before z r r' → Readers z r' → Contents z r' → IsEnding a → SameRead l m → NextRest m l' → HasPairs r'.history l'.activity l' (r'.seats s)
-cell_pairs z r r' s choice l a m l' b h i n v x q (rests c w) = stays z r r' s choice l a l' b h i q.want q.pairs (ending_no_settling a x) (λ y. absurd y) tt
+pub cell_pairs : (z : Sizes) (r r' : Run) (s : ℕ) (choice : Choice) (l : Local) (a : Activity) (m : Local) (l' : Local) → Arrow z (word z r.world) s choice l a l' → Happens z r r' s choice l l' a → Before z r r' → Readers z r' → Contents z r' → IsEnding a → SameRead l m → NextLeftOver m l' → HasPairs r'.history l'.activity l' (r'.seats s)
+cell_pairs z r r' s choice l a m l' b h i n v x q (goes_to_left_over c w) = stays z r r' s choice l a l' b h i q.want q.pairs (ending_no_settling a x) (λ y. absurd y) tt
 cell_pairs z r r' s choice l a m l' b h i n v x q (answers w e) = record { early = λ y. absurd y; from = λ f y. absurd y; upto = λ f y. absurd y; covers = λ f y. absurd y; covered = found_covered _ r'.history l' (r'.seats s) }
 cell_pairs z r r' s choice l a m l' b h i n v x q (ends_scan w e f) = record { early = λ y. absurd y; from = λ f y. absurd y; upto = λ f y. absurd y; covers = λ f y. absurd y; covered = covered }
   where
@@ -310,8 +310,8 @@ scan_call_answered (Some (Scan from upto)) answer h l g x = tt
 scan_call_answered None answer h l g x = tt
 
 -- a reader that goes on to a remembered cell, or has read its row
-pub cell_answered : (z : Sizes) (r r' : Run) (s : ℕ) (choice : Choice) (l : Local) (a : Activity) (m : Local) (l' : Local) → Arrow z (word z r.world) s choice l a l' → Happens z r r' s choice l l' a → Before z r r' → Readers z r' → Contents z r' → IsEnding a → SameRead l m → NextRest m l' → IsAnswered l'.activity l'.call r'.history l' (r'.seats s)
-cell_answered z r r' s choice l a m l' b h i n v x q (rests c w) = tt
+pub cell_answered : (z : Sizes) (r r' : Run) (s : ℕ) (choice : Choice) (l : Local) (a : Activity) (m : Local) (l' : Local) → Arrow z (word z r.world) s choice l a l' → Happens z r r' s choice l l' a → Before z r r' → Readers z r' → Contents z r' → IsEnding a → SameRead l m → NextLeftOver m l' → IsAnswered l'.activity l'.call r'.history l' (r'.seats s)
+cell_answered z r r' s choice l a m l' b h i n v x q (goes_to_left_over c w) = tt
 cell_answered z r r' s choice l a m l' b h i n v x q (ends_scan w e f) = tt
 cell_answered z r r' s choice l a m l' b h i n v x q (scans_on k w e f o) = tt
 cell_answered z r r' s choice l a m l' b h i n v x q (answers w e) = which m.call refl

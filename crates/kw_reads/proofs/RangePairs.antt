@@ -42,11 +42,11 @@ value_first k (p ∷ m) n e = ap (λ x. if k == p.0 then Some p.1 else x) (value
 -- and where the first list has none
 pub value_second : (k : ℕ) (m n : List (ℕ × ℕ)) → value_of k m ≡ None → value_of k (m ++ n) ≡ value_of k n
 value_second k [] n e = refl
-value_second k (p ∷ m) n e = met (k == p.0) (λ f. value_second k m n f) e
+value_second k (p ∷ m) n e = saw (k == p.0) (λ f. value_second k m n f) e
   where
-    met : (b : Bool) → (value_of k m ≡ None → value_of k (m ++ n) ≡ value_of k n) → (if b then Some p.1 else value_of k m) ≡ None → (if b then Some p.1 else value_of k (m ++ n)) ≡ value_of k n
-    met true g f = let x : Some p.1 ≡ None = f in absurd (cc)
-    met false g f = g f
+    saw : (b : Bool) → (value_of k m ≡ None → value_of k (m ++ n) ≡ value_of k n) → (if b then Some p.1 else value_of k m) ≡ None → (if b then Some p.1 else value_of k (m ++ n)) ≡ value_of k n
+    saw true g f = let x : Some p.1 ≡ None = f in absurd (cc)
+    saw false g f = g f
 
 -- the pairs of a range rise from its first key on
 rises_from : (low last : ℕ) (m : List (ℕ × ℕ)) → plain.RisesFrom low m → All (λ p. p.0 ≤ last) m → RisesBelow low (suc last) m

@@ -76,7 +76,7 @@ module _ (z : Sizes) (r r' : Run) (s : ℕ) (choice : Choice) (l : Local) (a : A
   pub read_other : IsKeeping k.activity → (q : ℕ) → (r'.seats t).read ≡ Some q → IsReadRow r'.ledger.rows t k.activity k q
   read_other p q e =
       let x = i.readers.read t k g p q (sym (ap (λ x. x.read) (h.logs t d)) ∙ e) in
-      record { call = x.call; passing = x.passing; fresh = ((rely z r r' s choice l a l' h i t k d g).fresh x.passing).fresh q x.fresh }
+      record { call = x.call; visiting = x.visiting; fresh = ((rely z r r' s choice l a l' h i t k d g).fresh x.visiting).fresh q x.fresh }
 
   -- the cells that it remembers
   pub marks_other : IsLooking k.activity ⊎ IsTaking k.activity → All (IsMarkOf r'.history r'.origin k.row) k.remembered

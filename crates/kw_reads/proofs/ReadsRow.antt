@@ -48,10 +48,10 @@ pub lost_or : {A : Type 0} (lost : Bool) → (lost ≡ false → A) → (lost �
 lost_or true f = inl refl
 lost_or false f = inr (f refl)
 
--- a test is met, or it is not
-is_met : (b : Bool) → (b ≡ true) ⊎ (b ≡ true → ⊥)
-is_met true = inl refl
-is_met false = inr (λ e. let x : false ≡ true = e in cc)
+-- a test is true, or it is not
+holds_or_not : (b : Bool) → (b ≡ true) ⊎ (b ≡ true → ⊥)
+holds_or_not true = inl refl
+holds_or_not false = inr (λ e. let x : false ≡ true = e in cc)
 
 -- What stands beside a gathered cell.
 
@@ -67,19 +67,19 @@ beside R (c ∷ cells) (q ∷ ids) x (suc n) p w e = let t = beside R cells ids 
 id_among : (place : ℕ) (cells : List kw_cell.Cell) (ids : List ℕ) (p : ℕ) → id_at place cells ids ≡ Some p → Contains ids p
 id_among place [] ids p e = let x : None ≡ Some p = e in absurd (cc)
 id_among place (c ∷ cells) [] p e = let x : None ≡ Some p = e in absurd (cc)
-id_among place (c ∷ cells) (q ∷ ids) p e = met (id_among place cells ids p) (c.place == place) e
+id_among place (c ∷ cells) (q ∷ ids) p e = saw (id_among place cells ids p) (c.place == place) e
   where
-    met : (id_at place cells ids ≡ Some p → Contains ids p) → (b : Bool) → (if b then Some q else id_at place cells ids) ≡ Some p → Contains (q ∷ ids) p
-    met g true f = (0, omega arith, same_Some q p f)
-    met g false f = let t = g f in (suc t.0, omega (arith, t.1), t.2)
+    saw : (id_at place cells ids ≡ Some p → Contains ids p) → (b : Bool) → (if b then Some q else id_at place cells ids) ≡ Some p → Contains (q ∷ ids) p
+    saw g true f = (0, omega arith, same_Some q p f)
+    saw g false f = let t = g f in (suc t.0, omega (arith, t.1), t.2)
 
 -- so is the one beside the best
 best_among : (cells : List kw_cell.Cell) (ids : List ℕ) (key version p : ℕ) → best_id cells ids key version ≡ Some p → Contains ids p
-best_among cells ids key version p e = met (best_of cells key version) e
+best_among cells ids key version p e = saw (best_of cells key version) e
   where
-    met : (o : Option kw_cell.Cell) → id_of o cells ids ≡ Some p → Contains ids p
-    met (Some c) f = id_among c.place cells ids p f
-    met None f = let x : None ≡ Some p = f in absurd (cc)
+    saw : (o : Option kw_cell.Cell) → id_of o cells ids ≡ Some p → Contains ids p
+    saw (Some c) f = id_among c.place cells ids p f
+    saw None f = let x : None ≡ Some p = f in absurd (cc)
 
 -- The puts of a record.
 
@@ -95,7 +95,7 @@ module _ (z : Sizes) (r : Run) (b : Below z r) where
 
   -- it is known whether one was stamped before a position
   before_known : (since p : ℕ) → Before (puts_of r.history) (IsPut r.history) since p ⊎ (Before (puts_of r.history) (IsPut r.history) since p → ⊥)
-  before_known since p = which (is_met (attempt r.history p).is_stamped) (cases_lt (attempt r.history p).at since)
+  before_known since p = which (holds_or_not (attempt r.history p).is_stamped) (cases_lt (attempt r.history p).at since)
     where
       which : IsPut r.history p ⊎ (IsPut r.history p → ⊥) → ((attempt r.history p).at < since) ⊎ (since ≤ (attempt r.history p).at) → Before (puts_of r.history) (IsPut r.history) since p ⊎ (Before (puts_of r.history) (IsPut r.history) since p → ⊥)
       which (inl x) (inl w) = inl (x, w)
@@ -128,7 +128,7 @@ module _ (z : Sizes) (r : Run) (b : Below z r) where
 
   -- a row has a put, or does not
   pub row_known : (q p : ℕ) → InRow z r q p ⊎ (InRow z r q p → ⊥)
-  row_known q p = which (is_met (attempt r.history p).is_stamped) (below_known q p z.cells)
+  row_known q p = which (holds_or_not (attempt r.history p).is_stamped) (below_known q p z.cells)
     where
       which : IsPut r.history p ⊎ (IsPut r.history p → ⊥) → ((c : ℕ) × (c < z.cells) × (r.origin q c ≡ Some p)) ⊎ ((c : ℕ) → c < z.cells → r.origin q c ≡ Some p → ⊥) → InRow z r q p ⊎ (InRow z r q p → ⊥)
       which (inl x) (inl y) = inl (record { cell = y.0; within = y.1; origin = y.2; is_put = x })
@@ -201,18 +201,18 @@ module _ (z : Sizes) (r : Run) (b : Below z r) (c : Contents z r) (t : ℕ) (m :
       standing (inr a) = inr (a, omega (arith, y.1, read.front.stands a))
 
       late : read.front.since ≤ (attempt r.history p).at
-      late = met (cases_lt (attempt r.history p).at read.front.since)
+      late = saw (cases_lt (attempt r.history p).at read.front.since)
         where
-          met : ((attempt r.history p).at < read.front.since) ⊎ (read.front.since ≤ (attempt r.history p).at) → read.front.since ≤ (attempt r.history p).at
-          met (inl w) = absurd (d (cell.2.stamped, w))
-          met (inr w) = w
+          saw : ((attempt r.history p).at < read.front.since) ⊎ (read.front.since ≤ (attempt r.history p).at) → read.front.since ≤ (attempt r.history p).at
+          saw (inl w) = absurd (d (cell.2.stamped, w))
+          saw (inr w) = w
 
       born : (r.ledger.rows.fates m.row).born ≤ (attempt r.history p).add
-      born = met (b.puts.places.owner m.row cell.0.place p linked cell.1 cell.2.origin)
+      born = saw (b.puts.places.owner m.row cell.0.place p linked cell.1 cell.2.origin)
         where
-          met : HasCell r.ledger.rows r.history m.row cell.0.place p ⊎ IsCopyAt (word z r.world) r.ledger.rows r.history m.row cell.0.place p → (r.ledger.rows.fates m.row).born ≤ (attempt r.history p).add
-          met (inl a) = a.born
-          met (inr a) = absurd (omega (arith, a.before, read.front.born, late))
+          saw : HasCell r.ledger.rows r.history m.row cell.0.place p ⊎ IsCopyAt (word z r.world) r.ledger.rows r.history m.row cell.0.place p → (r.ledger.rows.fates m.row).born ≤ (attempt r.history p).add
+          saw (inl a) = a.born
+          saw (inr a) = absurd (omega (arith, a.before, read.front.born, late))
 
       above : IsOlder r m.row q → (attempt r.history q).version ≤ (attempt r.history p).version
       above o =

@@ -12,7 +12,7 @@ use Rattle.kw_lists.specs.Rows.{Row, IsOn}
 use Rattle.kw_lists.specs.Changes.{Leaves}
 use Rattle.kw_lists.proofs.Leaving.{on_left}
 use Rattle.kw_lists.proofs.Same.{stands_same, behind_same}
-use Rattle.kw_lists.proofs.Walking.{walk_stays, passed_stays}
+use Rattle.kw_lists.proofs.Walking.{walk_stays, gone_by_stays}
 use Rattle.kw_world.specs.declared.activity.Activity.{Activity}
 use Rattle.kw_world.specs.declared.activity.read.Read.TheVariants as Read
 use Rattle.kw_world.specs.declared.activity.walk.Walk.TheVariants as Walk
@@ -30,7 +30,7 @@ use Rattle.kw_core.specs.Listed.{Listed}
 use Rattle.kw_core.specs.Stages.{IsListing}
 use Rattle.kw_rows.specs.Ledger.{Ledger}
 use Rattle.kw_rows.specs.Rows.{WasLinked}
-use Rattle.kw_reads.specs.Readers.{IsDue, Looks, HasMetCell, ReadsList, IsFromHand, IsToCome, Reads, IsNoted, IsReady, IsMarkOf, IsInHand, IsCopyOf, AreCopies, Apart}
+use Rattle.kw_reads.specs.Readers.{IsDue, Looks, HasReachedCell, ReadsList, IsFromHand, IsToCome, Reads, IsNoted, IsReady, IsMarkOf, IsInHand, IsCopyOf, AreCopies, Apart}
 use Rattle.kw_core.proofs.Attempts.{in_range}
 use Rattle.kw_core.proofs.Steps.{announced_within}
 use Rattle.kw_core.proofs.Marks.{zip_weaker}
@@ -68,9 +68,9 @@ noted_lasts g f f' l c w keeps (inr n) = inr (keeps l.row c w n)
 -- The list.
 
 module _ (n : ℕ) (row row' : Row) (w : Leaves n row row') where
-  -- a cell that was met
-  met_lasts : (l : Local) → HasMetCell n row l → HasMetCell n row' l
-  met_lasts l k = record {
+  -- a cell that was reached
+  reach_lasts : (l : Local) → HasReachedCell n row l → HasReachedCell n row' l
+  reach_lasts l k = record {
     on = on_left n row row' l.link w k.on;
     behind = behind_same row row' w.cell l.link l.place k.on (w.cell l.place k.walks.on) k.behind;
     walks = walk_stays n row row' (Some l.place) l.walked w k.walks;
@@ -80,13 +80,13 @@ module _ (n : ℕ) (row row' : Row) (w : Leaves n row row') where
   pub walks_last : (a : Activity) (l : Local) → ReadsList n row a l → ReadsList n row' a l
   walks_last (Activity.Look _) l k = k
   walks_last (Activity.Read Read.Link) l k = walk_stays n row row' l.link l.walked w k
-  walks_last (Activity.Read Read.Key) l k = met_lasts l k
-  walks_last (Activity.Read Read.Version) l k = met_lasts l k
-  walks_last (Activity.Read Read.Value) l k = met_lasts l k
+  walks_last (Activity.Read Read.Key) l k = reach_lasts l k
+  walks_last (Activity.Read Read.Version) l k = reach_lasts l k
+  walks_last (Activity.Read Read.Value) l k = reach_lasts l k
   walks_last _ l k = tt
 
   -- a cell from the one in hand on
-  from_hand_lasts : (l : Local) (c : ℕ) → HasMetCell n row l → IsFromHand row l c → IsFromHand row' l c
+  from_hand_lasts : (l : Local) (c : ℕ) → HasReachedCell n row l → IsFromHand row l c → IsFromHand row' l c
   from_hand_lasts l c k (e, inl x) = (w.listed c e, inl x)
   from_hand_lasts l c k (e, inr x) = (w.listed c e, inr (stands_same row row' l.place c (w.cell l.place k.walks.on) (w.cell c e) x))
 
@@ -113,7 +113,7 @@ apart_lasts z row row' w a l k x = record {
   few = x.few;
   unmarked = x.unmarked;
   listed = λ y c e. w.listed c (x.listed y c e);
-  passed = λ y c e. passed_stays z.cells row row' l.link c w (link_on z.cells row row' w a l y k) (x.listed y c e) (x.passed y c e);
+  gone_by = λ y c e. gone_by_stays z.cells row row' l.link c w (link_on z.cells row row' w a l y k) (x.listed y c e) (x.gone_by y c e);
   fresh = x.fresh;
   hand = x.hand;
 }
@@ -172,7 +172,7 @@ module _ {h h' : History} {o o' : Origins} {g : Ledger} (y : RecordStays h h' o 
   pub looks_last : (z : Sizes) (f f' : Listed) (a : Activity) (l : Local) (s s' : SeatLog) → WasLinked g l.row → KeepsListed g f f' → s'.looked ≡ s.looked → s.looked ≤ length h.log → Looks z f h o a l s → Looks z f' h' o' a l s'
   looks_last z f f' a l s s' w keeps e b n = record {
     past = λ c p d u. let x = was c p d in ready_lasts f f' l c p w keeps (n.past c p x (rw (same c p x) at u));
-    here = λ m c p d u. let x = was c p d in met c p (n.here m c p x (sym (same c p x) ∙ u));
+    here = λ m c p d u. let x = was c p d in saw c p (n.here m c p x (sym (same c p x) ∙ u));
   }
     where
       was : (c p : ℕ) → IsDue h' o' l.row l.call s'.looked c p → IsDue h o l.row l.call s.looked c p
@@ -181,9 +181,9 @@ module _ {h h' : History} {o o' : Origins} {g : Ledger} (y : RecordStays h h' o 
       same : (c p : ℕ) → IsDue h o l.row l.call s.looked c p → (attempt h' p).seat ≡ (attempt h p).seat
       same c p d = (due_same l.row l.call s.looked c p d).seat
 
-      met : (c p : ℕ) → (c ≡ l.met) ⊎ IsReady f h l c p → (c ≡ l.met) ⊎ IsReady f' h' l c p
-      met c p (inl x) = inl x
-      met c p (inr q) = inr (ready_lasts f f' l c p w keeps q)
+      saw : (c p : ℕ) → (c ≡ l.saw) ⊎ IsReady f h l c p → (c ≡ l.saw) ⊎ IsReady f' h' l c p
+      saw c p (inl x) = inl x
+      saw c p (inr q) = inr (ready_lasts f f' l c p w keeps q)
 
   -- what is known of the cells that the reader reads
   pub reads_last : (n : ℕ) (row row' : Row) → Leaves n row row' → (a : Activity) (l : Local) (s s' : SeatLog) → WasLinked g l.row → ReadsList n row a l → s'.looked ≡ s.looked → s'.ids ≡ s.ids → s.looked ≤ length h.log → Reads row h o a l s → Reads row' h' o' a l s'

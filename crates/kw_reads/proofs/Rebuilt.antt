@@ -28,7 +28,7 @@ use Rattle.kw_core.specs.Step.{Step}
 use Rattle.kw_core.proofs.Attempts.{in_range}
 use Rattle.kw_core.proofs.Copies.{origin_stays}
 use Rattle.kw_core.proofs.Happens.{Happens, chosen, log_entry, not_chosen}
-use Rattle.kw_shape.proofs.InfantsRely.{place_of_row}
+use Rattle.kw_shape.proofs.InfantsRely.{index_of_row}
 use Rattle.kw_shape.specs.Infants.{IsWhole, nursing_of}
 use Rattle.kw_shape.specs.Plans.{Plans}
 use Rattle.kw_shape.specs.Shape.{HoldsKey}
@@ -132,7 +132,7 @@ row_greatest z r i q k u = greatest_found (puts_of r.history) (InRow z r q) k u 
 module _ {z : Sizes} {r r' : Run} {s : ℕ} {choice : Choice} {l l' : Local} (h : Happens z r r' s choice l l' (Activity.Rebalance (Rebalance.Replace Replace.Exchange))) (i : Below z r) (st : Step r.history r'.history (log_entry z r (Activity.Rebalance (Rebalance.Replace Replace.Exchange)) s choice l)) (q : ℕ) (y : ComesNow (word z r.world) r.ledger.rows r'.ledger.rows s (length r.history.log) l (Activity.Rebalance (Rebalance.Replace Replace.Exchange)) q) where
   -- its place among the new rows
   place : (n : ℕ) × (slice_get l.rebalance.taken n ≡ Some q)
-  place = place_of_row l.rebalance.taken q y.taken
+  place = index_of_row l.rebalance.taken q y.taken
 
   -- the seat has its plan
   planned : HasPlanned (nursing_of l.activity)

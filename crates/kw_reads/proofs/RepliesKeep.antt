@@ -44,7 +44,7 @@ use Rattle.kw_shape.specs.Shape.{IsKind, IsPutCall, IsReadCall, Kinds}
 use Rattle.kw_shape.proofs.NextCalls.{cell_call}
 use Rattle.kw_puts.proofs.Owners.{true_false}
 use Rattle.kw_reads.proofs.Relying.{goes_on_by}
-use Rattle.kw_core.proofs.Arrows.{NextLook, looks, lists, begins, enters, is_spent, settles_empty, settles, stops, meets_stamped, meets_neither, is_passed, helps, finds_stamped, finds_other, list_ends, key_above, rest_passed, gathers_rest, clears_scan, clears, leaves, NextRest, retries, clock_is_spent, epoch_is_spent, ends_at_clock, ends_at_epoch}
+use Rattle.kw_core.proofs.Arrows.{NextLook, looks, lists, begins, enters, is_spent, settles_empty, settles, stops, sees_stamped, sees_neither, is_gone_by, helps, finds_stamped, finds_other, list_ends, key_above, left_over_gone_by, gathers_left_over, clears_scan, clears, leaves, NextLeftOver, retries, clock_is_spent, epoch_is_spent, ends_at_clock, ends_at_epoch}
 use Rattle.kw_puts.proofs.OwnScans.{IsAfterRead, after_read}
 use Rattle.kw_reads.proofs.OwnPairs.{covers_last, stays, settled_pairs, no_pairs, leave_covered, cell_pairs, put_answered, scan_answered, scan_call_answered, cell_answered}
 
@@ -127,14 +127,14 @@ early_not_read (Activity.Draw _) x y = y
 early_not_read (Activity.Walk Walk.First) x y = x
 early_not_read _ x y = x
 
--- the seat ends its pass: it leaves, or tries again
-abbrev EndsPass : Activity → Type 0
-EndsPass (Activity.Leave answer) = Unit {0}
-EndsPass Activity.Retry = Unit {0}
-EndsPass _ = ⊥
+-- the seat ends its visit: it leaves, or tries again
+abbrev EndsVisit : Activity → Type 0
+EndsVisit (Activity.Leave answer) = Unit {0}
+EndsVisit Activity.Retry = Unit {0}
+EndsVisit _ = ⊥
 
 -- a call that has read no row had read none
-arrow_early : (z : Sizes) (v : Words) (s : ℕ) (choice : Choice) (l : Local) (a : Activity) (k : Local) → Arrow z v s choice l a k → (EndsPass a → ⊥) → IsEarly k.activity → IsEarly a
+arrow_early : (z : Sizes) (v : Words) (s : ℕ) (choice : Choice) (l : Local) (a : Activity) (k : Local) → Arrow z v s choice l a k → (EndsVisit a → ⊥) → IsEarly k.activity → IsEarly a
 arrow_early z v s choice l a k (builds b next y t) n x = after_enters k.activity (built_next z v choice l b k t) x
 arrow_early z v s choice l a k (begins call e m) n x = tt
 arrow_early z v s choice l (Activity.Enter _) k b n x = tt
@@ -170,11 +170,11 @@ pairs_own z r r' s choice l a l' (leaves answer) h i n w = record { early = λ x
 pairs_own z r r' s choice l a l' (enters e) h i n w = record { early = λ x. absurd x; from = λ f x. true_false f e; upto = λ f x. true_false f e; covers = λ f x. true_false f e; covered = tt }
 pairs_own z r r' s choice l a l' (list_ends next e x) h i n w = cell_pairs z r r' s choice l _ _ l' (list_ends next e x) h i n w tt (record { call = refl; row = refl; want = refl; next = refl; upper = refl; version = refl; pairs = refl }) x
 pairs_own z r r' s choice l a l' (key_above next e x) h i n w = cell_pairs z r r' s choice l _ _ l' (key_above next e x) h i n w tt (record { call = refl; row = refl; want = refl; next = refl; upper = refl; version = refl; pairs = refl }) x
-pairs_own z r r' s choice l a l' (rest_passed next e x) h i n w = cell_pairs z r r' s choice l _ _ l' (rest_passed next e x) h i n w tt (record { call = refl; row = refl; want = refl; next = refl; upper = refl; version = refl; pairs = refl }) x
-pairs_own z r r' s choice l a l' (gathers_rest next x) h i n w = cell_pairs z r r' s choice l _ _ l' (gathers_rest next x) h i n w tt (record { call = refl; row = refl; want = refl; next = refl; upper = refl; version = refl; pairs = refl }) x
-pairs_own z r r' s choice l a l' (meets_stamped j c version next e x) h i n w = stays z r r' s choice l _ _ (meets_stamped j c version next e x) h i refl refl (λ y. y) (look_not_early z _ next x) (look_covered z _ next x r'.history _ (r'.seats s))
-pairs_own z r r' s choice l a l' (meets_neither j next e x) h i n w = stays z r r' s choice l _ _ (meets_neither j next e x) h i refl refl (λ y. y) (look_not_early z _ next x) (look_covered z _ next x r'.history _ (r'.seats s))
-pairs_own z r r' s choice l a l' (is_passed next e x) h i n w = stays z r r' s choice l _ _ (is_passed next e x) h i refl refl (λ y. y) (look_not_early z _ next x) (look_covered z _ next x r'.history _ (r'.seats s))
+pairs_own z r r' s choice l a l' (left_over_gone_by next e x) h i n w = cell_pairs z r r' s choice l _ _ l' (left_over_gone_by next e x) h i n w tt (record { call = refl; row = refl; want = refl; next = refl; upper = refl; version = refl; pairs = refl }) x
+pairs_own z r r' s choice l a l' (gathers_left_over next x) h i n w = cell_pairs z r r' s choice l _ _ l' (gathers_left_over next x) h i n w tt (record { call = refl; row = refl; want = refl; next = refl; upper = refl; version = refl; pairs = refl }) x
+pairs_own z r r' s choice l a l' (sees_stamped j c version next e x) h i n w = stays z r r' s choice l _ _ (sees_stamped j c version next e x) h i refl refl (λ y. y) (look_not_early z _ next x) (look_covered z _ next x r'.history _ (r'.seats s))
+pairs_own z r r' s choice l a l' (sees_neither j next e x) h i n w = stays z r r' s choice l _ _ (sees_neither j next e x) h i refl refl (λ y. y) (look_not_early z _ next x) (look_covered z _ next x r'.history _ (r'.seats s))
+pairs_own z r r' s choice l a l' (is_gone_by next e x) h i n w = stays z r r' s choice l _ _ (is_gone_by next e x) h i refl refl (λ y. y) (look_not_early z _ next x) (look_covered z _ next x r'.history _ (r'.seats s))
 pairs_own z r r' s choice l a l' (helps next e x) h i n w = stays z r r' s choice l _ _ (helps next e x) h i refl refl (λ y. y) (look_not_early z _ next x) (look_covered z _ next x r'.history _ (r'.seats s))
 pairs_own z r r' s choice l a l' (finds_stamped c version next e x) h i n w = stays z r r' s choice l _ _ (finds_stamped c version next e x) h i refl refl (λ y. y) (look_not_early z _ next x) (look_covered z _ next x r'.history _ (r'.seats s))
 pairs_own z r r' s choice l a l' (finds_other next e x) h i n w = stays z r r' s choice l _ _ (finds_other next e x) h i refl refl (λ y. y) (look_not_early z _ next x) (look_covered z _ next x r'.history _ (r'.seats s))
@@ -191,16 +191,16 @@ reads_or_puts (Some (Get key)) x y = absurd y
 reads_or_puts (Some (Scan from upto)) x y = absurd y
 reads_or_puts None x y = absurd x
 
-rest_unpaired : {A : Type 0} (l k next : Local) → k.call ≡ l.call → NextRest k next → IsReadCall l.call → IsPutCall next.call → A
-rest_unpaired l k next e n x y = reads_or_puts l.call x (subst IsPutCall ((cell_call k next n).0 ∙ e) y)
+left_over_unpaired : {A : Type 0} (l k next : Local) → k.call ≡ l.call → NextLeftOver k next → IsReadCall l.call → IsPutCall next.call → A
+left_over_unpaired l k next e n x y = reads_or_puts l.call x (subst IsPutCall ((cell_call k next n).0 ∙ e) y)
 
 unpaired_own : (z : Sizes) (r r' : Run) (s : ℕ) (choice : Choice) (l : Local) (a : Activity) (l' : Local) → Arrow z (word z r.world) s choice l a l' → Happens z r r' s choice l l' a → Inv z r → IsPutCall l'.call → l'.pairs ≡ []
 unpaired_own z r r' s choice l a l' (builds b next y t) h i p = let n = built_goes z (word z r.world) choice l b l' t in n.pairs ∙ i.replies.unpaired s l h.knows (subst IsPutCall n.call p)
 unpaired_own z r r' s choice l a l' (begins call e x) h i p = (i.replies.pairs s l h.knows).early (subst IsEarly (sym h.activity) tt)
-unpaired_own z r r' s choice l a l' (list_ends next e x) h i p = rest_unpaired l _ next refl x (kind_of z r r' s choice l l' h i) p
-unpaired_own z r r' s choice l a l' (key_above next e x) h i p = rest_unpaired l _ next refl x (kind_of z r r' s choice l l' h i) p
-unpaired_own z r r' s choice l a l' (rest_passed next e x) h i p = rest_unpaired l _ next refl x (kind_of z r r' s choice l l' h i) p
-unpaired_own z r r' s choice l a l' (gathers_rest next x) h i p = rest_unpaired l _ next refl x (kind_of z r r' s choice l l' h i) p
+unpaired_own z r r' s choice l a l' (list_ends next e x) h i p = left_over_unpaired l _ next refl x (kind_of z r r' s choice l l' h i) p
+unpaired_own z r r' s choice l a l' (key_above next e x) h i p = left_over_unpaired l _ next refl x (kind_of z r r' s choice l l' h i) p
+unpaired_own z r r' s choice l a l' (left_over_gone_by next e x) h i p = left_over_unpaired l _ next refl x (kind_of z r r' s choice l l' h i) p
+unpaired_own z r r' s choice l a l' (gathers_left_over next x) h i p = left_over_unpaired l _ next refl x (kind_of z r r' s choice l l' h i) p
 unpaired_own z r r' s choice l a l' (leaves answer) h i p = refl
 unpaired_own z r r' s choice l a l' b h i p = i.replies.unpaired s l h.knows p
 
@@ -220,11 +220,11 @@ answers_own z r r' s choice l a l' (stops e) h i n w = scan_answered l.call Stop
 answers_own z r r' s choice l a l' clears h i n w = put_answered l.call Done r'.history (leave Done l).local (r'.seats s) (kind_of z r r' s choice l l' h i.inv)
 answers_own z r r' s choice l a l' (list_ends next e x) h i n w = cell_answered z r r' s choice l _ _ l' (list_ends next e x) h i n w tt (record { call = refl; row = refl; want = refl; next = refl; upper = refl; version = refl; pairs = refl }) x
 answers_own z r r' s choice l a l' (key_above next e x) h i n w = cell_answered z r r' s choice l _ _ l' (key_above next e x) h i n w tt (record { call = refl; row = refl; want = refl; next = refl; upper = refl; version = refl; pairs = refl }) x
-answers_own z r r' s choice l a l' (rest_passed next e x) h i n w = cell_answered z r r' s choice l _ _ l' (rest_passed next e x) h i n w tt (record { call = refl; row = refl; want = refl; next = refl; upper = refl; version = refl; pairs = refl }) x
-answers_own z r r' s choice l a l' (gathers_rest next x) h i n w = cell_answered z r r' s choice l _ _ l' (gathers_rest next x) h i n w tt (record { call = refl; row = refl; want = refl; next = refl; upper = refl; version = refl; pairs = refl }) x
-answers_own z r r' s choice l a l' (meets_stamped j c version next e x) h i n w = look_answered z _ next x l.call r'.history _ (r'.seats s)
-answers_own z r r' s choice l a l' (meets_neither j next e x) h i n w = look_answered z _ next x l.call r'.history _ (r'.seats s)
-answers_own z r r' s choice l a l' (is_passed next e x) h i n w = look_answered z _ next x l.call r'.history _ (r'.seats s)
+answers_own z r r' s choice l a l' (left_over_gone_by next e x) h i n w = cell_answered z r r' s choice l _ _ l' (left_over_gone_by next e x) h i n w tt (record { call = refl; row = refl; want = refl; next = refl; upper = refl; version = refl; pairs = refl }) x
+answers_own z r r' s choice l a l' (gathers_left_over next x) h i n w = cell_answered z r r' s choice l _ _ l' (gathers_left_over next x) h i n w tt (record { call = refl; row = refl; want = refl; next = refl; upper = refl; version = refl; pairs = refl }) x
+answers_own z r r' s choice l a l' (sees_stamped j c version next e x) h i n w = look_answered z _ next x l.call r'.history _ (r'.seats s)
+answers_own z r r' s choice l a l' (sees_neither j next e x) h i n w = look_answered z _ next x l.call r'.history _ (r'.seats s)
+answers_own z r r' s choice l a l' (is_gone_by next e x) h i n w = look_answered z _ next x l.call r'.history _ (r'.seats s)
 answers_own z r r' s choice l a l' (helps next e x) h i n w = look_answered z _ next x l.call r'.history _ (r'.seats s)
 answers_own z r r' s choice l a l' (finds_stamped c version next e x) h i n w = look_answered z _ next x l.call r'.history _ (r'.seats s)
 answers_own z r r' s choice l a l' (finds_other next e x) h i n w = look_answered z _ next x l.call r'.history _ (r'.seats s)

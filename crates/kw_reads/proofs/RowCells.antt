@@ -69,15 +69,15 @@ module _ (z : Sizes) (r r' : Run) (s : ℕ) (choice : Choice) (l : Local) (a : A
 
 -- a cell that stands for an attempt that was there stood for it before
 pub origin_was : {z : Sizes} {r r' : Run} {s : ℕ} {choice : Choice} {l l' : Local} (a : Activity) → Happens z r r' s choice l l' a → Below z r → (q c p : ℕ) → WasLinked r.ledger.rows q → p < length r.history.attempts → r'.origin q c ≡ Some p → r.origin q c ≡ Some p
-origin_was {z} {r} {r'} {s} {choice} {l} {l'} (Activity.Put Put.Add) h i q c p k o e = met (has_room z (count_of (word z r.world (name.Count l.row)))) (sym (ap (λ (x : Origins). x q c) h.origin) ∙ e)
+origin_was {z} {r} {r'} {s} {choice} {l} {l'} (Activity.Put Put.Add) h i q c p k o e = saw (has_room z (count_of (word z r.world (name.Count l.row)))) (sym (ap (λ (x : Origins). x q c) h.origin) ∙ e)
   where
     given : (b : Bool) → (let x : Option ℕ = if b then Some (length r.history.attempts) else r.origin q c in x) ≡ Some p → r.origin q c ≡ Some p
     given true f = let x = same_Some (length r.history.attempts) p f in absurd (omega (arith, x, o))
     given false f = f
 
-    met : (b : Bool) → (let x : Origins = if b then with_origin r.origin l.row (given_of (count_of (word z r.world (name.Count l.row)))) (length r.history.attempts) else r.origin in x) q c ≡ Some p → r.origin q c ≡ Some p
-    met true f = given ((q == l.row) && (c == given_of (count_of (word z r.world (name.Count l.row))))) f
-    met false f = f
+    saw : (b : Bool) → (let x : Origins = if b then with_origin r.origin l.row (given_of (count_of (word z r.world (name.Count l.row)))) (length r.history.attempts) else r.origin in x) q c ≡ Some p → r.origin q c ≡ Some p
+    saw true f = given ((q == l.row) && (c == given_of (count_of (word z r.world (name.Count l.row))))) f
+    saw false f = f
 origin_was (Activity.Rebalance (Rebalance.Write (Write.Version j))) h i q c p k o e = sym (origin_stays (Activity.Rebalance (Rebalance.Write (Write.Version j))) h q c (λ x. not_hand (Activity.Rebalance (Rebalance.Write (Write.Version j))) h i.shape tt q k x.0)) ∙ e
 origin_was a h i q c p k o e = sym (origin_stays a h q c (λ x. x)) ∙ e
 

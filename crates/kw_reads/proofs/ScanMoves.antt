@@ -29,7 +29,7 @@ use Rattle.kw_world.specs.Step.{word}
 use Rattle.kw_world.specs.WalkTransitions.{is_stopped}
 use Rattle.kw_core.specs.Run.{Run}
 use Rattle.kw_core.specs.Words.{Words}
-use Rattle.kw_core.proofs.Arrows.{builds, Arrow, NextLook, looks, lists, NextRest, rests, answers, ends_scan, scans_on, meets_stamped, meets_neither, is_passed, helps, finds_stamped, finds_other, list_ends, key_above, rest_passed, gathers_rest, draws, draws_for}
+use Rattle.kw_core.proofs.Arrows.{builds, Arrow, NextLook, looks, lists, NextLeftOver, goes_to_left_over, answers, ends_scan, scans_on, sees_stamped, sees_neither, is_gone_by, helps, finds_stamped, finds_other, list_ends, key_above, left_over_gone_by, gathers_left_over, draws, draws_for}
 use Rattle.kw_core.proofs.Frame.{no_link, same_scan, unwritten, writes}
 use Rattle.kw_core.proofs.FreezeFrame.{clock_never_falls}
 use Rattle.kw_core.proofs.Happens.{Happens, knows_next, knows_other, exchanged, not_exchanged}
@@ -62,8 +62,8 @@ look_holds z j next (looks w) x = absurd x
 look_holds z j next (lists w) x = absurd x
 
 -- nor where its row is read
-cell_holds : {A : Type 0} (l k : Local) → NextRest l k → IsHolder k.activity → A
-cell_holds l k (rests m w) x = absurd x
+cell_holds : {A : Type 0} (l k : Local) → NextLeftOver l k → IsHolder k.activity → A
+cell_holds l k (goes_to_left_over m w) x = absurd x
 cell_holds l k (answers w e) x = absurd x
 cell_holds l k (ends_scan w e f) x = absurd x
 cell_holds l k (scans_on r w e f o) x = absurd x
@@ -79,16 +79,16 @@ drawn_now : (z : Sizes) (v : Words) (s : ℕ) (choice : Choice) (l : Local) (a :
 drawn_now z v s choice l a k (builds b next y t) x = built_holds k.activity (built_goes z v choice l b k t).next x
 drawn_now z v s choice l a k draws x = refl
 drawn_now z v s choice l a k (draws_for j) x = refl
-drawn_now z v s choice l a k (meets_stamped j c version next e n) x = look_holds z _ next n x
-drawn_now z v s choice l a k (meets_neither j next e n) x = look_holds z _ next n x
-drawn_now z v s choice l a k (is_passed next e n) x = look_holds z _ next n x
+drawn_now z v s choice l a k (sees_stamped j c version next e n) x = look_holds z _ next n x
+drawn_now z v s choice l a k (sees_neither j next e n) x = look_holds z _ next n x
+drawn_now z v s choice l a k (is_gone_by next e n) x = look_holds z _ next n x
 drawn_now z v s choice l a k (helps next e n) x = look_holds z _ next n x
 drawn_now z v s choice l a k (finds_stamped c version next e n) x = look_holds z _ next n x
 drawn_now z v s choice l a k (finds_other next e n) x = look_holds z _ next n x
 drawn_now z v s choice l a k (list_ends next e n) x = cell_holds _ next n x
 drawn_now z v s choice l a k (key_above next e n) x = cell_holds _ next n x
-drawn_now z v s choice l a k (rest_passed next e n) x = cell_holds _ next n x
-drawn_now z v s choice l a k (gathers_rest next n) x = cell_holds _ next n x
+drawn_now z v s choice l a k (left_over_gone_by next e n) x = cell_holds _ next n x
+drawn_now z v s choice l a k (gathers_left_over next n) x = cell_holds _ next n x
 drawn_now z v s choice l a k b x = absurd x
 
 -- The word of a scan that says what was drawn.
@@ -137,12 +137,12 @@ module _ {z : Sizes} {r r' : Run} {s : ℕ} {choice : Choice} {l l' : Local} whe
       which : (s ≡ i) ⊎ (s ≡ i → ⊥) → Through z r i u
       which (inl e) = let x : scan_word (Drawn u) ≡ scan_word Quiet = sym w ∙ subst (λ t. word z r'.world (name.Scan t) ≡ scan_word Quiet) e h.changed.same in absurd (omega (arith, x))
       which (inr d) = has_drawn o (sym (unwritten (Activity.EndScan answer) h (name.Scan i) o (λ e. d (same_scan s i e))) ∙ w)
-  drawn_was (Activity.Walk Walk.Next) h i u o w = met (is_stopped choice l) refl (cases_eq s i)
+  drawn_was (Activity.Walk Walk.Next) h i u o w = saw (is_stopped choice l) refl (cases_eq s i)
     where
-      met : (b : Bool) → is_stopped choice l ≡ b → (s ≡ i) ⊎ (s ≡ i → ⊥) → Through z r i u
-      met true f (inl e) = let x : scan_word (Drawn u) ≡ scan_word Quiet = sym w ∙ subst (λ t. word z r'.world (name.Scan t) ≡ scan_word Quiet) e (stopped_clears h f) in absurd (omega (arith, x))
-      met false f (inl e) = has_drawn o (sym (subst (λ t. word z r'.world (name.Scan t) ≡ word z r.world (name.Scan t)) e (goes_on_walk h f)) ∙ w)
-      met b f (inr d) = has_drawn o (sym (unwritten (Activity.Walk Walk.Next) h (name.Scan i) o (rw f (not_own b d))) ∙ w)
+      saw : (b : Bool) → is_stopped choice l ≡ b → (s ≡ i) ⊎ (s ≡ i → ⊥) → Through z r i u
+      saw true f (inl e) = let x : scan_word (Drawn u) ≡ scan_word Quiet = sym w ∙ subst (λ t. word z r'.world (name.Scan t) ≡ scan_word Quiet) e (stopped_clears h f) in absurd (omega (arith, x))
+      saw false f (inl e) = has_drawn o (sym (subst (λ t. word z r'.world (name.Scan t) ≡ word z r.world (name.Scan t)) e (goes_on_walk h f)) ∙ w)
+      saw b f (inr d) = has_drawn o (sym (unwritten (Activity.Walk Walk.Next) h (name.Scan i) o (rw f (not_own b d))) ∙ w)
         where
           not_own : (b : Bool) → (s ≡ i → ⊥) → writes (Activity.Walk Walk.Next) s b l ≢ Some (name.Scan i)
           not_own true d e = d (same_scan s i e)

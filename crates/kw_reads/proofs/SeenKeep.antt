@@ -28,11 +28,11 @@ use Rattle.kw_world.specs.Sizes.{Sizes}
 use Rattle.kw_world.specs.Step.{is_skipped, word}
 use Rattle.kw_core.specs.History.{History, attempt}
 use Rattle.kw_core.specs.HistoryLaws.{IsPut}
-use Rattle.kw_core.specs.Run.{Origins, Run, is_at_cell, log_begun, log_gathered, log_look, log_read, place_gathered}
+use Rattle.kw_core.specs.Run.{Origins, Run, is_at_cell, log_begun, log_gathered, log_look, log_read, index_gathered}
 use Rattle.kw_core.specs.declared.seat_log.SeatLog.{SeatLog}
-use Rattle.kw_core.specs.Stages.{IsAtRead, IsLooking, IsTaking, IsReading, IsKeeping, IsPassing, IsUnderway, HasLooked, HasPlace, HasVersion, HasCellKey}
+use Rattle.kw_core.specs.Stages.{IsAtRead, IsLooking, IsTaking, IsReading, IsKeeping, IsVisiting, IsUnderway, HasLooked, HasPlace, HasVersion, HasCellKey}
 use Rattle.kw_cells.specs.declared.cell.Cell as kw_cell
-use Rattle.kw_cells.specs.InOrder.{place_in}
+use Rattle.kw_cells.specs.InOrder.{index_in}
 use Rattle.kw_world.specs.Marks.{is_marked}
 use Rattle.kw_world.specs.ReadTransitions.{cell_in_hand, gathering}
 use Rattle.kw_puts.specs.Builds.{has_place}
@@ -46,7 +46,7 @@ use Rattle.kw_reads.specs.Readers.{IsDue, IsCopyOf, IsInHand, AreCopies, Gathers
 use Rattle.kw_reads.specs.Inv.{Inv}
 use Rattle.kw_core.proofs.BuiltNext.{built_goes}
 use Rattle.kw_core.proofs.Attempts.{in_range}
-use Rattle.kw_core.proofs.Arrows.{builds, NextLook, looks, lists, Arrow, begins, reads_last, reads_before, meets_pending, meets_stamped, meets_neither, is_wanted, is_passed, loads_to_help, helps, finds_stamped, finds_other, list_leads, list_ends, key_below, key_within, key_above, loads_version, gathers_listed, rest_wanted, rest_passed, gathers_rest, takes_cell, enters, enters_scan, leaves, retries, takes_full, settles_empty, settles}
+use Rattle.kw_core.proofs.Arrows.{builds, NextLook, looks, lists, Arrow, begins, reads_last, reads_before, sees_pending, sees_stamped, sees_neither, is_wanted, is_gone_by, loads_to_help, helps, finds_stamped, finds_other, list_leads, list_ends, key_below, key_within, key_above, loads_version, gathers_listed, left_over_wanted, left_over_gone_by, gathers_left_over, takes_cell, enters, enters_scan, leaves, retries, takes_full, settles_empty, settles}
 use Rattle.kw_core.proofs.SeatLogs.{settled_same}
 use Rattle.kw_core.proofs.Fates.{others_stay}
 use Rattle.kw_core.proofs.Frame.{WritesPass}
@@ -55,15 +55,15 @@ use Rattle.kw_core.proofs.Marks.{zip_insert}
 use Rattle.kw_reads.proofs.Ready.{due_before, stamped_lasts, stamped_same, copies_last}
 use Rattle.kw_puts.specs.Below.{Below}
 use Rattle.kw_reads.proofs.LooksKeep.{goes}
-use Rattle.kw_reads.proofs.CellsKeep.{seen_next, copies_next, cells_before, unread_before, left_at_end, left_above, left_passed, left_gathered, value_stands}
+use Rattle.kw_reads.proofs.CellsKeep.{seen_next, copies_next, cells_before, unread_before, left_at_end, left_above, left_gone_by, left_gathered, value_stands}
 use Rattle.kw_puts.proofs.BuiltStages.{after_reading}
 use Rattle.kw_reads.proofs.BuiltReads.{after_rests, building_keeping, building_log, taking_reads}
 use Rattle.kw_shape.proofs.AfterBuilding.{built_pass}
 use Rattle.kw_shape.proofs.LinkedRows.{fresh_linked}
 use Rattle.kw_shape.proofs.NextCalls.{arrow_call}
 use Rattle.kw_shape.proofs.RowsKeep.{own_rely}
-use Rattle.kw_shape.proofs.RelyRows.{is_passing}
-use Rattle.kw_shape.specs.Passes.{Passes}
+use Rattle.kw_shape.proofs.RelyRows.{is_visiting}
+use Rattle.kw_shape.specs.Visits.{Visits}
 use Rattle.kw_shape.specs.Shape.{IsKind, IsPutCall, IsReadCall}
 use Rattle.kw_reads.proofs.WalksKeep.{row_fresh, row_linked, row_linked_on, walks_before}
 use Rattle.kw_reads.proofs.ApartKeeps.{apart_before, hand_fresh, gather_is, place_below}
@@ -144,11 +144,11 @@ seen_by z r r' s choice l a l' (builds b next y t) h i k =
 seen_by z r r' s choice l _ _ (begins call e b) h i k = seen_unread r'.history r'.origin (Activity.Enter Enter.Announce) _ (r'.seats s) (ap (λ g. g.read) h.log ∙ ap (λ c. (log_begun c (length r.history.calls) (r.seats s)).read) e)
 seen_by z r r' s choice l _ _ (reads_last f n) h i k = record { unread = λ x. absurd (omega (arith, x)); stamped = λ x. absurd x; taken = λ x. absurd x }
 seen_by z r r' s choice l _ _ (reads_before f w) h i k = record { unread = λ x. absurd (omega (arith, x)); stamped = λ x. absurd x; taken = λ x. absurd x }
-seen_by z r r' s choice l _ _ (meets_pending j c e) h i k = seen_unread r'.history r'.origin _ _ (r'.seats s) (ap (λ g. g.read) h.log ∙ look_unread j (length r.history.log) (r.seats s) (unread_before h i))
-seen_by z r r' s choice l _ _ (meets_stamped j c version next e n) h i k = seen_unread r'.history r'.origin _ _ (r'.seats s) (ap (λ g. g.read) h.log ∙ look_unread j (length r.history.log) (r.seats s) (unread_before h i))
-seen_by z r r' s choice l _ _ (meets_neither j next e n) h i k = seen_unread r'.history r'.origin _ _ (r'.seats s) (ap (λ g. g.read) h.log ∙ look_unread j (length r.history.log) (r.seats s) (unread_before h i))
+seen_by z r r' s choice l _ _ (sees_pending j c e) h i k = seen_unread r'.history r'.origin _ _ (r'.seats s) (ap (λ g. g.read) h.log ∙ look_unread j (length r.history.log) (r.seats s) (unread_before h i))
+seen_by z r r' s choice l _ _ (sees_stamped j c version next e n) h i k = seen_unread r'.history r'.origin _ _ (r'.seats s) (ap (λ g. g.read) h.log ∙ look_unread j (length r.history.log) (r.seats s) (unread_before h i))
+seen_by z r r' s choice l _ _ (sees_neither j next e n) h i k = seen_unread r'.history r'.origin _ _ (r'.seats s) (ap (λ g. g.read) h.log ∙ look_unread j (length r.history.log) (r.seats s) (unread_before h i))
 seen_by z r r' s choice l _ _ (is_wanted e) h i k = seen_unread r'.history r'.origin _ _ (r'.seats s) (ap (λ g. g.read) h.log ∙ unread_before h i tt)
-seen_by z r r' s choice l _ _ (is_passed next e n) h i k = seen_unread r'.history r'.origin _ _ (r'.seats s) (ap (λ g. g.read) h.log ∙ unread_before h i tt)
+seen_by z r r' s choice l _ _ (is_gone_by next e n) h i k = seen_unread r'.history r'.origin _ _ (r'.seats s) (ap (λ g. g.read) h.log ∙ unread_before h i tt)
 seen_by z r r' s choice l _ _ loads_to_help h i k = seen_unread r'.history r'.origin _ _ (r'.seats s) (ap (λ g. g.read) h.log ∙ unread_before h i tt)
 seen_by z r r' s choice l _ _ (helps next e n) h i k = seen_unread r'.history r'.origin _ _ (r'.seats s) (ap (λ g. g.read) h.log ∙ unread_before h i tt)
 seen_by z r r' s choice l _ _ (finds_stamped c version next e n) h i k = seen_unread r'.history r'.origin _ _ (r'.seats s) (ap (λ g. g.read) h.log ∙ unread_before h i tt)
@@ -160,9 +160,9 @@ seen_by z r r' s choice l _ _ (key_within e w) h i k = seen_unread r'.history r'
 seen_by z r r' s choice l _ _ (key_above next e n) h i k = subst (HasSeen r'.history r'.origin next.activity next) (sym h.log) (seen_next r'.history r'.origin l next _ n (left_above h i k e) (unread_before h i tt))
 seen_by z r r' s choice l _ _ loads_version h i k = seen_unread r'.history r'.origin _ _ (r'.seats s) (ap (λ g. g.read) h.log ∙ unread_before h i tt)
 seen_by z r r' s choice l _ _ gathers_listed h i k = seen_unread r'.history r'.origin _ _ (r'.seats s) (ap (λ g. g.read) h.log ∙ unread_before h i tt)
-seen_by z r r' s choice l _ _ (rest_wanted e) h i k = seen_unread r'.history r'.origin _ _ (r'.seats s) (ap (λ g. g.read) h.log ∙ unread_before h i tt)
-seen_by z r r' s choice l _ _ (rest_passed next e n) h i k = subst (HasSeen r'.history r'.origin next.activity next) (sym h.log) (seen_next r'.history r'.origin l next _ n (left_passed h i k e) (unread_before h i tt))
-seen_by z r r' s choice l _ _ (gathers_rest next n) h i k = subst (HasSeen r'.history r'.origin next.activity next) (sym h.log) (seen_next r'.history r'.origin _ next _ n (left_gathered h i k _ _) (unread_before h i tt))
+seen_by z r r' s choice l _ _ (left_over_wanted e) h i k = seen_unread r'.history r'.origin _ _ (r'.seats s) (ap (λ g. g.read) h.log ∙ unread_before h i tt)
+seen_by z r r' s choice l _ _ (left_over_gone_by next e n) h i k = subst (HasSeen r'.history r'.origin next.activity next) (sym h.log) (seen_next r'.history r'.origin l next _ n (left_gone_by h i k e) (unread_before h i tt))
+seen_by z r r' s choice l _ _ (gathers_left_over next n) h i k = subst (HasSeen r'.history r'.origin next.activity next) (sym h.log) (seen_next r'.history r'.origin _ next _ n (left_gathered h i k _ _) (unread_before h i tt))
 seen_by z r r' s choice l _ _ (takes_cell e) h i k = seen_kept h i (Activity.Put Put.Key) tt refl (ap (λ g. g.looked) h.log ∙ added_same (λ g. g.looked) _ (r.seats s) _ refl) (ap (λ g. g.ids) h.log ∙ added_same (λ g. g.ids) _ (r.seats s) _ refl) (ap (λ g. g.read) h.log ∙ added_same (λ g. g.read) _ (r.seats s) _ refl) (λ x. x)
 seen_by z r r' s choice l _ _ (takes_full e) h i k = seen_kept h i _ tt refl (ap (λ g. g.looked) h.log ∙ added_same (λ g. g.looked) _ (r.seats s) _ refl) (ap (λ g. g.ids) h.log ∙ added_same (λ g. g.ids) _ (r.seats s) _ refl) (ap (λ g. g.read) h.log ∙ added_same (λ g. g.read) _ (r.seats s) _ refl) (λ x. x)
 seen_by z r r' s choice l _ _ (leaves answer) h i k = record { unread = λ x. absurd x; stamped = λ x. absurd x; taken = λ x. absurd x }
@@ -184,9 +184,9 @@ gathers_none : (z : Sizes) (h : History) (o : Origins) (j : ℕ) (next : Activit
 gathers_none z h o j _ l g (looks w) e f = record { empty = λ x. e; no_ids = λ x. f; taking = λ x. absurd x; kept = λ x. absurd x }
 gathers_none z h o j _ l g (lists w) e f = record { empty = λ x. absurd x; no_ids = λ x. absurd x; taking = λ x. rw (e, f) tt; kept = λ x q y. rw (e, f) tt }
 
--- a reader that has met an entry has gathered nothing
-gathers_met : (h : History) (o : Origins) (c : Activity) (l : Local) (g : SeatLog) → l.gathered ≡ [] → g.ids ≡ [] → (IsTaking c → ⊥) → (IsKeeping c → ⊥) → Gathers h o c l g
-gathers_met h o c l g e f n m = record { empty = λ x. e; no_ids = λ x. f; taking = λ x. absurd (n x); kept = λ x. absurd (m x) }
+-- a reader that has seen an entry has gathered nothing
+gathers_saw : (h : History) (o : Origins) (c : Activity) (l : Local) (g : SeatLog) → l.gathered ≡ [] → g.ids ≡ [] → (IsTaking c → ⊥) → (IsKeeping c → ⊥) → Gathers h o c l g
+gathers_saw h o c l g e f n m = record { empty = λ x. e; no_ids = λ x. f; taking = λ x. absurd (n x); kept = λ x. absurd (m x) }
 
 -- a reader has a cell in hand
 gathers_hand : (h : History) (o : Origins) (c : Activity) (l : Local) (g : SeatLog) → AreCopies h o l.row l.call l.gathered g.ids → g.read ≡ None → (IsLooking c → ⊥) → (HasLooked c → ⊥) → Gathers h o c l g
@@ -226,8 +226,8 @@ module _ {z : Sizes} {r r' : Run} {s : ℕ} {choice : Choice} {l l' : Local} {a 
 
   -- at the place where the cell is put
   copies_more : Apart z (list_in (word z r.world) r.listed l.row) a l → has_place l.place l.gathered ≡ false → is_marked l.place l.remembered ≡ false →
-      AreCopies r'.history r'.origin l.row l.call (gathering z (value_of_word (word z r.world (name.Value l.row l.place))) l).gathered (insert (r.seats s).ids (place_in (in_hand z r l) l.gathered) (unwrap_or (r.origin l.row l.place) 0))
-  copies_more apart fresh free = rw (gather_is z _ a l (value_of_word (word z r.world (name.Value l.row l.place))) apart (place_below h i) fresh free, hand.origin) (zip_insert (IsCopyOf r'.history r'.origin l.row l.call) l.gathered (r.seats s).ids (place_in (in_hand z r l) l.gathered) (in_hand z r l) hand.put (copies_kept h i x) copy)
+      AreCopies r'.history r'.origin l.row l.call (gathering z (value_of_word (word z r.world (name.Value l.row l.place))) l).gathered (insert (r.seats s).ids (index_in (in_hand z r l) l.gathered) (unwrap_or (r.origin l.row l.place) 0))
+  copies_more apart fresh free = rw (gather_is z _ a l (value_of_word (word z r.world (name.Value l.row l.place))) apart (place_below h i) fresh free, hand.origin) (zip_insert (IsCopyOf r'.history r'.origin l.row l.call) l.gathered (r.seats s).ids (index_in (in_hand z r l) l.gathered) (in_hand z r l) hand.put (copies_kept h i x) copy)
 
 -- what the acting seat has gathered
 pub gathers_by : (z : Sizes) (r r' : Run) (s : ℕ) (choice : Choice) (l : Local) (a : Activity) (l' : Local) → Arrow z (word z r.world) s choice l a l' → Happens z r r' s choice l l' a → Inv z r → Below z r' → Gathers r'.history r'.origin l'.activity l' (r'.seats s)
@@ -238,12 +238,12 @@ gathers_by z r r' s choice l a l' (builds b next y t) h i k =
 gathers_by z r r' s choice l _ _ (begins call e b) h i k = record { empty = λ x. absurd x; no_ids = λ x. absurd x; taking = λ x. absurd x; kept = λ x q f. let y : None ≡ Some q = sym (ap (λ g. g.read) h.log ∙ ap (λ c. (log_begun c (length r.history.calls) (r.seats s)).read) e) ∙ f in absurd (cc) }
 gathers_by z r r' s choice l _ _ (reads_last f n) h i k = record { empty = λ x. refl; no_ids = λ x. absurd (omega (arith, x)); taking = λ x. absurd x; kept = λ x. absurd x }
 gathers_by z r r' s choice l _ _ (reads_before f w) h i k = record { empty = λ x. refl; no_ids = λ x. absurd (omega (arith, x)); taking = λ x. absurd x; kept = λ x. absurd x }
-gathers_by z r r' s choice l _ _ (meets_pending j c e) h i k = gathers_met r'.history r'.origin (Activity.Look Look.Key) _ (r'.seats s) ((gathered_before h i).empty tt) (ap (λ g. g.ids) h.log ∙ look_empty j (length r.history.log) (r.seats s) (gathered_before h i).no_ids) (λ x. x) (λ x. x)
-gathers_by z r r' s choice l _ _ (meets_stamped j c version next e n) h i k = gathers_none z r'.history r'.origin (j + 1) next _ (r'.seats s) n ((gathered_before h i).empty tt) (ap (λ g. g.ids) h.log ∙ look_empty j (length r.history.log) (r.seats s) (gathered_before h i).no_ids)
-gathers_by z r r' s choice l _ _ (meets_neither j next e n) h i k = gathers_none z r'.history r'.origin (j + 1) next _ (r'.seats s) n ((gathered_before h i).empty tt) (ap (λ g. g.ids) h.log ∙ look_empty j (length r.history.log) (r.seats s) (gathered_before h i).no_ids)
-gathers_by z r r' s choice l _ _ (is_wanted e) h i k = gathers_met r'.history r'.origin (Activity.Look Look.Clock) _ (r'.seats s) ((gathered_before h i).empty tt) (ap (λ g. g.ids) h.log ∙ (gathered_before h i).no_ids tt) (λ x. x) (λ x. x)
-gathers_by z r r' s choice l _ _ (is_passed next e n) h i k = gathers_none z r'.history r'.origin (l.looked + 1) next _ (r'.seats s) n ((gathered_before h i).empty tt) (ap (λ g. g.ids) h.log ∙ (gathered_before h i).no_ids tt)
-gathers_by z r r' s choice l _ _ loads_to_help h i k = gathers_met r'.history r'.origin (Activity.Look Look.Help) _ (r'.seats s) ((gathered_before h i).empty tt) (ap (λ g. g.ids) h.log ∙ (gathered_before h i).no_ids tt) (λ x. x) (λ x. x)
+gathers_by z r r' s choice l _ _ (sees_pending j c e) h i k = gathers_saw r'.history r'.origin (Activity.Look Look.Key) _ (r'.seats s) ((gathered_before h i).empty tt) (ap (λ g. g.ids) h.log ∙ look_empty j (length r.history.log) (r.seats s) (gathered_before h i).no_ids) (λ x. x) (λ x. x)
+gathers_by z r r' s choice l _ _ (sees_stamped j c version next e n) h i k = gathers_none z r'.history r'.origin (j + 1) next _ (r'.seats s) n ((gathered_before h i).empty tt) (ap (λ g. g.ids) h.log ∙ look_empty j (length r.history.log) (r.seats s) (gathered_before h i).no_ids)
+gathers_by z r r' s choice l _ _ (sees_neither j next e n) h i k = gathers_none z r'.history r'.origin (j + 1) next _ (r'.seats s) n ((gathered_before h i).empty tt) (ap (λ g. g.ids) h.log ∙ look_empty j (length r.history.log) (r.seats s) (gathered_before h i).no_ids)
+gathers_by z r r' s choice l _ _ (is_wanted e) h i k = gathers_saw r'.history r'.origin (Activity.Look Look.Clock) _ (r'.seats s) ((gathered_before h i).empty tt) (ap (λ g. g.ids) h.log ∙ (gathered_before h i).no_ids tt) (λ x. x) (λ x. x)
+gathers_by z r r' s choice l _ _ (is_gone_by next e n) h i k = gathers_none z r'.history r'.origin (l.looked + 1) next _ (r'.seats s) n ((gathered_before h i).empty tt) (ap (λ g. g.ids) h.log ∙ (gathered_before h i).no_ids tt)
+gathers_by z r r' s choice l _ _ loads_to_help h i k = gathers_saw r'.history r'.origin (Activity.Look Look.Help) _ (r'.seats s) ((gathered_before h i).empty tt) (ap (λ g. g.ids) h.log ∙ (gathered_before h i).no_ids tt) (λ x. x) (λ x. x)
 gathers_by z r r' s choice l _ _ (helps next e n) h i k = gathers_none z r'.history r'.origin (l.looked + 1) next _ (r'.seats s) n ((gathered_before h i).empty tt) (ap (λ g. g.ids) h.log ∙ (gathered_before h i).no_ids tt)
 gathers_by z r r' s choice l _ _ (finds_stamped c version next e n) h i k = gathers_none z r'.history r'.origin (l.looked + 1) next _ (r'.seats s) n ((gathered_before h i).empty tt) (ap (λ g. g.ids) h.log ∙ (gathered_before h i).no_ids tt)
 gathers_by z r r' s choice l _ _ (finds_other next e n) h i k = gathers_none z r'.history r'.origin (l.looked + 1) next _ (r'.seats s) n ((gathered_before h i).empty tt) (ap (λ g. g.ids) h.log ∙ (gathered_before h i).no_ids tt)
@@ -254,9 +254,9 @@ gathers_by z r r' s choice l _ _ (key_within e w) h i k = gathers_hand r'.histor
 gathers_by z r r' s choice l _ _ (key_above next e n) h i k = subst (Gathers r'.history r'.origin next.activity next) (sym h.log) (copies_next r'.history r'.origin l next (r.seats s) n (copies_kept h i tt) (unread_before h i tt))
 gathers_by z r r' s choice l _ _ loads_version h i k = gathers_hand r'.history r'.origin (Activity.Read Read.Value) _ (r'.seats s) (subst (λ x. AreCopies r'.history r'.origin l.row l.call l.gathered x) (sym (ap (λ g. g.ids) h.log)) (copies_kept h i tt)) (ap (λ g. g.read) h.log ∙ unread_before h i tt) (λ x. x) (λ x. x)
 gathers_by z r r' s choice l _ _ gathers_listed h i k = gathers_hand r'.history r'.origin (Activity.Read Read.Link) _ (r'.seats s) (subst (λ x. AreCopies r'.history r'.origin l.row l.call (gathering z (value_of_word (word z r.world (name.Value l.row l.place))) l).gathered x) (sym (ap (λ g. g.ids) h.log)) (let x = apart_before h i tt in copies_more h i k tt tt tt tt (h.changed.loaded refl (name.Value l.row l.place)) x (hand_fresh z _ l (walks_before h i) x) (x.hand tt))) (ap (λ g. g.read) h.log ∙ unread_before h i tt) (λ x. x) (λ x. x)
-gathers_by z r r' s choice l _ _ (rest_wanted e) h i k = gathers_hand r'.history r'.origin (Activity.Read Read.LeftOverValue) _ (r'.seats s) (subst (λ x. AreCopies r'.history r'.origin l.row l.call l.gathered x) (sym (ap (λ g. g.ids) h.log)) (copies_kept h i tt)) (ap (λ g. g.read) h.log ∙ unread_before h i tt) (λ x. x) (λ x. x)
-gathers_by z r r' s choice l _ _ (rest_passed next e n) h i k = subst (Gathers r'.history r'.origin next.activity next) (sym h.log) (copies_next r'.history r'.origin l next (r.seats s) n (copies_kept h i tt) (unread_before h i tt))
-gathers_by z r r' s choice l _ _ (gathers_rest next n) h i k = subst (Gathers r'.history r'.origin next.activity next) (sym h.log) (copies_next r'.history r'.origin _ next _ n (let x = apart_before h i tt in copies_more h i k tt tt tt tt (h.changed.loaded refl (name.Value l.row l.place)) x (x.fresh tt) (x.hand tt)) (unread_before h i tt))
+gathers_by z r r' s choice l _ _ (left_over_wanted e) h i k = gathers_hand r'.history r'.origin (Activity.Read Read.LeftOverValue) _ (r'.seats s) (subst (λ x. AreCopies r'.history r'.origin l.row l.call l.gathered x) (sym (ap (λ g. g.ids) h.log)) (copies_kept h i tt)) (ap (λ g. g.read) h.log ∙ unread_before h i tt) (λ x. x) (λ x. x)
+gathers_by z r r' s choice l _ _ (left_over_gone_by next e n) h i k = subst (Gathers r'.history r'.origin next.activity next) (sym h.log) (copies_next r'.history r'.origin l next (r.seats s) n (copies_kept h i tt) (unread_before h i tt))
+gathers_by z r r' s choice l _ _ (gathers_left_over next n) h i k = subst (Gathers r'.history r'.origin next.activity next) (sym h.log) (copies_next r'.history r'.origin _ next _ n (let x = apart_before h i tt in copies_more h i k tt tt tt tt (h.changed.loaded refl (name.Value l.row l.place)) x (x.fresh tt) (x.hand tt)) (unread_before h i tt))
 gathers_by z r r' s choice l _ _ (takes_cell e) h i k = gathers_kept h i (Activity.Put Put.Key) tt refl refl (ap (λ g. g.ids) h.log ∙ added_same (λ g. g.ids) _ (r.seats s) _ refl) (ap (λ g. g.read) h.log ∙ added_same (λ g. g.read) _ (r.seats s) _ refl) (λ x. x) (λ x. x) (λ x. x)
 gathers_by z r r' s choice l _ _ (takes_full e) h i k = gathers_kept h i _ tt refl refl (ap (λ g. g.ids) h.log ∙ added_same (λ g. g.ids) _ (r.seats s) _ refl) (ap (λ g. g.read) h.log ∙ added_same (λ g. g.read) _ (r.seats s) _ refl) (λ x. x) (λ x. x) (λ x. x)
 gathers_by z r r' s choice l _ _ (leaves answer) h i k = record { empty = λ x. absurd x; no_ids = λ x. absurd x; taking = λ x. absurd x; kept = λ x. absurd x }
@@ -274,8 +274,8 @@ read_is next row q g e = which (is_at_cell next) e
     which true x = inl x
     which false x = inr (same_Some row q x)
 
--- a reader at its row is in its pass, and its call is a get or a scan
-reader_is : (a : Activity) (l : Local) → IsAtRead a → IsKind a l → IsPassing a × IsReadCall l.call
+-- a reader at its row is in its visit, and its call is a get or a scan
+reader_is : (a : Activity) (l : Local) → IsAtRead a → IsKind a l → IsVisiting a × IsReadCall l.call
 reader_is (Activity.Look _) l x k = (tt, k)
 reader_is (Activity.Read _) l x k = (tt, k)
 reader_is _ l x k = absurd x
@@ -286,14 +286,14 @@ reads_or_puts (Some (Get key)) x y = y
 reads_or_puts (Some (Scan from upto)) x y = y
 reads_or_puts _ x y = x
 
--- a seat in its pass whose event does not end it is in its call
-passing_underway : (a : Activity) → IsPassing a → (WritesPass a → ⊥) → IsUnderway a
-passing_underway Activity.Idle p n = absurd p
-passing_underway (Activity.Leave answer) p n = n tt
-passing_underway _ p n = tt
+-- a seat in its visit whose event does not end it is in its call
+visiting_underway : (a : Activity) → IsVisiting a → (WritesPass a → ⊥) → IsUnderway a
+visiting_underway Activity.Idle p n = absurd p
+visiting_underway (Activity.Leave answer) p n = n tt
+visiting_underway _ p n = tt
 
--- a call that reads ends its pass only where it ends: a put alone tries again
-read_goes_on : (z : Sizes) (v : Words) (s : ℕ) (choice : Choice) (l : Local) (a : Activity) (k : Local) → Arrow z v s choice l a k → IsReadCall l.call → IsKind a l → IsPassing a → IsKeeping k.activity → WritesPass a → ⊥
+-- a call that reads ends its visit only where it ends: a put alone tries again
+read_goes_on : (z : Sizes) (v : Words) (s : ℕ) (choice : Choice) (l : Local) (a : Activity) (k : Local) → Arrow z v s choice l a k → IsReadCall l.call → IsKind a l → IsVisiting a → IsKeeping k.activity → WritesPass a → ⊥
 read_goes_on z v s choice l a k (builds b next y t) c u p n w = built_pass b y w
 read_goes_on z v s choice l a k (enters e) c u p n w = p
 read_goes_on z v s choice l a k (enters_scan e) c u p n w = p
@@ -329,7 +329,7 @@ module _ {z : Sizes} {r r' : Run} {s : ℕ} {choice : Choice} {l l' : Local} whe
       at_end : ((r.seats s).read ≡ Some q) ⊎ (l.row ≡ q) → IsKeeping (Activity.Read Read.LeftOverKey) × ((r.seats s).read ≡ Some q) ⊎ IsAtRead (Activity.Read Read.LeftOverKey) × (l.row ≡ q)
       at_end (inl x) = inl (tt, x)
       at_end (inr x) = inr (tt, x)
-  read_was (Activity.Read Read.LeftOverValue) h i q e = at_end (read_is l'.activity l.row q (log_gathered (r.origin l.row l.place) (place_gathered l (word z r.world (name.Value l.row l.place))) (r.seats s)) (sym (ap (λ g. g.read) h.log) ∙ e))
+  read_was (Activity.Read Read.LeftOverValue) h i q e = at_end (read_is l'.activity l.row q (log_gathered (r.origin l.row l.place) (index_gathered l (word z r.world (name.Value l.row l.place))) (r.seats s)) (sym (ap (λ g. g.read) h.log) ∙ e))
     where
       at_end : ((r.seats s).read ≡ Some q) ⊎ (l.row ≡ q) → IsKeeping (Activity.Read Read.LeftOverValue) × ((r.seats s).read ≡ Some q) ⊎ IsAtRead (Activity.Read Read.LeftOverValue) × (l.row ≡ q)
       at_end (inl x) = inl (tt, x)
@@ -347,30 +347,30 @@ module _ {z : Sizes} {r r' : Run} {s : ℕ} {choice : Choice} {l l' : Local} whe
   read_was (Activity.Rebalance (Rebalance.Replace Replace.First)) h i q e = inl (tt, sym (ap (λ g. g.read) h.log) ∙ e)
   read_was a h i q e = inl (tt, sym (ap (λ g. g.read) h.log) ∙ e)
 
-  -- before the event it was one that the seat might name, in its pass and for a call that reads
+  -- before the event it was one that the seat might name, in its visit and for a call that reads
   read_before : (a : Activity) → Happens z r r' s choice l l' a → Inv z r → (q : ℕ) → IsKeeping a × ((r.seats s).read ≡ Some q) ⊎ IsAtRead a × (l.row ≡ q) → IsReadRow r.ledger.rows s a l q
   read_before a h i q (inl x) = subst (λ b. IsReadRow r.ledger.rows s b l q) h.activity (i.readers.read s l h.knows (subst IsKeeping (sym h.activity) x.0) q x.1)
   read_before a h i q (inr x) =
       let y = reader_is a l x.0 (subst (λ b. IsKind b l) h.activity (i.shape.kinds s l h.knows).kind) in
-      record { call = y.1; passing = y.0; fresh = subst (IsFresh r.ledger.rows s) x.1 (row_fresh h i x.0) }
+      record { call = y.1; visiting = y.0; fresh = subst (IsFresh r.ledger.rows s) x.1 (row_fresh h i x.0) }
 
   -- and so it is after it
   pub read_by : (a : Activity) → Happens z r r' s choice l l' a → Inv z r → Below z r' → IsKeeping l'.activity → (q : ℕ) → (r'.seats s).read ≡ Some q → IsReadRow r'.ledger.rows s l'.activity l' q
   read_by a h i k n q e = record {
-    call = subst IsReadCall (sym (arrow_call z (word z r.world) s choice l a l' h.arrow (passing_underway a was.passing goes_on)).0) was.call;
-    passing = passing (is_passing l'.activity);
-    fresh = (own_rely z r r' s choice l a l' h i.shape was.passing goes_on).fresh q was.fresh;
+    call = subst IsReadCall (sym (arrow_call z (word z r.world) s choice l a l' h.arrow (visiting_underway a was.visiting goes_on)).0) was.call;
+    visiting = visiting (is_visiting l'.activity);
+    fresh = (own_rely z r r' s choice l a l' h i.shape was.visiting goes_on).fresh q was.fresh;
   }
     where
       was : IsReadRow r.ledger.rows s a l q
       was = read_before a h i q (read_was a h i q e)
 
       goes_on : WritesPass a → ⊥
-      goes_on = read_goes_on z (word z r.world) s choice l a l' h.arrow was.call (subst (λ b. IsKind b l) h.activity (i.shape.kinds s l h.knows).kind) was.passing n
+      goes_on = read_goes_on z (word z r.world) s choice l a l' h.arrow was.call (subst (λ b. IsKind b l) h.activity (i.shape.kinds s l h.knows).kind) was.visiting n
 
-      passing : IsPassing l'.activity ⊎ (IsPassing l'.activity → ⊥) → IsPassing l'.activity
-      passing (inl x) = x
-      passing (inr d) =
-          let p = (subst (λ b. Passes (word z r.world) r.ledger.rows s b l) h.activity (i.shape.passes s l h.knows)).in_pass was.passing in
-          let x : None ≡ Some p.since = sym ((k.shape.passes s l' (knows_next h)).in_none d).passes ∙ others_stay a h s (λ w f. goes_on w) ∙ p.passes in
+      visiting : IsVisiting l'.activity ⊎ (IsVisiting l'.activity → ⊥) → IsVisiting l'.activity
+      visiting (inl x) = x
+      visiting (inr d) =
+          let p = (subst (λ b. Visits (word z r.world) r.ledger.rows s b l) h.activity (i.shape.visits s l h.knows)).in_visit was.visiting in
+          let x : None ≡ Some p.since = sym ((k.shape.visits s l' (knows_next h)).in_none d).visits ∙ others_stay a h s (λ w f. goes_on w) ∙ p.visits in
           absurd (cc)

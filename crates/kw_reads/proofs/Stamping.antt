@@ -21,7 +21,7 @@ use Rattle.kw_core.specs.History.{History, LoadClock, attempt, Stands}
 use Rattle.kw_core.specs.HistoryLaws.{IsPut}
 use Rattle.kw_core.specs.Noted.{noted}
 use Rattle.kw_core.specs.Run.{Origins, Run}
-use Rattle.kw_core.specs.Stages.{IsHelp, IsPublished, IsPutting, IsStamp, HasMet}
+use Rattle.kw_core.specs.Stages.{IsHelp, IsPublished, IsPutting, IsStamp, HasSeenPending}
 use Rattle.kw_core.proofs.Attempts.{in_range}
 use Rattle.kw_core.proofs.Changes.{Makes, made, makes_nothing, makes_begin, makes_add, makes_announce, makes_stamp, makes_help, makes_lose, makes_end}
 use Rattle.kw_core.proofs.Happens.{Happens, log_entry}
@@ -143,8 +143,8 @@ module _ {z : Sizes} {r r' : Run} {s : ℕ} {choice : Choice} {l l' : Local} (i 
       })
   by_change a c (makes_help p e f) h n =
       let known = i.shape.sane.locals s l h.knows in
-      let x = entry_of_seat i l.row l.looked l.met p known.below.row known.ranges.looked e f in
-      let helper = i.puts.helps s l h.knows (subst HasMet (sym h.activity) tt) in
+      let x = entry_of_seat i l.row l.looked l.saw p known.below.row known.ranges.looked e f in
+      let helper = i.puts.helps s l h.knows (subst HasSeenPending (sym h.activity) tt) in
       let same : helper.put ≡ p = same_Some helper.put p (sym helper.origin ∙ f) in
       let set = ap (λ (y : History). y.attempts) n in
       let now = attempt_set_same r.history r'.history p _ set x.within in
@@ -156,7 +156,7 @@ module _ {z : Sizes} {r r' : Run} {s : ℕ} {choice : Choice} {l l' : Local} (i 
         load = (r.seats s).loaded;
         after = add_before i p (r.seats s).loaded x.within (subst (λ y. (attempt r.history y).is_announced ≡ true) same helper.announced) (subst (λ y. (attempt r.history y).announced < (r.seats s).loaded) same (helper.after (subst IsHelp (sym h.activity) tt)));
         loaded = subst (Stands r.history (r.seats s).loaded LoadClock) (sym (ap (λ (b : Attempt). b.version) now)) (helper.loaded (subst IsHelp (sym h.activity) tt));
-        cell = l.met;
+        cell = l.saw;
         entry = rw (x.row, x.seat) e;
         was = other_stamped r.history r'.history p _ set;
         other = λ y. cc;

@@ -1,4 +1,4 @@
--- A reader walks along the list of its row: it meets a listed cell behind its link at each step,
+-- A reader walks along the list of its row: it reaches a listed cell behind its link at each step,
 -- and so none twice.
 --
 -- All is said of the list after the event: what the reader knew of the list before holds of it
@@ -27,10 +27,10 @@ use Rattle.kw_shape.proofs.LinkedRows.{fresh_linked, held_linked, linked_keeps}
 use Rattle.kw_puts.specs.Lists.{list_in}
 use Rattle.kw_puts.proofs.ListSteps.{list_step, leaves, stays_sound}
 use Rattle.kw_puts.proofs.ListWords.{link_is}
-use Rattle.kw_reads.specs.Readers.{HasMetCell, ReadsList}
+use Rattle.kw_reads.specs.Readers.{HasReachedCell, ReadsList}
 use Rattle.kw_reads.specs.Inv.{Inv, lower}
 use Rattle.kw_core.proofs.BuiltNext.{built_next}
-use Rattle.kw_core.proofs.Arrows.{builds, NextLook, looks, lists, NextRest, rests, answers, ends_scan, scans_on, Arrow, reads_last, reads_before, meets_pending, meets_stamped, meets_neither, is_wanted, is_passed, loads_to_help, helps, finds_stamped, finds_other, list_leads, list_ends, key_below, key_within, key_above, loads_version, gathers_listed, rest_passed, gathers_rest}
+use Rattle.kw_core.proofs.Arrows.{builds, NextLook, looks, lists, NextLeftOver, goes_to_left_over, answers, ends_scan, scans_on, Arrow, reads_last, reads_before, sees_pending, sees_stamped, sees_neither, is_wanted, is_gone_by, loads_to_help, helps, finds_stamped, finds_other, list_leads, list_ends, key_below, key_within, key_above, loads_version, gathers_listed, left_over_gone_by, gathers_left_over}
 use Rattle.kw_core.proofs.Happens.{Happens}
 use Rattle.kw_reads.proofs.BuiltReads.{after_walks}
 use Rattle.kw_reads.proofs.Ready.{walks_last}
@@ -41,16 +41,16 @@ read_at_row (Activity.Look _) x = tt
 read_at_row (Activity.Read _) x = tt
 read_at_row _ x = absurd x
 
--- a cell that was met, for another local that is at the same link with the same cell
-same_met : (n : ℕ) (row : Row) (l l' : Local) → l'.link ≡ l.link → l'.place ≡ l.place → l'.walked ≡ l.walked → HasMetCell n row l → HasMetCell n row l'
-same_met n row l l' e f g k = record { on = rw e k.on; behind = rw (e, f) k.behind; walks = rw (f, g) k.walks }
+-- a cell that was reached, for another local that is at the same link with the same cell
+same_reached : (n : ℕ) (row : Row) (l l' : Local) → l'.link ≡ l.link → l'.place ≡ l.place → l'.walked ≡ l.walked → HasReachedCell n row l → HasReachedCell n row l'
+same_reached n row l l' e f g k = record { on = rw e k.on; behind = rw (e, f) k.behind; walks = rw (f, g) k.walks }
 
 -- the link at which a reader with a cell of the list in hand is
-pub has_met : (n : ℕ) (row : Row) (a : Activity) (l : Local) → IsAtListed a → ReadsList n row a l → HasMetCell n row l
-has_met n row (Activity.Read Read.Key) l x k = k
-has_met n row (Activity.Read Read.Version) l x k = k
-has_met n row (Activity.Read Read.Value) l x k = k
-has_met n row _ l x k = absurd x
+pub has_reached : (n : ℕ) (row : Row) (a : Activity) (l : Local) → IsAtListed a → ReadsList n row a l → HasReachedCell n row l
+has_reached n row (Activity.Read Read.Key) l x k = k
+has_reached n row (Activity.Read Read.Version) l x k = k
+has_reached n row (Activity.Read Read.Value) l x k = k
+has_reached n row _ l x k = absurd x
 
 -- a reader that begins with the list is at its first link
 begins_list : (n : ℕ) (row : Row) (l : Local) → (l.link ≡ None) × (l.walked ≡ 0) → IsWalking n row l.link l.walked
@@ -62,11 +62,11 @@ walks_look z row j _ l (looks w) k = k
 walks_look z row j _ l (lists w) k = begins_list z.cells row l k
 
 -- past the list nothing is said
-walks_rest : (n : ℕ) (row : Row) (l next : Local) → NextRest l next → ReadsList n row next.activity next
-walks_rest n row l _ (rests m e) = tt
-walks_rest n row l _ (answers c e) = tt
-walks_rest n row l _ (ends_scan c e f) = tt
-walks_rest n row l _ (scans_on q c e f u) = tt
+walks_left_over : (n : ℕ) (row : Row) (l next : Local) → NextLeftOver l next → ReadsList n row next.activity next
+walks_left_over n row l _ (goes_to_left_over m e) = tt
+walks_left_over n row l _ (answers c e) = tt
+walks_left_over n row l _ (ends_scan c e f) = tt
+walks_left_over n row l _ (scans_on q c e f u) = tt
 
 -- a reader's event, with what it leaves of the list of its row
 module _ {z : Sizes} {r r' : Run} {s : ℕ} {choice : Choice} {l l' : Local} {a : Activity} (h : Happens z r r' s choice l l' a) (i : Inv z r) where
@@ -108,7 +108,7 @@ module _ {z : Sizes} {r r' : Run} {s : ℕ} {choice : Choice} {l l' : Local} (h 
   pub cell_next : (c : ℕ) → cell_of_link_word (word z r.world (link_name l.row l.link)) ≡ Some c → IsNext (list_in (word z r'.world) r'.listed l.row) l.link c
   cell_next c e = at_next _ l.link _ c ((row_sound h i tt).list l.link (walks_after h i tt).on) (link_loaded (Some c) e)
 
-  -- it is met, and there are as many cells
+  -- it is reached, and there are as many cells
   pub walk_next : (c : ℕ) → cell_of_link_word (word z r.world (link_name l.row l.link)) ≡ Some c → IsWalking z.cells (list_in (word z r'.world) r'.listed l.row) (Some c) (l.walked + 1)
   walk_next c e = let m = cell_next c e in walk_goes_on z.cells _ l.link l.walked c ((row_sound h i tt).below c m.listed) m.listed m.behind (walks_after h i tt)
 
@@ -120,22 +120,22 @@ pub walks_by : (z : Sizes) (r r' : Run) (s : ℕ) (choice : Choice) (l : Local) 
 walks_by z r r' s choice l a l' (builds b next y t) h i = after_walks z.cells _ l'.activity l' (built_next z (word z r.world) choice l b l' t)
 walks_by z r r' s choice l _ _ (reads_last f n) h i = (refl, refl)
 walks_by z r r' s choice l _ _ (reads_before f w) h i = (refl, refl)
-walks_by z r r' s choice l _ _ (meets_pending j c e) h i = walks_after h i tt
-walks_by z r r' s choice l _ _ (meets_stamped j c version next e n) h i = walks_look z _ (j + 1) next (remembering c version l) n (walks_after h i tt)
-walks_by z r r' s choice l _ _ (meets_neither j next e n) h i = walks_look z _ (j + 1) next l n (walks_after h i tt)
+walks_by z r r' s choice l _ _ (sees_pending j c e) h i = walks_after h i tt
+walks_by z r r' s choice l _ _ (sees_stamped j c version next e n) h i = walks_look z _ (j + 1) next (remembering c version l) n (walks_after h i tt)
+walks_by z r r' s choice l _ _ (sees_neither j next e n) h i = walks_look z _ (j + 1) next l n (walks_after h i tt)
 walks_by z r r' s choice l _ _ (is_wanted e) h i = walks_after h i tt
-walks_by z r r' s choice l _ _ (is_passed next e n) h i = walks_look z _ (l.looked + 1) next l n (walks_after h i tt)
+walks_by z r r' s choice l _ _ (is_gone_by next e n) h i = walks_look z _ (l.looked + 1) next l n (walks_after h i tt)
 walks_by z r r' s choice l _ _ loads_to_help h i = walks_after h i tt
-walks_by z r r' s choice l _ _ (helps next e n) h i = walks_look z _ (l.looked + 1) next (remembering l.met l.helping l) n (walks_after h i tt)
+walks_by z r r' s choice l _ _ (helps next e n) h i = walks_look z _ (l.looked + 1) next (remembering l.saw l.helping l) n (walks_after h i tt)
 walks_by z r r' s choice l _ _ (finds_stamped c version next e n) h i = walks_look z _ (l.looked + 1) next (remembering c version l) n (walks_after h i tt)
 walks_by z r r' s choice l _ _ (finds_other next e n) h i = walks_look z _ (l.looked + 1) next l n (walks_after h i tt)
 walks_by z r r' s choice l _ _ (list_leads c e) h i = record { on = (walks_after h i tt).on; behind = (cell_next h i c e).behind; walks = rw (counts_on h i c e) (walk_next h i c e) }
-walks_by z r r' s choice l _ _ (list_ends next e n) h i = walks_rest z.cells _ _ next n
+walks_by z r r' s choice l _ _ (list_ends next e n) h i = walks_left_over z.cells _ _ next n
 walks_by z r r' s choice l _ _ (key_below e) h i = (walks_after h i tt).walks
-walks_by z r r' s choice l _ _ (key_within e w) h i = same_met z.cells _ l _ refl refl refl (walks_after h i tt)
-walks_by z r r' s choice l _ _ (key_above next e n) h i = walks_rest z.cells _ _ next n
-walks_by z r r' s choice l _ _ loads_version h i = same_met z.cells _ l _ refl refl refl (walks_after h i tt)
+walks_by z r r' s choice l _ _ (key_within e w) h i = same_reached z.cells _ l _ refl refl refl (walks_after h i tt)
+walks_by z r r' s choice l _ _ (key_above next e n) h i = walks_left_over z.cells _ _ next n
+walks_by z r r' s choice l _ _ loads_version h i = same_reached z.cells _ l _ refl refl refl (walks_after h i tt)
 walks_by z r r' s choice l _ _ gathers_listed h i = (walks_after h i tt).walks
-walks_by z r r' s choice l _ _ (rest_passed next e n) h i = walks_rest z.cells _ _ next n
-walks_by z r r' s choice l _ _ (gathers_rest next n) h i = walks_rest z.cells _ _ next n
+walks_by z r r' s choice l _ _ (left_over_gone_by next e n) h i = walks_left_over z.cells _ _ next n
+walks_by z r r' s choice l _ _ (gathers_left_over next n) h i = walks_left_over z.cells _ _ next n
 walks_by z r r' s choice l a l' b h i = tt

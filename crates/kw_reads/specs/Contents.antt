@@ -76,10 +76,10 @@ pub record IsOlder (r : Run) (q p : ℕ) : Type 0 where
 abbrev pub IsGone : Run → ℕ → Type 0
 IsGone r p = ((attempt r.history p).is_lost ≡ true) ⊎ WasPut r (attempt r.history p).row p
 
--- what an attempt has become whose row was used again: it is lost, or was stamped before each pass
+-- what an attempt has become whose row was used again: it is lost, or was stamped before each visit
 -- that is on
 abbrev pub IsPast : Run → ℕ → Type 0
-IsPast r p = ((attempt r.history p).is_lost ≡ true) ⊎ IsPut r.history p × ((t since : ℕ) → r.ledger.rows.passes t ≡ Some since → (attempt r.history p).at < since)
+IsPast r p = ((attempt r.history p).is_lost ≡ true) ⊎ IsPut r.history p × ((t since : ℕ) → r.ledger.rows.visits t ≡ Some since → (attempt r.history p).at < since)
 
 -- the row is live, or went after this position
 abbrev pub IsSince : Ledger → ℕ → ℕ → Type 0
@@ -120,21 +120,21 @@ HasCandidate _ = ⊥
 -- the rows that a walk names were not gone when its call drew, or began
 pub record IsLater (g : Ledger) (d : ℕ) (a : Activity) (l : Local) : Type 0 where
   pub row : HasRow a → IsSince g d l.row
-  pub met : HasCandidate a → IsSince g d l.candidate
+  pub saw : HasCandidate a → IsSince g d l.candidate
   pub next : IsAtRow a → (n : ℕ) → l.next ≡ Some n → IsSince g d n
 
 -- all entries of the row are frozen, and the row is not replaced by this seat
-abbrev pub HasPassedRow : Activity → Type 0
-HasPassedRow (Activity.Rebalance (Rebalance.Freeze (Freeze.Look i))) = ⊥
-HasPassedRow (Activity.Rebalance (Rebalance.Freeze (Freeze.Entry i))) = ⊥
-HasPassedRow a = HasFrozen a
+abbrev pub HasGoneByRow : Activity → Type 0
+HasGoneByRow (Activity.Rebalance (Rebalance.Freeze (Freeze.Look i))) = ⊥
+HasGoneByRow (Activity.Rebalance (Rebalance.Freeze (Freeze.Entry i))) = ⊥
+HasGoneByRow a = HasFrozen a
 
 -- it looks at the scans, or has looked at all
-abbrev pub scans_passed : Sizes → Activity → ℕ → Type 0
-scans_passed z a i = i < needed_by z a
+abbrev pub scans_gone_by : Sizes → Activity → ℕ → Type 0
+scans_gone_by z a i = i < needed_by z a
 
--- of what the scans need that the seat has passed, all is listed, or at least `most`, which no cell
--- of its row is above
+-- of what the scans need that the seat has gone by, all is listed, or at least `most`, which no
+-- cell of its row is above
 pub record Needs (z : Sizes) (r : Run) (a : Activity) (l : Local) : Type 0 where
   pub most : ℕ
   pub since : ℕ
@@ -142,7 +142,7 @@ pub record Needs (z : Sizes) (r : Run) (a : Activity) (l : Local) : Type 0 where
   pub bound : (p : ℕ) → InRow z r l.row p → (attempt r.history p).version ≤ most
   pub reached : most ≤ word z r.world name.Clock
   pub late : IsLate since r.ledger.waits (Through z r) most
-  pub covered : IsCovered (Through z r) (scans_passed z a) (Contains l.rebalance.needed) most
+  pub covered : IsCovered (Through z r) (scans_gone_by z a) (Contains l.rebalance.needed) most
   pub again : (i clock : ℕ) → HelpsScan i a → word z r.world (name.Scan i) ≡ scan_word (Waiting clock) → (clock ≡ l.rebalance.waiting) ⊎ (since < r.ledger.waits i)
 
 -- what no event takes from a row: it was linked before it went, its clock was that of its link, and
@@ -164,5 +164,5 @@ pub record Contents (z : Sizes) (r : Run) : Type 0 where
   pub kept : Kept (puts_of r.history) (rows_of z r) (Needed z r)
   pub dead : (q k u : ℕ) → IsDead r.ledger.rows q → HoldsKey (word z r.world) r.ledger.rows q k → Needed z r u → Shows (puts_of r.history) (InRow z r q) (WasPut r q) k u
   pub later : (t : ℕ) (l : Local) → slice_get r.world.locals t ≡ Some l → IsLater r.ledger.rows (floor_of r t l) l.activity l
-  pub needs : (t : ℕ) (l : Local) → slice_get r.world.locals t ≡ Some l → HasPassedRow l.activity → Needs z r l.activity l
+  pub needs : (t : ℕ) (l : Local) → slice_get r.world.locals t ≡ Some l → HasGoneByRow l.activity → Needs z r l.activity l
   pub front : (t : ℕ) (l : Local) → slice_get r.world.locals t ≡ Some l → IsReading l.activity → IsFronted z r l.row (version_of l) (floor_of r t l) (r.seats t).looked

@@ -14,7 +14,7 @@ use Rattle.std.specs.List.{AllZip}
 use Rattle.kw_cells.specs.declared.cell.Cell as kw_cell
 use Rattle.kw_lists.specs.Counts.{count_below}
 use Rattle.kw_lists.specs.Rows.{Row, Stands, IsBehind, IsOn}
-use Rattle.kw_lists.specs.Walks.{IsPassed, IsWalking}
+use Rattle.kw_lists.specs.Walks.{IsGoneBy, IsWalking}
 use Rattle.kw_model.specs.declared.call.Call.{Call}
 use Rattle.kw_world.specs.declared.activity.Activity.{Activity}
 use Rattle.kw_world.specs.declared.activity.look.Look.TheVariants as Look
@@ -31,7 +31,7 @@ use Rattle.kw_core.specs.declared.seat_log.SeatLog.{SeatLog}
 use Rattle.kw_core.specs.Run.{Origins, Run}
 use Rattle.kw_rows.specs.Ledger.{Ledger, IsFresh}
 use Rattle.kw_shape.specs.Shape.{IsReadCall}
-use Rattle.kw_core.specs.Stages.{IsLooking, HasLooked, HasMet, IsTaking, IsListing, IsResting, HasPlace, HasVersion, HasCellKey, IsReading, IsKeeping, IsPassing}
+use Rattle.kw_core.specs.Stages.{IsLooking, HasLooked, HasSeenPending, IsTaking, IsListing, IsResting, HasPlace, HasVersion, HasCellKey, IsReading, IsKeeping, IsVisiting}
 use Rattle.kw_puts.specs.Builds.{has_place}
 use Rattle.kw_puts.specs.Lists.{list_in}
 
@@ -73,37 +73,37 @@ looked_by z (Activity.Look _) l = l.looked
 looked_by z _ l = z.seats
 
 -- each attempt that is due and whose seat's entry the reader is done with is ready; and where it
--- met a pending entry, so is each one of that seat, but for the one with the cell that it met
+-- saw a pending entry, so is each one of that seat, but for the one with the cell that it saw
 pub record Looks (z : Sizes) (f : Listed) (h : History) (o : Origins) (a : Activity) (l : Local) (g : SeatLog) : Type 0 where
   pub past : (c p : ℕ) → IsDue h o l.row l.call g.looked c p → (attempt h p).seat < looked_by z a l → IsReady f h l c p
-  pub here : HasMet a → (c p : ℕ) → IsDue h o l.row l.call g.looked c p → (attempt h p).seat ≡ l.looked → (c ≡ l.met) ⊎ IsReady f h l c p
+  pub here : HasSeenPending a → (c p : ℕ) → IsDue h o l.row l.call g.looked c p → (attempt h p).seat ≡ l.looked → (c ≡ l.saw) ⊎ IsReady f h l c p
 
 -- Walking along the list.
 
--- a reader, in the list of a row of n cells, has met the cell in hand: this is listed, and stands
--- behind the link of the list at which the reader is
-pub record HasMetCell (n : ℕ) (r : Row) (l : Local) : Type 0 where
+-- a reader, in the list of a row of n cells, has reached the cell in hand: this is listed, and
+-- stands behind the link of the list at which the reader is
+pub record HasReachedCell (n : ℕ) (r : Row) (l : Local) : Type 0 where
   pub on : IsOn r l.link
   pub behind : IsBehind r l.link l.place
   pub walks : IsWalking n r (Some l.place) l.walked
 
 -- where a reader is in the list of its row: at the first link while it looks at entries; then at
--- its link, or at the cell that it has met. It has counted no more cells than there are listed ones
--- up to there, for it meets none twice
+-- its link, or at the cell that it has reached. It has counted no more cells than there are listed
+-- ones up to there, for it reaches none twice
 abbrev pub ReadsList : ℕ → Row → Activity → Local → Type 0
 ReadsList n r (Activity.Look _) l = (l.link ≡ None) × (l.walked ≡ 0)
 ReadsList n r (Activity.Read Read.Link) l = IsWalking n r l.link l.walked
-ReadsList n r (Activity.Read Read.Key) l = HasMetCell n r l
-ReadsList n r (Activity.Read Read.Version) l = HasMetCell n r l
-ReadsList n r (Activity.Read Read.Value) l = HasMetCell n r l
+ReadsList n r (Activity.Read Read.Key) l = HasReachedCell n r l
+ReadsList n r (Activity.Read Read.Version) l = HasReachedCell n r l
+ReadsList n r (Activity.Read Read.Value) l = HasReachedCell n r l
 ReadsList n r _ l = Unit {0}
 
 -- the cell is the one in hand, or stands behind it in the list
 abbrev pub IsFromHand : Row → Local → ℕ → Type 0
 IsFromHand r l c = (r.listed c ≡ true) × ((c ≡ l.place) ⊎ Stands r l.place c)
 
--- the walk will meet the cell, or it is in hand: it is listed behind the reader's link, or from the
--- cell in hand on; of the cells that were not met it is the one in hand
+-- the walk will reach the cell, or it is in hand: it is listed behind the reader's link, or from
+-- the cell in hand on; of the cells that were not reached it is the one in hand
 abbrev pub IsToCome : Row → Activity → Local → ℕ → Type 0
 IsToCome r (Activity.Read Read.Link) l c = (r.listed c ≡ true) × IsBehind r l.link c
 IsToCome r (Activity.Read Read.LeftOverKey) l c = c ≡ l.place
@@ -155,12 +155,12 @@ pub record Gathers (h : History) (o : Origins) (a : Activity) (l : Local) (g : S
 
 -- no cell is gathered twice: no more are gathered than places of the row are, none that is still
 -- remembered is, and the one in hand is neither; what is gathered on the walk is listed, and the
--- walk has passed it
+-- walk has gone by it
 pub record Apart (z : Sizes) (r : Row) (a : Activity) (l : Local) : Type 0 where
   pub few : length l.gathered ≤ count_below z.cells (λ c. has_place c l.gathered)
   pub unmarked : (c : ℕ) → is_marked c l.remembered ≡ true → has_place c l.gathered ≡ false
   pub listed : IsListing a → (c : ℕ) → has_place c l.gathered ≡ true → r.listed c ≡ true
-  pub passed : IsListing a → (c : ℕ) → has_place c l.gathered ≡ true → IsPassed r l.link c
+  pub gone_by : IsListing a → (c : ℕ) → has_place c l.gathered ≡ true → IsGoneBy r l.link c
   pub fresh : IsResting a → has_place l.place l.gathered ≡ false
   pub hand : HasPlace a → is_marked l.place l.remembered ≡ false
 
@@ -173,12 +173,12 @@ pub record HasSeen (h : History) (o : Origins) (a : Activity) (l : Local) (g : S
 
 -- The row that was read.
 
--- a row that counts as read: the call is a get or a scan, its pass is on, and the seat may name the
--- row. So the row is not used again while what was gathered of it is there. A put has read no row:
--- it ends its pass to try again, and would keep the row beyond that
+-- a row that counts as read: the call is a get or a scan, its visit is on, and the seat may name
+-- the row. So the row is not used again while what was gathered of it is there. A put has read no
+-- row: it ends its pass to try again, and would keep the row beyond that
 pub record IsReadRow (g : Ledger) (t : ℕ) (a : Activity) (l : Local) (q : ℕ) : Type 0 where
   pub call : IsReadCall l.call
-  pub passing : IsPassing a
+  pub visiting : IsVisiting a
   pub fresh : IsFresh g t q
 
 -- The group.

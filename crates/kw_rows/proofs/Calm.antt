@@ -1,5 +1,5 @@
 -- Events that change no state of a held row: free rows taken, infants given back or written,
--- retired rows free again, marks, frozen rows, numbers and passes. States, marks and what seats
+-- retired rows free again, marks, frozen rows, numbers and visits. States, marks and what seats
 -- know of their groups stay right.
 use Rattle.std.proofs.Common.{ℕ, ◌≡◌, ◌≢◌, ◌⊎◌, inl, inr, true, Option, Some, None, sym, ◌∙◌, ap, subst, ◌<◌}
 use Rattle.std.proofs.lemmas.Bool.{cases_eq}
@@ -9,7 +9,7 @@ use Rattle.kw_rows.specs.RowState.{State, Leader, IsLed, IsTwo, IsLeader, IsEnga
 use Rattle.kw_rows.specs.Rows.{Rows, Chain, Closed}
 use Rattle.kw_rows.specs.States.{LinksOn, HasState, States, Marks}
 use Rattle.kw_rows.specs.Group.{View, Elsewhere, Marking, Opened, Claiming, MarkingNext, Alone, Pair, IsAlone, IsClaimedNext, WentWith, Group, Named, Pairs}
-use Rattle.kw_rows.specs.Events.{SameLinks, SameStates, SameFates, Turns, Takes, GivesBack, Fills, Reclaims, MarksLink, Freezes, Numbers, Passes, Rests}
+use Rattle.kw_rows.specs.Events.{SameLinks, SameStates, SameFates, Turns, Takes, GivesBack, Fills, Reclaims, MarksLink, Freezes, Numbers, Visits, Rests}
 use Rattle.kw_rows.proofs.Statuses.{not_infant, not_free, dead_infant, dead_free, not_dead}
 use Rattle.kw_rows.proofs.StatesKeep.{Leads, SameRow, states_kept, marks_same, marks_none}
 use Rattle.kw_rows.proofs.Framed.{held_no, retired_no}
@@ -102,7 +102,7 @@ module _ (w w' : Rows) (ledger ledger' : Ledger) (k : Calm w w' ledger ledger') 
       -- a row that went with a held one is held
       with_held : (p : ℕ) → IsHeld ledger x → IsDead ledger x → WentWith ledger x p → IsHeld ledger p
       with_held p (inl a) d t = not_dead (ledger.fates x).status a d
-      with_held p (inr h) d t = inr (h.0, record { since = h.1.since; dead = t.0; passes = h.1.passes; before = subst (λ g. h.1.since < g) (sym t.1) h.1.before })
+      with_held p (inr h) d t = inr (h.0, record { since = h.1.since; dead = t.0; visits = h.1.visits; before = subst (λ g. h.1.since < g) (sym t.1) h.1.before })
 
 -- what such an event keeps of states, marks and groups
 pub record Stays (w w' : Rows) (ledger ledger' : Ledger) : Type 0 where
@@ -192,9 +192,9 @@ module _ (w w' : Rows) (ledger ledger' : Ledger) (h : States w ledger) (m : (x :
   pub rests_stay : Rests w w' ledger ledger' → Stays w w' ledger ledger'
   rests_stay e = links_stay e.links e.states e.ledger.fates (λ n at d. e.ledger.others.numbered n ∙ d)
 
-  -- a pass begins or ends
-  pub passes_stay : (t : ℕ) (start : Option ℕ) → Passes w w' ledger ledger' t start → Stays w w' ledger ledger'
-  passes_stay t start e = links_stay e.links e.states e.fates (λ n at d. e.numbered n ∙ d)
+  -- a visit begins or ends
+  pub visits_stay : (t : ℕ) (start : Option ℕ) → Visits w w' ledger ledger' t start → Stays w w' ledger ledger'
+  visits_stay t start e = links_stay e.links e.states e.fates (λ n at d. e.numbered n ∙ d)
 
   -- a number is drawn, and those that were drawn stay
   pub numbers_stay : (now n : ℕ) → Numbers w w' ledger ledger' now n → Stays w w' ledger ledger'

@@ -44,7 +44,7 @@ module _ (w : Rows) (ledger : Ledger) (c : Chain w ledger) where
   leads_live None y a e = subst (IsLive ledger) (same_Some c.first y (sym c.leads ∙ e)) c.first_live
   leads_live (Some p) y a e = c.linked p y a e
 
-  -- the rows of a list that begins with a live row are live, and their minima are at least its
+  -- the rows of a list that begins with a live row are live, and their least keys are at least its
   pub links_live : (x : ℕ) (xs : List ℕ) (after : Option ℕ) → Links w.next x xs after → IsLive ledger x → (y : ℕ) → IsIn (x ∷ xs) y → IsLive ledger y × (w.least x ≤ w.least y)
   links_live x [] after l a y (inl e) = (subst (IsLive ledger) (sym e) a, omega (arith, ap w.least e))
   links_live x [] after l a y (inr i) = absurd i
@@ -53,7 +53,7 @@ module _ (w : Rows) (ledger : Ledger) (c : Chain w ledger) where
       let t = links_live m ms after l.1 (c.linked x m a l.0) y i in
       (t.0, omega (arith, t.1, c.rises x m a l.0))
 
-  -- and what stands after them is live and has a greater minimum than each
+  -- and what stands after them is live and has a greater least key than each
   pub after_live : (x : ℕ) (xs : List ℕ) (after : Option ℕ) → Links w.next x xs after → IsLive ledger x → (b : ℕ) → after ≡ Some b → IsLive ledger b × ((y : ℕ) → IsIn (x ∷ xs) y → w.least y < w.least b)
   after_live x [] after l a b e = (c.linked x b a (l ∙ e), only)
     where

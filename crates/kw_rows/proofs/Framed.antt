@@ -7,7 +7,7 @@ use Rattle.kw_rows.specs.Ledger.{Ledger, Status, Free, Infant, Live, Dead, IsDea
 use Rattle.kw_rows.specs.RowState.{State, Retired}
 use Rattle.kw_rows.specs.Rows.{Rows, WasLinked}
 use Rattle.kw_rows.specs.States.{IsDeadState, IsNumbered, HasState, States}
-use Rattle.kw_rows.specs.Events.{SameLinks, SameLedger, Turns, Takes, GivesBack, Fills, Reclaims, Numbers, Passes}
+use Rattle.kw_rows.specs.Events.{SameLinks, SameLedger, Turns, Takes, GivesBack, Fills, Reclaims, Numbers, Visits}
 use Rattle.kw_rows.proofs.Statuses.{not_infant, not_dead, not_free, dead_infant, dead_free}
 use Rattle.kw_rows.proofs.Frames.{Frames}
 
@@ -30,12 +30,12 @@ pub held_no : (ledger : Ledger) (x : ℕ) → (WasLinked ledger x → ⊥) → I
 held_no ledger x f (inl a) = f (inl a)
 held_no ledger x f (inr h) = f (inr h.1.dead)
 
--- a retired row whose number was drawn before each pass that is on is not held
-pub retired_no : (w : Rows) (ledger : Ledger) (x m : ℕ) → States w ledger → IsDead ledger x → w.state x ≡ Retired m → ((t since at : ℕ) → ledger.passes t ≡ Some since → ledger.numbered m ≡ Some at → at < since) → IsHeld ledger x → ⊥
+-- a retired row whose number was drawn before each visit that is on is not held
+pub retired_no : (w : Rows) (ledger : Ledger) (x m : ℕ) → States w ledger → IsDead ledger x → w.state x ≡ Retired m → ((t since at : ℕ) → ledger.visits t ≡ Some since → ledger.numbered m ≡ Some at → at < since) → IsHeld ledger x → ⊥
 retired_no w ledger x m s d r y (inl a) = not_dead (ledger.fates x).status a d
 retired_no w ledger x m s d r y (inr h) =
     let n : IsNumbered ledger x m = subst (IsDeadState ledger x) r (dead_state w ledger x s d) in
-    omega (arith, h.1.before, n.after, y h.0 h.1.since n.at h.1.passes n.drawn)
+    omega (arith, h.1.before, n.after, y h.0 h.1.since n.at h.1.visits n.drawn)
 
 module _ (w w' : Rows) (ledger ledger' : Ledger) where
   -- nothing that the list reads has changed
@@ -46,7 +46,7 @@ module _ (w w' : Rows) (ledger ledger' : Ledger) where
     least = λ x a. l x;
     was = λ x a. g.fates x;
     stays = λ x a. g.fates x;
-    passes = λ t since x p d b. sym (g.others.passes t) ∙ p;
+    visits = λ t since x p d b. sym (g.others.visits t) ∙ p;
   }
 
   -- no word of a link has changed, and nothing of the record
@@ -61,7 +61,7 @@ module _ (w w' : Rows) (ledger ledger' : Ledger) where
     least = λ y a. t.sets.links.least y;
     was = λ y a. t.fates y (λ q. k (subst (WasLinked ledger') q a));
     stays = λ y a. t.fates y (λ q. f (subst (IsHeld ledger) q a));
-    passes = λ u since y p d b. sym (t.others.passes u) ∙ p;
+    visits = λ u since y p d b. sym (t.others.visits u) ∙ p;
   }
 
   -- a free row is taken
@@ -76,7 +76,7 @@ module _ (w w' : Rows) (ledger ledger' : Ledger) where
   pub reclaimed : (x m : ℕ) → States w ledger → Reclaims w w' ledger ledger' x m → Frames w w' ledger ledger'
   reclaimed x m s e = turned x _ e.turns (retired_no w ledger x m s e.dead e.retired e.young) (no_live_free (ledger'.fates x).status e.status)
 
-  -- words of an infant are written, which nobody meets
+  -- words of an infant are written, which nobody sees
   pub filled : (x : ℕ) → Fills w w' ledger ledger' x → Frames w w' ledger ledger'
   filled x e = record {
     head = e.head;
@@ -84,7 +84,7 @@ module _ (w w' : Rows) (ledger ledger' : Ledger) where
     least = λ y a. e.least y (other y a);
     was = λ y a. e.ledger.fates y;
     stays = λ y a. e.ledger.fates y;
-    passes = λ t since y p d b. sym (e.ledger.others.passes t) ∙ p;
+    visits = λ t since y p d b. sym (e.ledger.others.visits t) ∙ p;
   }
     where
       other : (y : ℕ) → WasLinked ledger y → y ≢ x
@@ -98,40 +98,40 @@ module _ (w w' : Rows) (ledger ledger' : Ledger) where
     least = λ y a. e.links.least y;
     was = λ y a. e.fates y;
     stays = λ y a. e.fates y;
-    passes = λ t since y p d b. sym (e.passes t) ∙ p;
+    visits = λ t since y p d b. sym (e.visits t) ∙ p;
   }
 
-  -- a pass that begins now holds no dead row, nor does one that has ended
-  pub passed : (t : ℕ) (at : Option ℕ) → ((x since : ℕ) → at ≡ Some since → IsDead ledger x → since < (ledger.fates x).gone → ⊥) → Passes w w' ledger ledger' t at → Frames w w' ledger ledger'
-  passed t at f e = record {
+  -- a visit that begins now holds no dead row, nor does one that has ended
+  pub visited : (t : ℕ) (at : Option ℕ) → ((x since : ℕ) → at ≡ Some since → IsDead ledger x → since < (ledger.fates x).gone → ⊥) → Visits w w' ledger ledger' t at → Frames w w' ledger ledger'
+  visited t at f e = record {
     head = e.links.head;
     next = λ y a. e.links.next y;
     least = λ y a. e.links.least y;
     was = λ y a. e.fates y;
     stays = λ y a. e.fates y;
-    passes = λ u since y p d b. which u since y p d b (cases_eq u t);
+    visits = λ u since y p d b. which u since y p d b (cases_eq u t);
   }
     where
-      which : (u since y : ℕ) → ledger'.passes u ≡ Some since → IsDead ledger y → since < (ledger.fates y).gone → (u ≡ t) ⊎ (u ≡ t → ⊥) → ledger.passes u ≡ Some since
-      which u since y p d b (inl q) = absurd (f y since (sym e.passes ∙ subst (λ v. ledger'.passes v ≡ Some since) q p) d b)
+      which : (u since y : ℕ) → ledger'.visits u ≡ Some since → IsDead ledger y → since < (ledger.fates y).gone → (u ≡ t) ⊎ (u ≡ t → ⊥) → ledger.visits u ≡ Some since
+      which u since y p d b (inl q) = absurd (f y since (sym e.visits ∙ subst (λ v. ledger'.visits v ≡ Some since) q p) d b)
       which u since y p d b (inr q) = sym (e.others u q) ∙ p
 
-  -- a pass begins: what went before is not held by it
-  pub begun : (t now : ℕ) → Past ledger now → Passes w w' ledger ledger' t (Some now) → Frames w w' ledger ledger'
-  begun t now b e = passed t (Some now) (λ x since q d l. omega (arith, same_Some now since q, b.gone x d, l)) e
+  -- a visit begins: what went before is not held by it
+  pub begun : (t now : ℕ) → Past ledger now → Visits w w' ledger ledger' t (Some now) → Frames w w' ledger ledger'
+  begun t now b e = visited t (Some now) (λ x since q d l. omega (arith, same_Some now since q, b.gone x d, l)) e
 
-  -- a pass ends
-  pub ended : (t : ℕ) → Passes w w' ledger ledger' t None → Frames w w' ledger ledger'
-  ended t e = passed t None (λ x since q. no_none since q) e
+  -- a visit ends
+  pub ended : (t : ℕ) → Visits w w' ledger ledger' t None → Frames w w' ledger ledger'
+  ended t e = visited t None (λ x since q. no_none since q) e
     where
       no_none : {A : Type 0} (since : ℕ) → None ≡ Some since → A
       no_none since q = absurd (cc)
 
-  -- Passes and numbers are past.
+  -- Visits and numbers are past.
 
-  -- passes that stay began before
-  pub passes_past : (now : ℕ) → Past ledger now → ((t : ℕ) → ledger'.passes t ≡ ledger.passes t) → (t since : ℕ) → ledger'.passes t ≡ Some since → since < suc now
-  passes_past now b e t since p = omega (arith, b.begun t since (sym (e t) ∙ p))
+  -- visits that stay began before
+  pub visits_past : (now : ℕ) → Past ledger now → ((t : ℕ) → ledger'.visits t ≡ ledger.visits t) → (t since : ℕ) → ledger'.visits t ≡ Some since → since < suc now
+  visits_past now b e t since p = omega (arith, b.begun t since (sym (e t) ∙ p))
 
   -- numbers that stay were drawn before
   pub numbers_past : (now : ℕ) → Past ledger now → ((m : ℕ) → ledger'.numbered m ≡ ledger.numbered m) → (m at : ℕ) → ledger'.numbered m ≡ Some at → at < suc now
@@ -145,10 +145,10 @@ module _ (w w' : Rows) (ledger ledger' : Ledger) where
       which (inl q) = omega (arith, same_Some now at (sym e.drawn ∙ subst (λ v. ledger'.numbered v ≡ Some at) q p))
       which (inr q) = omega (arith, b.drawn k at (sym (e.others k q) ∙ p))
 
-  -- a new pass begins now, the others began before
-  pub pass_past : (now t : ℕ) (start : Option ℕ) → ((since : ℕ) → start ≡ Some since → since < suc now) → Past ledger now → Passes w w' ledger ledger' t start → (u since : ℕ) → ledger'.passes u ≡ Some since → since < suc now
-  pass_past now t start f b e u since p = which (cases_eq u t)
+  -- a new visit begins now, the others began before
+  pub visit_past : (now t : ℕ) (start : Option ℕ) → ((since : ℕ) → start ≡ Some since → since < suc now) → Past ledger now → Visits w w' ledger ledger' t start → (u since : ℕ) → ledger'.visits u ≡ Some since → since < suc now
+  visit_past now t start f b e u since p = which (cases_eq u t)
     where
       which : (u ≡ t) ⊎ (u ≡ t → ⊥) → since < suc now
-      which (inl q) = f since (sym e.passes ∙ subst (λ v. ledger'.passes v ≡ Some since) q p)
+      which (inl q) = f since (sym e.visits ∙ subst (λ v. ledger'.visits v ≡ Some since) q p)
       which (inr q) = omega (arith, b.begun u since (sym (e.others u q) ∙ p))

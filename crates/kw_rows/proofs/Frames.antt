@@ -13,8 +13,8 @@ pub record Frames (w w' : Rows) (ledger ledger' : Ledger) : Type 0 where
   pub least : (x : ℕ) → WasLinked ledger x → w'.least x ≡ w.least x
   pub was : (x : ℕ) → WasLinked ledger' x → ledger'.fates x ≡ ledger.fates x
   pub stays : (x : ℕ) → IsHeld ledger x → ledger'.fates x ≡ ledger.fates x
-  -- a pass that is on after it was on before it, or holds no dead row
-  pub passes : (t since x : ℕ) → ledger'.passes t ≡ Some since → IsDead ledger x → since < (ledger.fates x).gone → ledger.passes t ≡ Some since
+  -- a visit that is on after it was on before it, or holds no dead row
+  pub visits : (t since x : ℕ) → ledger'.visits t ≡ Some since → IsDead ledger x → since < (ledger.fates x).gone → ledger.visits t ≡ Some since
 
 module _ (w w' : Rows) (ledger ledger' : Ledger) (e : Frames w w' ledger ledger') where
   -- a row that is held was linked once
@@ -45,7 +45,7 @@ module _ (w w' : Rows) (ledger ledger' : Ledger) (e : Frames w w' ledger ledger'
       let f = e.was x (inr h.dead) in
       let d : IsDead ledger x = dead_was x h.dead in
       let b : h.since < (ledger.fates x).gone = subst (λ (k : Fate). h.since < k.gone) f h.before in
-      record { since = h.since; dead = d; passes = e.passes t h.since x h.passes d b; before = b }
+      record { since = h.since; dead = d; visits = e.visits t h.since x h.visits d b; before = b }
 
   -- no more rows are held
   pub was : (x : ℕ) → IsHeld ledger' x → IsHeld ledger x
@@ -110,7 +110,7 @@ module _ (w w' : Rows) (ledger ledger' : Ledger) (e : Frames w w' ledger ledger'
                 record {
                   since = u.1.since;
                   dead = ap (λ (t : Fate). t.status) s ∙ d;
-                  passes = u.1.passes;
+                  visits = u.1.visits;
                   before = omega (arith, (held_was u.0 x u.1).before, l, ap (λ (t : Fate). t.gone) s, u.1.before, ap (λ (t : Fate). t.gone) (e.was x (inr u.1.dead)));
                 },
               )
@@ -160,15 +160,15 @@ module _ (w w' : Rows) (ledger ledger' : Ledger) (e : Frames w w' ledger ledger'
       which (inl k) = inl (omega (arith, k, gone x fx, born y fy))
       which (inr k) = inr (ap (λ (t : Fate). t.status) fy ∙ k.0, omega (arith, k.1, gone y fy, born x fx))
 
-  -- a row stays fresh to a seat while its pass goes on
-  pub fresh_framed : (t since x : ℕ) → ledger.passes t ≡ Some since → ledger'.passes t ≡ Some since → IsFresh ledger t x → IsFresh ledger' t x
+  -- a row stays fresh to a seat while its visit goes on
+  pub fresh_framed : (t since x : ℕ) → ledger.visits t ≡ Some since → ledger'.visits t ≡ Some since → IsFresh ledger t x → IsFresh ledger' t x
   fresh_framed t since x p q (inl a) = inl (live_on x a)
   fresh_framed t since x p q (inr h) =
       let s = e.stays x (inr (t, h)) in
-      inr (record { since = h.since; dead = ap (λ (k : Fate). k.status) s ∙ h.dead; passes = q ∙ sym p ∙ h.passes; before = subst (λ (k : Fate). h.since < k.gone) (sym s) h.before })
+      inr (record { since = h.since; dead = ap (λ (k : Fate). k.status) s ∙ h.dead; visits = q ∙ sym p ∙ h.visits; before = subst (λ (k : Fate). h.since < k.gone) (sym s) h.before })
 
   -- what is recorded stays past, where no more is recorded
-  pub past_framed : (now : ℕ) → Past ledger now → ((t since : ℕ) → ledger'.passes t ≡ Some since → since < suc now) → ((m at : ℕ) → ledger'.numbered m ≡ Some at → at < suc now) → Past ledger' (suc now)
+  pub past_framed : (now : ℕ) → Past ledger now → ((t since : ℕ) → ledger'.visits t ≡ Some since → since < suc now) → ((m at : ℕ) → ledger'.numbered m ≡ Some at → at < suc now) → Past ledger' (suc now)
   past_framed now b begun drawn = record {
     gone = λ x d. omega (arith, ap (λ (k : Fate). k.gone) (e.was x (inr d)), b.gone x (dead_was x d));
     begun = begun;

@@ -44,7 +44,7 @@ from_last next x [] after l y i = absurd i
 from_last next x (m ∷ ms) after l y (inl e) = (x, inl refl, l.0 ∙ ap Some (sym e))
 from_last next x (m ∷ ms) after l y (inr i) = let t = from_last next m ms after l.1 y i in (t.0, inr t.1, t.2)
 
--- and minima rise along the list
+-- and least keys rise along the list
 pub rise_next : (next : ℕ → Option ℕ) (least : ℕ → ℕ) (x : ℕ) (xs : List ℕ) (after : Option ℕ) → Links next x xs after → Rises least x xs → (y : ℕ) → IsIn (x ∷ xs) y → ((m : ℕ) × (next y ≡ Some m) × IsIn xs m × (least y < least m)) ⊎ (next y ≡ after)
 rise_next next least x [] after l h y (inl e) = inr (ap next e ∙ l)
 rise_next next least x [] after l h y (inr i) = absurd i
@@ -55,7 +55,7 @@ rise_next next least x (m ∷ ms) after l h y (inr i) = which (rise_next next le
     which (inl k) = inl (k.0, k.1, inr k.2, k.3)
     which (inr e) = inr e
 
--- the first of rising rows has the least minimum
+-- the first of rising rows has the least of their least keys
 pub first_rises : (least : ℕ → ℕ) (x : ℕ) (xs : List ℕ) → Rises least x xs → (y : ℕ) → IsIn (x ∷ xs) y → least x ≤ least y
 first_rises least x [] h y (inl e) = omega (arith, ap least e)
 first_rises least x [] h y (inr i) = absurd i

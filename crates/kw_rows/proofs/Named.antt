@@ -30,7 +30,7 @@ module _ (w : Rows) (g : Ledger) (c : Closed w g) where
     where
       held : IsFresh g t x → (g.fates y).status ≡ Dead → ((g.fates x).status ≡ Dead) × ((g.fates x).gone ≤ (g.fates y).gone) → WasHeld g t y
       held (inl a) d o = let k : Live ≡ Dead = sym a ∙ o.0 in absurd (cc)
-      held (inr h) d o = record { since = h.since; dead = d; passes = h.passes; before = omega (arith, h.before, o.1) }
+      held (inr h) d o = record { since = h.since; dead = d; visits = h.visits; before = omega (arith, h.before, o.1) }
 
       which : IsHeld g y → IsFresh g t y
       which (inl a) = inl a

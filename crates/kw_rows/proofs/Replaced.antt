@@ -80,7 +80,7 @@ module _ (w w' : Rows) (ledger ledger' : Ledger) (now : ℕ) (p : Option ℕ) (r
     leads_on = e.leads_on;
     others = e.others;
     leasts = e.leasts;
-    passes = e.passes.passes;
+    visits = e.visits.visits;
     gone_dead = e.gone_dead;
     gone_now = e.gone_now;
     come = e.come;
@@ -107,8 +107,8 @@ module _ (w w' : Rows) (ledger ledger' : Ledger) (now : ℕ) (p : Option ℕ) (r
     frozen = e.frozen;
     next = λ y d. e.others (Some y) d;
     leads_on = λ y q. (n, subst (λ x. leads w' x ≡ Some n) (sym q) e.leads_on);
-    passes = e.passes.passes;
-    numbered = e.passes.numbered;
+    visits = e.visits.visits;
+    numbered = e.visits.numbered;
     went = λ x i. (e.gone_dead x (in_group r c x i), e.gone_now x (in_group r c x i));
     come = e.come;
     owner = e.come_owner;
@@ -128,7 +128,7 @@ module _ (w w' : Rows) (ledger ledger' : Ledger) (now : ℕ) (p : Option ℕ) (r
   replaced_follows = follow_kept w w' ledger ledger' now p r (rest_of c) after n more s.chain swaps s.closed s.follows
 
   -- what a seat may name it may name still
-  pub replaced_fresh : (t since x : ℕ) → ledger.passes t ≡ Some since → IsFresh ledger t x → IsFresh ledger' t x
+  pub replaced_fresh : (t since x : ℕ) → ledger.visits t ≡ Some since → IsFresh ledger t x → IsFresh ledger' t x
   replaced_fresh t since x = fresh_kept w w' ledger ledger' now p r (rest_of c) after n more s.chain swaps t x since
 
   -- states go with fates

@@ -106,7 +106,7 @@ module _ (w w' : Rows) (ledger ledger' : Ledger) (x : ℕ) (s s' : State) (found
   -- no more rows are held
   held_was : (y : ℕ) → IsHeld ledger' y → IsHeld ledger y
   held_was y (inl a) = inl (sym (status y) ∙ a)
-  held_was y (inr t) = inr (t.0, record { since = t.1.since; dead = sym (status y) ∙ t.1.dead; passes = sym (same.others.passes t.0) ∙ t.1.passes; before = subst (λ (f : Fate). t.1.since < f.gone) (same.fates y) t.1.before })
+  held_was y (inr t) = inr (t.0, record { since = t.1.since; dead = sym (status y) ∙ t.1.dead; visits = sym (same.others.visits t.0) ∙ t.1.visits; before = subst (λ (f : Fate). t.1.since < f.gone) (same.fates y) t.1.before })
 
   -- what pairs of rows say stays
   pairs_set : (IsLive ledger x → s' ≡ Leader 2 → (c : ℕ) × (w.next x ≡ Some c)) → (IsDead ledger x → s' ≡ Leader 2 → ⊥) → ((p : ℕ) → IsDead ledger x → s' ≡ Follower p → ⊥) → (y : ℕ) → Pairs w' ledger' y

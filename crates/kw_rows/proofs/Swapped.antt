@@ -205,9 +205,9 @@ module _ (w w' : Rows) (ledger ledger' : Ledger) (now : ℕ) (p : Option ℕ) (r
 
   -- Rows that a seat may name.
 
-  -- a row that went now is held by each pass that is on
-  went_held : (x : ℕ) → Went x → (s since : ℕ) → ledger.passes s ≡ Some since → WasHeld ledger' s x
-  went_held x i s since f = record { since = since; dead = e.gone_dead x i; passes = e.passes s ∙ f; before = subst (λ g. since < g) (sym (e.gone_now x i)) (e.begun s since f) }
+  -- a row that went now is held by each visit that is on
+  went_held : (x : ℕ) → Went x → (s since : ℕ) → ledger.visits s ≡ Some since → WasHeld ledger' s x
+  went_held x i s since f = record { since = since; dead = e.gone_dead x i; visits = e.visits s ∙ f; before = subst (λ g. since < g) (sym (e.gone_now x i)) (e.begun s since f) }
 
   -- a dead row stays so
   dead_old : (x : ℕ) → (ledger.fates x).status ≡ Dead → (Went x → ⊥) × (Came x → ⊥)
@@ -217,10 +217,10 @@ module _ (w w' : Rows) (ledger ledger' : Ledger) (now : ℕ) (p : Option ℕ) (r
   held_old : (s x : ℕ) → WasHeld ledger s x → WasHeld ledger' s x
   held_old s x h =
       let t = dead_old x h.dead in
-      record { since = h.since; dead = e.status x t.0 t.1 ∙ h.dead; passes = e.passes s ∙ h.passes; before = subst (λ g. h.since < g) (sym (e.gone x t.0 t.1)) h.before }
+      record { since = h.since; dead = e.status x t.0 t.1 ∙ h.dead; visits = e.visits s ∙ h.visits; before = subst (λ g. h.since < g) (sym (e.gone x t.0 t.1)) h.before }
 
   -- what a seat may name it may name still
-  pub fresh_kept : (s x since : ℕ) → ledger.passes s ≡ Some since → IsFresh ledger s x → IsFresh ledger' s x
+  pub fresh_kept : (s x since : ℕ) → ledger.visits s ≡ Some since → IsFresh ledger s x → IsFresh ledger' s x
   fresh_kept s x since f (inl a) = which (in_or_not (r ∷ rest) x)
     where
       which : Went x ⊎ (Went x → ⊥) → IsFresh ledger' s x
@@ -242,7 +242,7 @@ module _ (w w' : Rows) (ledger ledger' : Ledger) (now : ℕ) (p : Option ℕ) (r
       which (inr d) (inl i) = (not_dead (ledger'.fates x).status (e.come x i) h.dead)
       which (inr d) (inr f) =
           let k : (ledger.fates x).status ≡ Dead = sym (e.status x d f) ∙ h.dead in
-          inr (record { dead = k; held = record { since = h.since; dead = k; passes = sym (e.passes s) ∙ h.passes; before = subst (λ g. h.since < g) (e.gone x d f) h.before } })
+          inr (record { dead = k; held = record { since = h.since; dead = k; visits = sym (e.visits s) ∙ h.visits; before = subst (λ g. h.since < g) (e.gone x d f) h.before } })
 
   -- what is said of a held row and the one that it leads to
   record Good (x y : ℕ) : Type 0 where
@@ -255,7 +255,7 @@ module _ (w w' : Rows) (ledger ledger' : Ledger) (now : ℕ) (p : Option ℕ) (r
   to_live x y a l = record { held = inl a; later = λ d. (not_dead (ledger'.fates y).status a d); rises = l }
 
   -- a row that went now leads to a row that went too, or to a live one
-  went_good : (s x y : ℕ) → Went x → (since : ℕ) → ledger.passes s ≡ Some since → w'.next x ≡ Some y → Good x y
+  went_good : (s x y : ℕ) → Went x → (since : ℕ) → ledger.visits s ≡ Some since → w'.next x ≡ Some y → Good x y
   went_good s x y i since f g = which (to_next w.next r rest after e.group x i)
     where
       k : w.next x ≡ Some y
@@ -289,7 +289,7 @@ module _ (w w' : Rows) (ledger ledger' : Ledger) (now : ℕ) (p : Option ℕ) (r
 
         which : IsHeld ledger y → Went y ⊎ (Went y → ⊥) → Good x y
         which q (inl i) = record {
-          held = inr (s, went_held y i s d.held.since d.held.passes);
+          held = inr (s, went_held y i s d.held.since d.held.visits);
           later = λ f. (dead, omega (arith, e.gone x old.0 old.1, e.gone_now y i, e.past x d.dead));
           rises = o.rises x y h k;
         }
@@ -308,7 +308,7 @@ module _ (w w' : Rows) (ledger ledger' : Ledger) (now : ℕ) (p : Option ℕ) (r
     good x y (inr h) f = which (dead_split h.0 x h.1)
       where
         which : Went x ⊎ WasDead h.0 x → Good x y
-        which (inl i) = went_good h.0 x y i h.1.since (sym (e.passes h.0) ∙ h.1.passes) f
+        which (inl i) = went_good h.0 x y i h.1.since (sym (e.visits h.0) ∙ h.1.visits) f
         which (inr d) = dead_good h.0 x y d f
 
     -- the end of a row's range

@@ -17,12 +17,12 @@ pub record Swaps (w w' : Rows) (ledger ledger' : Ledger) (now : ℕ) (p : Option
   pub rises : Rises w.least n more
   pub below : (x b : ℕ) → IsIn (n ∷ more) x → after ≡ Some b → w.least x < w.least b
   pub past : (x : ℕ) → IsDead ledger x → (ledger.fates x).gone < now
-  pub begun : (t since : ℕ) → ledger.passes t ≡ Some since → since < now
+  pub begun : (t since : ℕ) → ledger.visits t ≡ Some since → since < now
   -- after it
   pub leads_on : leads w' p ≡ Some n
   pub others : (q : Option ℕ) → q ≢ p → leads w' q ≡ leads w q
   pub leasts : (x : ℕ) → w'.least x ≡ w.least x
-  pub passes : (t : ℕ) → ledger'.passes t ≡ ledger.passes t
+  pub visits : (t : ℕ) → ledger'.visits t ≡ ledger.visits t
   pub gone_dead : (x : ℕ) → IsIn (r ∷ rest) x → IsDead ledger' x
   pub gone_now : (x : ℕ) → IsIn (r ∷ rest) x → (ledger'.fates x).gone ≡ now
   pub come : (x : ℕ) → IsIn (n ∷ more) x → IsLive ledger' x

@@ -39,7 +39,7 @@ pub record Wins (w w' : Rows) (ledger ledger' : Ledger) (now : ℕ) (p : Option 
   pub frozen : (y : ℕ) → w'.frozen y ≡ w.frozen y
   pub next : (y : ℕ) → Some y ≢ p → w'.next y ≡ w.next y
   pub leads_on : (y : ℕ) → Some y ≡ p → (k : ℕ) × (w'.next y ≡ Some k)
-  pub passes : (t : ℕ) → ledger'.passes t ≡ ledger.passes t
+  pub visits : (t : ℕ) → ledger'.visits t ≡ ledger.visits t
   pub numbered : (m : ℕ) → ledger'.numbered m ≡ ledger.numbered m
   pub went : (x : ℕ) → IsOf r c x → IsDead ledger' x × ((ledger'.fates x).gone ≡ now)
   pub come : (x : ℕ) → IsIn new x → IsLive ledger' x
@@ -338,11 +338,11 @@ module _ (w w' : Rows) (ledger ledger' : Ledger) (now : ℕ) (p : Option ℕ) (r
   dead_on_state x row.Free f h = absurd h
 
   -- a row that is no row of the group and no new one
-  rest_state : (x : ℕ) → (IsOf r c x → ⊥) → ledger'.fates x ≡ ledger.fates x → (s : Status) → (ledger.fates x).status ≡ s → HasState w ledger x s → HasState w' ledger' x s
-  rest_state x d f Free q h = e.state x ∙ h
-  rest_state x d f Infant q h = e.state x ∙ h ∙ ap (λ (k : Fate). row.Infant k.owner) (sym f)
-  rest_state x d f Live q h = subst (IsLiveState w' ledger' x) (sym (e.state x)) (live_on_state x (w.state x) refl q d f h)
-  rest_state x d f Dead q h = subst (IsDeadState ledger' x) (sym (e.state x)) (dead_on_state x (w.state x) f h)
+  other_state : (x : ℕ) → (IsOf r c x → ⊥) → ledger'.fates x ≡ ledger.fates x → (s : Status) → (ledger.fates x).status ≡ s → HasState w ledger x s → HasState w' ledger' x s
+  other_state x d f Free q h = e.state x ∙ h
+  other_state x d f Infant q h = e.state x ∙ h ∙ ap (λ (k : Fate). row.Infant k.owner) (sym f)
+  other_state x d f Live q h = subst (IsLiveState w' ledger' x) (sym (e.state x)) (live_on_state x (w.state x) refl q d f h)
+  other_state x d f Dead q h = subst (IsDeadState ledger' x) (sym (e.state x)) (dead_on_state x (w.state x) f h)
 
   -- a row of the group
   went_state : (x : ℕ) → IsOf r c x → IsDeadState ledger' x (w.state x)
@@ -364,7 +364,7 @@ module _ (w w' : Rows) (ledger ledger' : Ledger) (now : ℕ) (p : Option ℕ) (r
       which : IsOf r c x ⊎ (IsOf r c x → ⊥) → IsIn new x ⊎ (IsIn new x → ⊥) → HasState w' ledger' x (ledger'.fates x).status
       which (inl i) f = subst (HasState w' ledger' x) (sym (e.went x i).0) (subst (IsDeadState ledger' x) (sym (e.state x)) (went_state x i))
       which (inr d) (inl i) = subst (HasState w' ledger' x) (sym (e.come x i)) (subst (IsLiveState w' ledger' x) (sym (came_state x i)) refl)
-      which (inr d) (inr f) = let k = e.fates x d f in subst (HasState w' ledger' x) (ap (λ (t : Fate). t.status) (sym k)) (rest_state x d k (ledger.fates x).status refl (states x))
+      which (inr d) (inr f) = let k = e.fates x d f in subst (HasState w' ledger' x) (ap (λ (t : Fate). t.status) (sym k)) (other_state x d k (ledger.fates x).status refl (states x))
 
   -- and marks
   pub marks_won : (x : ℕ) → Marks w' ledger' x
@@ -406,7 +406,7 @@ module _ (w w' : Rows) (ledger ledger' : Ledger) (now : ℕ) (p : Option ℕ) (r
   -- a dead row that is none of the group was held before
   held_was : (x : ℕ) → (IsOf r c x → ⊥) → IsDead ledger x → IsHeld ledger' x → IsHeld ledger x
   held_was x d a (inl b) = not_dead (ledger.fates x).status (sym (stayed x d (inr a)).0 ∙ b) a
-  held_was x d a (inr t) = inr (t.0, record { since = t.1.since; dead = a; passes = sym (e.passes t.0) ∙ t.1.passes; before = subst (λ g. t.1.since < g) (stayed x d (inr a)).1 t.1.before })
+  held_was x d a (inr t) = inr (t.0, record { since = t.1.since; dead = a; visits = sym (e.visits t.0) ∙ t.1.visits; before = subst (λ g. t.1.since < g) (stayed x d (inr a)).1 t.1.before })
 
   -- a follower of the group went with its leader
   went_together : (x q : ℕ) → IsOf r c x → w.state x ≡ Follower q → WentWith ledger' x q
@@ -445,8 +445,8 @@ module _ (w w' : Rows) (ledger ledger' : Ledger) (now : ℕ) (p : Option ℕ) (r
         together = λ y a d q. not_dead (ledger'.fates x).status (e.come x i) d;
       }
 
-      rest_pairs : (IsOf r c x → ⊥) → (IsIn new x → ⊥) → Pairs w' ledger' x
-      rest_pairs d f = record {
+      other_pairs : (IsOf r c x → ⊥) → (IsIn new x → ⊥) → Pairs w' ledger' x
+      other_pairs d f = record {
         next = λ a q. next_on x ((pairs x).next (status ∙ a) (sym (e.state x) ∙ q));
         claimed = λ a b q. let o = status ∙ b in claimed_next x o ((pairs x).claimed (held_was x d o a) o (sym (e.state x) ∙ q));
         together = λ y a b q. let o = status ∙ b in went_with x y o ((pairs x).together y (held_was x d o a) o (sym (e.state x) ∙ q));
@@ -458,4 +458,4 @@ module _ (w w' : Rows) (ledger ledger' : Ledger) (now : ℕ) (p : Option ℕ) (r
       which : IsOf r c x ⊎ (IsOf r c x → ⊥) → IsIn new x ⊎ (IsIn new x → ⊥) → Pairs w' ledger' x
       which (inl i) f = went_pairs i
       which (inr d) (inl i) = came_pairs i
-      which (inr d) (inr f) = rest_pairs d f
+      which (inr d) (inr f) = other_pairs d f

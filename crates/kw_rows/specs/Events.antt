@@ -25,15 +25,15 @@ SameStates w w' = (x : ℕ) → w'.state x ≡ w.state x
 abbrev pub SameFates : Ledger → Ledger → Type 0
 SameFates g g' = (x : ℕ) → g'.fates x ≡ g.fates x
 
--- the passes and the numbers
-pub record SamePasses (g g' : Ledger) : Type 0 where
-  pub passes : (t : ℕ) → g'.passes t ≡ g.passes t
+-- the visits and the numbers
+pub record SameVisits (g g' : Ledger) : Type 0 where
+  pub visits : (t : ℕ) → g'.visits t ≡ g.visits t
   pub numbered : (m : ℕ) → g'.numbered m ≡ g.numbered m
 
 -- all that is recorded
 pub record SameLedger (g g' : Ledger) : Type 0 where
   pub fates : SameFates g g'
-  pub others : SamePasses g g'
+  pub others : SameVisits g g'
 
 -- One row is written.
 
@@ -47,7 +47,7 @@ pub record SetsState (w w' : Rows) (x : ℕ) (s : State) : Type 0 where
 pub record Turns (w w' : Rows) (g g' : Ledger) (x : ℕ) (s : State) : Type 0 where
   pub sets : SetsState w w' x s
   pub fates : (y : ℕ) → y ≢ x → g'.fates y ≡ g.fates y
-  pub others : SamePasses g g'
+  pub others : SameVisits g g'
 
 -- a seat takes a free row
 pub record Takes (w w' : Rows) (g g' : Ledger) (x s : ℕ) : Type 0 where
@@ -73,11 +73,11 @@ pub record Fills (w w' : Rows) (g g' : Ledger) (x : ℕ) : Type 0 where
   pub states : SameStates w w'
   pub ledger : SameLedger g g'
 
--- a retired row is free again: each pass that is on began after the row's number was drawn
+-- a retired row is free again: each visit that is on began after the row's number was drawn
 pub record Reclaims (w w' : Rows) (g g' : Ledger) (x m : ℕ) : Type 0 where
   pub dead : IsDead g x
   pub retired : w.state x ≡ Retired m
-  pub young : (t since at : ℕ) → g.passes t ≡ Some since → g.numbered m ≡ Some at → at < since
+  pub young : (t since at : ℕ) → g.visits t ≡ Some since → g.numbered m ≡ Some at → at < since
   pub turns : Turns w w' g g' x row.Free
   pub status : (g'.fates x).status ≡ Free
 
@@ -143,7 +143,7 @@ pub record Numbers (w w' : Rows) (g g' : Ledger) (now m : ℕ) : Type 0 where
   pub links : SameLinks w w'
   pub states : SameStates w w'
   pub fates : SameFates g g'
-  pub passes : (t : ℕ) → g'.passes t ≡ g.passes t
+  pub visits : (t : ℕ) → g'.visits t ≡ g.visits t
   pub drawn : g'.numbered m ≡ Some now
   pub others : (k : ℕ) → k ≢ m → g'.numbered k ≡ g.numbered k
 
@@ -154,14 +154,14 @@ pub record Retires (w w' : Rows) (g g' : Ledger) (x m : ℕ) : Type 0 where
   pub sets : SetsState w w' x (Retired m)
   pub ledger : SameLedger g g'
 
--- the pass of a seat begins at `at`, or ends
-pub record Passes (w w' : Rows) (g g' : Ledger) (t : ℕ) (at : Option ℕ) : Type 0 where
+-- the visit of a seat begins at `at`, or ends
+pub record Visits (w w' : Rows) (g g' : Ledger) (t : ℕ) (at : Option ℕ) : Type 0 where
   pub links : SameLinks w w'
   pub states : SameStates w w'
   pub fates : SameFates g g'
   pub numbered : (m : ℕ) → g'.numbered m ≡ g.numbered m
-  pub passes : g'.passes t ≡ at
-  pub others : (u : ℕ) → u ≢ t → g'.passes u ≡ g.passes u
+  pub visits : g'.visits t ≡ at
+  pub others : (u : ℕ) → u ≢ t → g'.visits u ≡ g.visits u
 
 -- nothing of the rows changes
 pub record Rests (w w' : Rows) (g g' : Ledger) : Type 0 where
@@ -233,7 +233,7 @@ pub record Replaces (w w' : Rows) (g g' : Ledger) (now : ℕ) (p : Option ℕ) (
   pub come_owner : (x : ℕ) → IsIn (n ∷ more) x → (g'.fates x).owner ≡ (g.fates x).owner
   pub come_upper : (x : ℕ) → IsIn (n ∷ more) x → (g'.fates x).upper ≡ bound w (w.next x)
   pub fates : (x : ℕ) → (IsIn (r ∷ rest_of c) x → ⊥) → (IsIn (n ∷ more) x → ⊥) → g'.fates x ≡ g.fates x
-  pub passes : SamePasses g g'
+  pub visits : SameVisits g g'
 
 -- one event at position `now`
 pub data Event (w w' : Rows) (g g' : Ledger) (now : ℕ) : Type 0 where
@@ -249,7 +249,7 @@ pub data Event (w w' : Rows) (g g' : Ledger) (now : ℕ) : Type 0 where
   freezes : (x : ℕ) → Freezes w w' g g' x → Event w w' g g' now
   numbers : (m : ℕ) → Numbers w w' g g' now m → Event w w' g g' now
   retires : (x m : ℕ) → Retires w w' g g' x m → Event w w' g g' now
-  begins : (t : ℕ) → Passes w w' g g' t (Some now) → Event w w' g g' now
-  ends : (t : ℕ) → Passes w w' g g' t None → Event w w' g g' now
+  begins : (t : ℕ) → Visits w w' g g' t (Some now) → Event w w' g g' now
+  ends : (t : ℕ) → Visits w w' g g' t None → Event w w' g g' now
   rests : Rests w w' g g' → Event w w' g g' now
   replaces : (p : Option ℕ) (r : ℕ) (c after : Option ℕ) (n : ℕ) (more : List ℕ) → Replaces w w' g g' now p r c after n more → Event w w' g g' now

@@ -25,11 +25,11 @@ pub record Fate : Type 0 where
   -- the clock when it was linked
   pub clock : ℕ
 
--- the record: what has become of the rows, and where passes began and numbers were drawn
+-- the record: what has become of the rows, and where visits began and numbers were drawn
 pub record Ledger : Type 0 where
   pub fates : ℕ → Fate
-  -- where the pass of each seat began, of those that are in one
-  pub passes : ℕ → Option ℕ
+  -- where the visit of each seat began, of those that are in one
+  pub visits : ℕ → Option ℕ
   -- where each retirement number was drawn, of those that were
   pub numbered : ℕ → Option ℕ
 
@@ -41,14 +41,14 @@ IsLive g x = (g.fates x).status ≡ Live
 abbrev pub IsDead : Ledger → ℕ → Type 0
 IsDead g x = (g.fates x).status ≡ Dead
 
--- the row was unlinked after the pass of seat t began
+-- the row was unlinked after the visit of seat t began
 pub record WasHeld (g : Ledger) (t x : ℕ) : Type 0 where
   pub since : ℕ
   pub dead : IsDead g x
-  pub passes : g.passes t ≡ Some since
+  pub visits : g.visits t ≡ Some since
   pub before : since < (g.fates x).gone
 
--- seat t may name the row: it is linked, or was so in the pass
+-- seat t may name the row: it is linked, or was so in the visit
 abbrev pub IsFresh : Ledger → ℕ → ℕ → Type 0
 IsFresh g t x = IsLive g x ⊎ WasHeld g t x
 
@@ -59,5 +59,5 @@ IsHeld g x = IsLive g x ⊎ ((t : ℕ) × WasHeld g t x)
 -- `now` is past all that is recorded
 pub record Past (g : Ledger) (now : ℕ) : Type 0 where
   pub gone : (x : ℕ) → IsDead g x → (g.fates x).gone < now
-  pub begun : (t since : ℕ) → g.passes t ≡ Some since → since < now
+  pub begun : (t since : ℕ) → g.visits t ≡ Some since → since < now
   pub drawn : (m at : ℕ) → g.numbered m ≡ Some at → at < now

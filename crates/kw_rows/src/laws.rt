@@ -11,7 +11,7 @@ ghost use Rattle.kw_rows.specs.Structure.{Structure};
 /// An event leaves the live rows one list with rising least keys; what a seat may name leads to
 /// what it may name; each row has a state and marks that go with what has become of it; rows that
 /// share a key follow one another. What a seat knows of its group stays known while it may name the
-/// rows of it, and it may name them until its pass ends.
+/// rows of it, and it may name them until its visit ends.
 pub fn row_laws()
     ensures chain { (w w2 : Rows) (g g2 : Ledger) (now : ℕ) → Structure w g now →
         Event w w2 g g2 now → Chain w2 g2 }
@@ -28,7 +28,7 @@ pub fn row_laws()
     ensures past { (w w2 : Rows) (g g2 : Ledger) (now : ℕ) → Structure w g now →
         Event w w2 g g2 now → Past g2 (suc now) }
     ensures fresh { (w w2 : Rows) (g g2 : Ledger) (now : ℕ) → Structure w g now →
-        Event w w2 g g2 now → (t since x : ℕ) → g.passes t ≡ Some since → g2.passes t ≡ Some since →
+        Event w w2 g g2 now → (t since x : ℕ) → g.visits t ≡ Some since → g2.visits t ≡ Some since →
         IsFresh g t x → IsFresh g2 t x }
     ensures group { (w w2 : Rows) (g g2 : Ledger) (now : ℕ) → Structure w g now →
         Event w w2 g g2 now → (t : ℕ) (view : View) → Named g t view → Group w g view →

@@ -1,5 +1,5 @@
 -- What is so at each of the activities that take, write and link new rows, and at each that may
--- follow them: the seat stays in its pass, for its put, and is at no row of a walk.
+-- follow them: the seat stays in its visit, for its put, and is at no row of a walk.
 use Rattle.std.proofs.Common.{ℕ, ◌≡◌, Option, Some, None, refl}
 use Rattle.kw_model.specs.declared.call.Call.{Call}
 use Rattle.kw_model.specs.declared.call.Call.TheVariants.{Put, Del, Get, Scan}
@@ -12,7 +12,7 @@ use Rattle.kw_world.specs.declared.activity.rebalance.Rebalance.TheVariants as R
 use Rattle.kw_world.specs.declared.answer.Answer.TheVariants.{Done, NoRows}
 use Rattle.kw_world.specs.declared.local.Local.{Local}
 use Rattle.kw_core.specs.declared.stage.Stage.TheVariants.{Rebalancing}
-use Rattle.kw_core.specs.Stages.{IsBalancing, IsBusy, IsPassing, IsPublished, stage_of}
+use Rattle.kw_core.specs.Stages.{IsBalancing, IsBusy, IsVisiting, IsPublished, stage_of}
 use Rattle.kw_core.specs.Words.{Words}
 use Rattle.kw_core.proofs.Building.{IsBuilding}
 use Rattle.kw_core.proofs.BuiltNext.{IsAfterBuilding}
@@ -32,11 +32,11 @@ built_stage _ x = absurd x
 pub built_balancing : (a : Activity) → IsBuilding a → IsBalancing a
 built_balancing a x = rw (built_stage a x) tt
 
--- it is in its pass, and neither enters nor leaves
-pub built_passes : (a : Activity) → IsBuilding a → IsPassing a × IsBusy a
-built_passes Activity.Idle x = absurd x
-built_passes (Activity.Enter _) x = absurd x
-built_passes _ x = (tt, tt)
+-- it is in its visit, and neither enters nor leaves
+pub built_visits : (a : Activity) → IsBuilding a → IsVisiting a × IsBusy a
+built_visits Activity.Idle x = absurd x
+built_visits (Activity.Enter _) x = absurd x
+built_visits _ x = (tt, tt)
 
 pub built_pass : (a : Activity) → IsBuilding a → WritesPass a → ⊥
 built_pass (Activity.Enter Enter.Announce) x w = x
@@ -62,11 +62,11 @@ built_kinds _ l x k = absurd x
 
 -- At what follows.
 
--- the seat stays in its pass
-pub after_passes : (a : Activity) → IsAfterBuilding a → IsPassing a × IsBusy a
-after_passes Activity.Idle x = absurd x
-after_passes (Activity.Enter _) x = absurd x
-after_passes _ x = (tt, tt)
+-- the seat stays in its visit
+pub after_visits : (a : Activity) → IsAfterBuilding a → IsVisiting a × IsBusy a
+after_visits Activity.Idle x = absurd x
+after_visits (Activity.Enter _) x = absurd x
+after_visits _ x = (tt, tt)
 
 -- a put may be refused for want of rows
 no_rows : (c : Option Call) → IsPutCall c → IsAnswerOf c NoRows

@@ -22,17 +22,17 @@ use Rattle.kw_world.specs.Step.{word}
 use Rattle.kw_core.specs.Run.{Run}
 use Rattle.kw_core.specs.declared.stage.Stage.{Stage}
 use Rattle.kw_core.specs.declared.stage.Stage.TheVariants.{Rebalancing}
-use Rattle.kw_core.specs.Stages.{stage_of, IsAtRow, IsBalancingStage, IsPassingStage, IsBalancing, IsPassing}
+use Rattle.kw_core.specs.Stages.{stage_of, IsAtRow, IsBalancingStage, IsVisitingStage, IsBalancing, IsVisiting}
 use Rattle.kw_core.specs.Words.{Words, least_in}
-use Rattle.kw_core.proofs.Arrows.{Arrow, NextLook, NextRest, answers, clock_serves, decides, ends_scan, engages, epoch_serves, finds_infant, finds_leader, finds_normal, finds_other, finds_stamped, gathers_rest, helps, is_engaged, is_passed, key_above, list_ends, lists, looks, marks_link, marks_led, meets_neither, meets_stamped, normalises, rest_passed, rests, scans_on, finds_full, takes_full, announces_full, stamps_full, freezes_count, meets_idle, meets_unstamped, remembers, remembers_last, meets_frozen, meets_frozen_last, freezes_entry, freezes_last, looks_again, meets_quiet, meets_quiet_last, helps_scan, meets_drawn, meets_drawn_last, draws_for, settles_scan, settles_last, finds_drawn, finds_drawn_last, finds_no_scan, finds_no_scan_last, take_leads, takes_left, takes_key, takes_version, keeps_taken, takes_left_key, keeps_left, takes_no_more, keeps_no_more, builds, tidies}
+use Rattle.kw_core.proofs.Arrows.{Arrow, NextLook, NextLeftOver, answers, clock_serves, decides, ends_scan, engages, epoch_serves, finds_infant, finds_leader, finds_normal, finds_other, finds_stamped, gathers_left_over, helps, is_engaged, is_gone_by, key_above, list_ends, lists, looks, marks_link, marks_led, sees_neither, sees_stamped, normalises, left_over_gone_by, goes_to_left_over, scans_on, finds_full, takes_full, announces_full, stamps_full, freezes_count, sees_idle, sees_unstamped, remembers, remembers_last, sees_frozen, sees_frozen_last, freezes_entry, freezes_last, looks_again, sees_quiet, sees_quiet_last, helps_scan, sees_drawn, sees_drawn_last, draws_for, settles_scan, settles_last, finds_drawn, finds_drawn_last, finds_no_scan, finds_no_scan_last, take_leads, takes_left, takes_key, takes_version, keeps_taken, takes_left_key, keeps_left, takes_no_more, keeps_no_more, builds, tidies}
 use Rattle.kw_core.proofs.Building.{Building, IsBuilding, draws_number, makes_last_normal, makes_normal, retires_row, retires_and_leaves}
 use Rattle.kw_core.proofs.BuiltNext.{IsAfterBuilding, built_keeps, built_next}
 use Rattle.kw_core.proofs.Frame.{WritesPass}
 use Rattle.kw_core.proofs.Happens.{Happens}
-use Rattle.kw_shape.proofs.AfterBuilding.{built_balancing, built_pass, built_passes}
+use Rattle.kw_shape.proofs.AfterBuilding.{built_balancing, built_pass, built_visits}
 use Rattle.kw_shape.proofs.LinkedRows.{fresh_linked, linked_keeps, search_at}
 use Rattle.kw_shape.proofs.RowsKeep.{own_rely, balance_at, decided_state, engaged_state, freezing, group_keeps, kinds_at, others_kept, read_state, rely_rows, row_marked, row_next, structure_keeps}
-use Rattle.kw_shape.proofs.RelyRows.{RelyRows, is_passing}
+use Rattle.kw_shape.proofs.RelyRows.{RelyRows, is_visiting}
 use Rattle.kw_shape.proofs.Walking.{past}
 use Rattle.kw_shape.proofs.WonKeep.{head_open, moves_by}
 use Rattle.kw_shape.specs.Balances.{Balances, HasFrozen, view_of}
@@ -55,13 +55,13 @@ named v g t (Activity.Rebalance (Rebalance.Replace Replace.NextLeast)) l b = b.f
 named v g t (Activity.Rebalance (Rebalance.Replace Replace.Exchange)) l b = b.fresh tt
 named v g t _ l b = tt
 
--- a seat that rebalances is in its pass
-passes_then : (stage : Stage) → IsBalancingStage stage → IsPassingStage stage
-passes_then Rebalancing b = tt
-passes_then _ b = absurd b
+-- a seat that rebalances is in its visit
+visits_then : (stage : Stage) → IsBalancingStage stage → IsVisitingStage stage
+visits_then Rebalancing b = tt
+visits_then _ b = absurd b
 
-in_pass : (a : Activity) → IsBalancing a → (IsPassing a → ⊥) → ⊥
-in_pass a b n = n (passes_then (stage_of a) b)
+in_visit : (a : Activity) → IsBalancing a → (IsVisiting a → ⊥) → ⊥
+in_visit a b n = n (visits_then (stage_of a) b)
 
 -- one that has frozen the count of its row rebalances it
 frozen_balances : (a : Activity) → HasFrozen a → IsBalancing a
@@ -118,15 +118,15 @@ look_outside : (v : Words) (g : kw_rows.Ledger) (t : ℕ) (z : Sizes) (j : ℕ) 
 look_outside v g t z j next l (looks o) = outside v g t _ l (λ x. x) tt
 look_outside v g t z j next l (lists o) = outside v g t _ l (λ x. x) tt
 
-rest_outside : (v : Words) (g : kw_rows.Ledger) (t : ℕ) (l next : Local) → NextRest l next → Balances v g t next.activity next
-rest_outside v g t l next (rests m o) = outside v g t _ _ (λ x. x) tt
-rest_outside v g t l next (answers o n) = outside v g t _ _ (λ x. x) tt
-rest_outside v g t l next (ends_scan o y n) = outside v g t _ _ (λ x. x) tt
-rest_outside v g t l next (scans_on q o y n w) = outside v g t _ _ (λ x. x) tt
+left_over_outside : (v : Words) (g : kw_rows.Ledger) (t : ℕ) (l next : Local) → NextLeftOver l next → Balances v g t next.activity next
+left_over_outside v g t l next (goes_to_left_over m o) = outside v g t _ _ (λ x. x) tt
+left_over_outside v g t l next (answers o n) = outside v g t _ _ (λ x. x) tt
+left_over_outside v g t l next (ends_scan o y n) = outside v g t _ _ (λ x. x) tt
+left_over_outside v g t l next (scans_on q o y n w) = outside v g t _ _ (λ x. x) tt
 
 module _ (z : Sizes) (r r' : Run) (s : ℕ) (choice : Choice) (l : Local) (a : Activity) (l' : Local) (h : Happens z r r' s choice l l' a) (i : Shape z r) where
   -- the row at which the seat was is the one that it rebalances
-  stays : (b : Activity) (k : Local) → IsPassing a → (WritesPass a → ⊥) → IsFresh r.ledger.rows s l.row → l.lower ≡ least_in (word z r.world) l.row → k.row ≡ l.row → k.lower ≡ l.lower → Group (rows_in (word z r'.world)) r'.ledger.rows (view_of b k) → (HasFrozen b → (rows_in (word z r'.world)).frozen l.row ≡ true) → Balances (word z r'.world) r'.ledger.rows s b k
+  stays : (b : Activity) (k : Local) → IsVisiting a → (WritesPass a → ⊥) → IsFresh r.ledger.rows s l.row → l.lower ≡ least_in (word z r.world) l.row → k.row ≡ l.row → k.lower ≡ l.lower → Group (rows_in (word z r'.world)) r'.ledger.rows (view_of b k) → (HasFrozen b → (rows_in (word z r'.world)).frozen l.row ≡ true) → Balances (word z r'.world) r'.ledger.rows s b k
   stays b k p n fresh lower row low g f =
       let rely = own_rely z r r' s choice l a l' h i p n in
       record {
@@ -137,23 +137,23 @@ module _ (z : Sizes) (r r' : Run) (s : ℕ) (choice : Choice) (l : Local) (a : A
       }
 
   -- a seat that rebalances goes on with its row
-  goes_on : (b : Activity) (k : Local) → IsBalancing a → IsPassing a → (WritesPass a → ⊥) → k.row ≡ l.row → k.lower ≡ l.lower → Group (rows_in (word z r'.world)) r'.ledger.rows (view_of b k) → (HasFrozen b → (rows_in (word z r'.world)).frozen l.row ≡ true) → Balances (word z r'.world) r'.ledger.rows s b k
+  goes_on : (b : Activity) (k : Local) → IsBalancing a → IsVisiting a → (WritesPass a → ⊥) → k.row ≡ l.row → k.lower ≡ l.lower → Group (rows_in (word z r'.world)) r'.ledger.rows (view_of b k) → (HasFrozen b → (rows_in (word z r'.world)).frozen l.row ≡ true) → Balances (word z r'.world) r'.ledger.rows s b k
   goes_on b k x p n row low g f = let y = balance_at a h i in stays b k p n (y.fresh x) (y.lower x) row low g f
 
   -- a put at its row rebalances it
-  meets_full : IsAtRow a → IsPassing a → (WritesPass a → ⊥) → Balances (word z r'.world) r'.ledger.rows s (Activity.Rebalance (Rebalance.Engage Engage.Clock)) (to_rebalance l).local
-  meets_full x p n =
+  sees_full : IsAtRow a → IsVisiting a → (WritesPass a → ⊥) → Balances (word z r'.world) r'.ledger.rows s (Activity.Rebalance (Rebalance.Engage Engage.Clock)) (to_rebalance l).local
+  sees_full x p n =
       let w = subst (λ b. Walks (word z r.world) r.ledger.rows s b l) h.activity (i.walks s l h.knows) in
       stays (Activity.Rebalance (Rebalance.Engage Engage.Clock)) _ p n (w.at x).fresh (w.lower (past a x)) refl refl tt (λ x. absurd x)
 
   -- so does one that tidies, which has put its cell there
-  tidies_row : IsAtRow a → IsPassing a → (WritesPass a → ⊥) → Balances (word z r'.world) r'.ledger.rows s (Activity.Rebalance (Rebalance.Engage Engage.Clock)) (to_rebalance (record l { tidies = true })).local
+  tidies_row : IsAtRow a → IsVisiting a → (WritesPass a → ⊥) → Balances (word z r'.world) r'.ledger.rows s (Activity.Rebalance (Rebalance.Engage Engage.Clock)) (to_rebalance (record l { tidies = true })).local
   tidies_row x p n =
       let w = subst (λ b. Walks (word z r.world) r.ledger.rows s b l) h.activity (i.walks s l h.knows) in
       stays (Activity.Rebalance (Rebalance.Engage Engage.Clock)) _ p n (w.at x).fresh (w.lower (past a x)) refl refl tt (λ x. absurd x)
 
   -- the row leads from now on, as the seat finds or makes it
-  found_leader : (n : ℕ) (k : Local) → IsBalancing a → IsPassing a → (WritesPass a → ⊥) → k.row ≡ l.row → k.lower ≡ l.lower → (rows_in (word z r'.world)).state l.row ≡ row.Leader n → Balances (word z r'.world) r'.ledger.rows s (Activity.Rebalance (Rebalance.Engage (Engage.MarkLink n))) k
+  found_leader : (n : ℕ) (k : Local) → IsBalancing a → IsVisiting a → (WritesPass a → ⊥) → k.row ≡ l.row → k.lower ≡ l.lower → (rows_in (word z r'.world)).state l.row ≡ row.Leader n → Balances (word z r'.world) r'.ledger.rows s (Activity.Rebalance (Rebalance.Engage (Engage.MarkLink n))) k
   found_leader n k x p w row low e =
       let b = balance_at a h i in
       let f = (own_rely z r r' s choice l a l' h i p w).fresh l.row (b.fresh x) in
@@ -165,20 +165,20 @@ module _ (z : Sizes) (r r' : Run) (s : ℕ) (choice : Choice) (l : Local) (a : A
   frozen_still c = let y = balance_at a h i in (linked_keeps a h i l.row (fresh_linked r.ledger.rows s l.row (y.fresh (frozen_balances a c)))).frozen (y.frozen c)
 
   -- a seat whose row is led alone goes on with it
-  alone_on : (b : Activity) (k : Local) → IsBalancing a → IsPassing a → (WritesPass a → ⊥) → k.row ≡ l.row → k.lower ≡ l.lower → view_of a l ≡ Alone l.row l.rebalance.after → view_of b k ≡ Alone l.row l.rebalance.after → (rows_in (word z r'.world)).frozen l.row ≡ true → Balances (word z r'.world) r'.ledger.rows s b k
+  alone_on : (b : Activity) (k : Local) → IsBalancing a → IsVisiting a → (WritesPass a → ⊥) → k.row ≡ l.row → k.lower ≡ l.lower → view_of a l ≡ Alone l.row l.rebalance.after → view_of b k ≡ Alone l.row l.rebalance.after → (rows_in (word z r'.world)).frozen l.row ≡ true → Balances (word z r'.world) r'.ledger.rows s b k
   alone_on b k x p n row low was now f =
       let y = balance_at a h i in
       let g = group_keeps a h i s (view_of a l) (named _ _ s a l y) y.group in
       goes_on b k x p n row low (subst (Group (rows_in (word z r'.world)) r'.ledger.rows) (was ∙ sym now) g) (λ u. f)
 
-  keeps_alone : (b : Activity) (k : Local) → IsBalancing a → IsPassing a → (WritesPass a → ⊥) → k.row ≡ l.row → k.lower ≡ l.lower → view_of a l ≡ Alone l.row l.rebalance.after → view_of b k ≡ Alone l.row l.rebalance.after → HasFrozen a → Balances (word z r'.world) r'.ledger.rows s b k
+  keeps_alone : (b : Activity) (k : Local) → IsBalancing a → IsVisiting a → (WritesPass a → ⊥) → k.row ≡ l.row → k.lower ≡ l.lower → view_of a l ≡ Alone l.row l.rebalance.after → view_of b k ≡ Alone l.row l.rebalance.after → HasFrozen a → Balances (word z r'.world) r'.ledger.rows s b k
   keeps_alone b k x p n row low was now c = alone_on b k x p n row low was now (frozen_still c)
 
   -- one that builds new rows goes on with the full one
   builds_on : IsBuilding a → Building z (word z r.world) choice l a l' → (c : Activity) → l'.activity ≡ c → IsBuilding c → Balances (word z r'.world) r'.ledger.rows s c l'
   builds_on x t c e o =
       let k = built_keeps z (word z r.world) choice l a l' t (subst IsBuilding (sym e) o) in
-      goes_on c l' (built_balancing a x) (built_passes a x).0 (built_pass a x) k.row k.lower
+      goes_on c l' (built_balancing a x) (built_visits a x).0 (built_pass a x) k.row k.lower
       (built_group (word z r'.world) r'.ledger.rows c l' o (λ f. group k.row k.after (built_frozen z (word z r.world) choice l a l' t (subst HasFrozen (sym e) f))))
       (λ f. frozen_still (built_frozen z (word z r.world) choice l a l' t (subst HasFrozen (sym e) f)))
     where
@@ -195,17 +195,17 @@ module _ (z : Sizes) (r r' : Run) (s : ℕ) (choice : Choice) (l : Local) (a : A
   builds_next x t (Activity.Leave Done) e o = outside _ _ s (Activity.Leave Done) l' (λ u. u) tt
   builds_next x t (Activity.Rebalance (Rebalance.Engage Engage.Clock)) e o =
       let m = moves_by (word z r.world) r.ledger.rows s l z choice a l' t (head_open z r i l.row) (search_at a h i) e in
-      let rely = own_rely z r r' s choice l a l' h i (built_passes a x).0 (built_pass a x) in
+      let rely = own_rely z r r' s choice l a l' h i (built_visits a x).0 (built_pass a x) in
       record { fresh = λ u. rely.fresh l'.row m.fresh; lower = λ u. m.lower ∙ sym (rely.least l'.row m.fresh); group = tt; frozen = λ u. absurd u }
   builds_next x t c e o = builds_on x t c e o
 
 -- by the arrow that the seat takes
 pub balances_own : (z : Sizes) (r r' : Run) (s : ℕ) (choice : Choice) (l : Local) (a : Activity) (l' : Local) → Arrow z (word z r.world) s choice l a l' → Happens z r r' s choice l l' a → Shape z r → Balances (word z r'.world) r'.ledger.rows s l'.activity l'
 balances_own z r r' s choice l a l' (builds b next y t) h i = builds_next z r r' s choice l b l' h i y t l'.activity refl (built_next z (word z r.world) choice l b l' t)
-balances_own z r r' s choice l a l' (finds_full e) h i = meets_full z r r' s choice l _ l' h i tt tt (λ x. x)
-balances_own z r r' s choice l a l' (takes_full e) h i = meets_full z r r' s choice l _ l' h i tt tt (λ x. x)
-balances_own z r r' s choice l a l' (announces_full e) h i = meets_full z r r' s choice l _ l' h i tt tt (λ x. x)
-balances_own z r r' s choice l a l' (stamps_full e) h i = meets_full z r r' s choice l _ l' h i tt tt (λ x. x)
+balances_own z r r' s choice l a l' (finds_full e) h i = sees_full z r r' s choice l _ l' h i tt tt (λ x. x)
+balances_own z r r' s choice l a l' (takes_full e) h i = sees_full z r r' s choice l _ l' h i tt tt (λ x. x)
+balances_own z r r' s choice l a l' (announces_full e) h i = sees_full z r r' s choice l _ l' h i tt tt (λ x. x)
+balances_own z r r' s choice l a l' (stamps_full e) h i = sees_full z r r' s choice l _ l' h i tt tt (λ x. x)
 balances_own z r r' s choice l a l' (tidies rows e) h i = tidies_row z r r' s choice l _ l' h i tt tt (λ x. x)
 balances_own z r r' s choice l a l' (clock_serves e) h i = goes_on z r r' s choice l _ l' h i (Activity.Rebalance (Rebalance.Engage Engage.Epoch)) _ tt tt (λ x. x) refl refl tt (λ u. absurd u)
 balances_own z r r' s choice l a l' (epoch_serves e) h i = goes_on z r r' s choice l _ l' h i (Activity.Rebalance (Rebalance.Engage Engage.State)) _ tt tt (λ x. x) refl refl tt (λ u. absurd u)
@@ -240,31 +240,31 @@ balances_own z r r' s choice l a l' (decides count n e o) h i = goes_on z r r' s
   where
     opened : Group (rows_in (word z r'.world)) r'.ledger.rows (Opened l.row l.rebalance.after)
     opened = let b = balance_at (Activity.Rebalance (Rebalance.Engage (Engage.Decide count))) h i in group_keeps (Activity.Rebalance (Rebalance.Engage (Engage.Decide count))) h i s (Opened l.row l.rebalance.after) (b.fresh tt) b.group
-balances_own z r r' s choice l a l' (meets_stamped j c version next y n) h i = look_outside _ _ s z _ next _ n
-balances_own z r r' s choice l a l' (meets_neither j next y n) h i = look_outside _ _ s z _ next _ n
-balances_own z r r' s choice l a l' (is_passed next y n) h i = look_outside _ _ s z _ next _ n
+balances_own z r r' s choice l a l' (sees_stamped j c version next y n) h i = look_outside _ _ s z _ next _ n
+balances_own z r r' s choice l a l' (sees_neither j next y n) h i = look_outside _ _ s z _ next _ n
+balances_own z r r' s choice l a l' (is_gone_by next y n) h i = look_outside _ _ s z _ next _ n
 balances_own z r r' s choice l a l' (helps next y n) h i = look_outside _ _ s z _ next _ n
 balances_own z r r' s choice l a l' (finds_stamped c version next y n) h i = look_outside _ _ s z _ next _ n
 balances_own z r r' s choice l a l' (finds_other next y n) h i = look_outside _ _ s z _ next _ n
-balances_own z r r' s choice l a l' (list_ends next e n) h i = rest_outside _ _ s _ next n
-balances_own z r r' s choice l a l' (key_above next y n) h i = rest_outside _ _ s _ next n
-balances_own z r r' s choice l a l' (rest_passed next y n) h i = rest_outside _ _ s _ next n
-balances_own z r r' s choice l a l' (gathers_rest next n) h i = rest_outside _ _ s _ next n
+balances_own z r r' s choice l a l' (list_ends next e n) h i = left_over_outside _ _ s _ next n
+balances_own z r r' s choice l a l' (key_above next y n) h i = left_over_outside _ _ s _ next n
+balances_own z r r' s choice l a l' (left_over_gone_by next y n) h i = left_over_outside _ _ s _ next n
+balances_own z r r' s choice l a l' (gathers_left_over next n) h i = left_over_outside _ _ s _ next n
 balances_own z r r' s choice l a l' freezes_count h i = alone_on z r r' s choice l _ l' h i (Activity.Rebalance (Rebalance.Freeze (Freeze.Look 0))) _ tt tt (λ x. x) refl refl refl refl (freezing h i).frozen
-balances_own z r r' s choice l a l' (meets_idle j e) h i = keeps_alone z r r' s choice l _ l' h i (Activity.Rebalance (Rebalance.Freeze (Freeze.Entry j))) _ tt tt (λ x. x) refl refl refl refl tt
-balances_own z r r' s choice l a l' (meets_unstamped j c e) h i = keeps_alone z r r' s choice l _ l' h i (Activity.Rebalance (Rebalance.Freeze (Freeze.Entry j))) _ tt tt (λ x. x) refl refl refl refl tt
+balances_own z r r' s choice l a l' (sees_idle j e) h i = keeps_alone z r r' s choice l _ l' h i (Activity.Rebalance (Rebalance.Freeze (Freeze.Entry j))) _ tt tt (λ x. x) refl refl refl refl tt
+balances_own z r r' s choice l a l' (sees_unstamped j c e) h i = keeps_alone z r r' s choice l _ l' h i (Activity.Rebalance (Rebalance.Freeze (Freeze.Entry j))) _ tt tt (λ x. x) refl refl refl refl tt
 balances_own z r r' s choice l a l' (remembers j c version e o) h i = keeps_alone z r r' s choice l _ l' h i (Activity.Rebalance (Rebalance.Freeze (Freeze.Look (j + 1)))) _ tt tt (λ x. x) refl refl refl refl tt
 balances_own z r r' s choice l a l' (remembers_last j c version e o) h i = keeps_alone z r r' s choice l _ l' h i (Activity.Rebalance (Rebalance.Freeze (Freeze.Scan 0))) _ tt tt (λ x. x) refl refl refl refl tt
-balances_own z r r' s choice l a l' (meets_frozen j e o) h i = keeps_alone z r r' s choice l _ l' h i (Activity.Rebalance (Rebalance.Freeze (Freeze.Look (j + 1)))) _ tt tt (λ x. x) refl refl refl refl tt
-balances_own z r r' s choice l a l' (meets_frozen_last j e o) h i = keeps_alone z r r' s choice l _ l' h i (Activity.Rebalance (Rebalance.Freeze (Freeze.Scan 0))) _ tt tt (λ x. x) refl refl refl refl tt
+balances_own z r r' s choice l a l' (sees_frozen j e o) h i = keeps_alone z r r' s choice l _ l' h i (Activity.Rebalance (Rebalance.Freeze (Freeze.Look (j + 1)))) _ tt tt (λ x. x) refl refl refl refl tt
+balances_own z r r' s choice l a l' (sees_frozen_last j e o) h i = keeps_alone z r r' s choice l _ l' h i (Activity.Rebalance (Rebalance.Freeze (Freeze.Scan 0))) _ tt tt (λ x. x) refl refl refl refl tt
 balances_own z r r' s choice l a l' (freezes_entry j e o) h i = keeps_alone z r r' s choice l _ l' h i (Activity.Rebalance (Rebalance.Freeze (Freeze.Look (j + 1)))) _ tt tt (λ x. x) refl refl refl refl tt
 balances_own z r r' s choice l a l' (freezes_last j e o) h i = keeps_alone z r r' s choice l _ l' h i (Activity.Rebalance (Rebalance.Freeze (Freeze.Scan 0))) _ tt tt (λ x. x) refl refl refl refl tt
 balances_own z r r' s choice l a l' (looks_again j e) h i = keeps_alone z r r' s choice l _ l' h i (Activity.Rebalance (Rebalance.Freeze (Freeze.Look j))) _ tt tt (λ x. x) refl refl refl refl tt
-balances_own z r r' s choice l a l' (meets_quiet j e o) h i = keeps_alone z r r' s choice l _ l' h i (Activity.Rebalance (Rebalance.Freeze (Freeze.Scan (j + 1)))) _ tt tt (λ x. x) refl refl refl refl tt
-balances_own z r r' s choice l a l' (meets_quiet_last j e o) h i = keeps_alone z r r' s choice l _ l' h i (Activity.Rebalance (Rebalance.Gather Gather.Link)) _ tt tt (λ x. x) refl refl refl refl tt
+balances_own z r r' s choice l a l' (sees_quiet j e o) h i = keeps_alone z r r' s choice l _ l' h i (Activity.Rebalance (Rebalance.Freeze (Freeze.Scan (j + 1)))) _ tt tt (λ x. x) refl refl refl refl tt
+balances_own z r r' s choice l a l' (sees_quiet_last j e o) h i = keeps_alone z r r' s choice l _ l' h i (Activity.Rebalance (Rebalance.Gather Gather.Link)) _ tt tt (λ x. x) refl refl refl refl tt
 balances_own z r r' s choice l a l' (helps_scan j clock e) h i = keeps_alone z r r' s choice l _ l' h i (Activity.Rebalance (Rebalance.Freeze (Freeze.Draw j))) _ tt tt (λ x. x) refl refl refl refl tt
-balances_own z r r' s choice l a l' (meets_drawn j version e o) h i = keeps_alone z r r' s choice l _ l' h i (Activity.Rebalance (Rebalance.Freeze (Freeze.Scan (j + 1)))) _ tt tt (λ x. x) refl refl refl refl tt
-balances_own z r r' s choice l a l' (meets_drawn_last j version e o) h i = keeps_alone z r r' s choice l _ l' h i (Activity.Rebalance (Rebalance.Gather Gather.Link)) _ tt tt (λ x. x) refl refl refl refl tt
+balances_own z r r' s choice l a l' (sees_drawn j version e o) h i = keeps_alone z r r' s choice l _ l' h i (Activity.Rebalance (Rebalance.Freeze (Freeze.Scan (j + 1)))) _ tt tt (λ x. x) refl refl refl refl tt
+balances_own z r r' s choice l a l' (sees_drawn_last j version e o) h i = keeps_alone z r r' s choice l _ l' h i (Activity.Rebalance (Rebalance.Gather Gather.Link)) _ tt tt (λ x. x) refl refl refl refl tt
 balances_own z r r' s choice l a l' (draws_for j) h i = keeps_alone z r r' s choice l _ l' h i (Activity.Rebalance (Rebalance.Freeze (Freeze.Settle j))) _ tt tt (λ x. x) refl refl refl refl tt
 balances_own z r r' s choice l a l' (settles_scan j e o) h i = keeps_alone z r r' s choice l _ l' h i (Activity.Rebalance (Rebalance.Freeze (Freeze.Scan (j + 1)))) _ tt tt (λ x. x) refl refl refl refl tt
 balances_own z r r' s choice l a l' (settles_last j e o) h i = keeps_alone z r r' s choice l _ l' h i (Activity.Rebalance (Rebalance.Gather Gather.Link)) _ tt tt (λ x. x) refl refl refl refl tt
@@ -296,8 +296,8 @@ balances_other z r r' s choice l a l' h i t k d g = record {
     b = i.balances t k g
 
     rely : IsBalancing k.activity → RelyRows (word z r.world) (word z r'.world) r.ledger.rows r'.ledger.rows t
-    rely x = which (is_passing k.activity)
+    rely x = which (is_visiting k.activity)
       where
-        which : IsPassing k.activity ⊎ (IsPassing k.activity → ⊥) → RelyRows (word z r.world) (word z r'.world) r.ledger.rows r'.ledger.rows t
-        which (inl y) = let p = (i.passes t k g).in_pass y in rely_rows a h i t p.since p.passes (others_kept a h t d ∙ p.passes)
-        which (inr n) = absurd (in_pass k.activity x n)
+        which : IsVisiting k.activity ⊎ (IsVisiting k.activity → ⊥) → RelyRows (word z r.world) (word z r'.world) r.ledger.rows r'.ledger.rows t
+        which (inl y) = let p = (i.visits t k g).in_visit y in rely_rows a h i t p.since p.visits (others_kept a h t d ∙ p.visits)
+        which (inr n) = absurd (in_visit k.activity x n)

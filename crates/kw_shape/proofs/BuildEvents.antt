@@ -38,17 +38,17 @@ use Rattle.kw_core.specs.Ledger as ledger
 use Rattle.kw_core.specs.Run.{Run}
 use Rattle.kw_core.specs.Words.{Words}
 use Rattle.kw_core.proofs.Beyond.{beyond}
-use Rattle.kw_core.proofs.Fates.{ChangesFate, DrawsNumber, fate_of_freed, fate_of_given, fate_of_taken, fate_stays, none_freed, none_taken, number_of_drawn, other_numbers, others_stay, passes_stay}
+use Rattle.kw_core.proofs.Fates.{ChangesFate, DrawsNumber, fate_of_freed, fate_of_given, fate_of_taken, fate_stays, none_freed, none_taken, number_of_drawn, other_numbers, others_stay, visits_stay}
 use Rattle.kw_core.proofs.Frame.{WritesPass}
 use Rattle.kw_core.proofs.Happens.{Happens}
 use Rattle.kw_core.proofs.InfantFrames.{ChangesCount, ChangesHead, ChangesLeast, ChangesNext, ChangesState, count_stays, freed, given_back, head_stays, least_stays, next_stays, normal_lost, normal_won, not_freed, retired, state_stays, taken_lost, taken_won}
 use Rattle.kw_shape.specs.Infants.{IsInfantOf, IsWriting, nursing_of}
-use Rattle.kw_shape.specs.Passes.{Numbers}
-use Rattle.kw_shape.specs.RowsIn.{has_frozen, has_mark, rows_in, state_met}
+use Rattle.kw_shape.specs.Visits.{Numbers}
+use Rattle.kw_shape.specs.RowsIn.{has_frozen, has_mark, rows_in, state_seen}
 
 -- the state that a word of a state in range says
-pub word_says : (w : ℕ) (t : State) → IsState t → w ≡ state_word t → state_met (state_of w) ≡ state_met (Some t)
-word_says w t k e = ap (λ x. state_met (state_of x)) e ∙ ap state_met (state_of-state_word t k)
+pub word_says : (w : ℕ) (t : State) → IsState t → w ≡ state_word t → state_seen (state_of w) ≡ state_seen (Some t)
+word_says w t k e = ap (λ x. state_seen (state_of x)) e ∙ ap state_seen (state_of-state_word t k)
 
 -- a row whose state is that of a free one is free
 pub free_by_state : (w : Rows) (g : kw_rows.Ledger) (q : ℕ) → States w g → w.state q ≡ row.Free → (g.fates q).status ≡ kw_rows.Free
@@ -92,11 +92,11 @@ module _ {z : Sizes} {r r' : Run} {s : ℕ} {choice : Choice} {l l' : Local} whe
   pub count_word : (a : Activity) → Happens z r r' s choice l l' a → IsSane z r.world → (q : ℕ) → (ChangesCount a s l q → ⊥) → word z r'.world (name.Count q) ≡ word z r.world (name.Count q)
   count_word a h sane q f = word_of_row h sane (name.Count q) q (omega arith) (λ o. count_stays a h q o f)
 
-  pub least_word : (a : Activity) → Happens z r r' s choice l l' a → IsSane z r.world → (q : ℕ) → (ChangesLeast a s l q → ⊥) → word z r'.world (name.Min q) ≡ word z r.world (name.Min q)
-  least_word a h sane q f = word_of_row h sane (name.Min q) q (omega arith) (λ o. least_stays a h q o f)
+  pub least_word : (a : Activity) → Happens z r r' s choice l l' a → IsSane z r.world → (q : ℕ) → (ChangesLeast a s l q → ⊥) → word z r'.world (name.Least q) ≡ word z r.world (name.Least q)
+  least_word a h sane q f = word_of_row h sane (name.Least q) q (omega arith) (λ o. least_stays a h q o f)
 
   pub state_kept : (a : Activity) → Happens z r r' s choice l l' a → IsSane z r.world → (q : ℕ) → (ChangesState a s l q → ⊥) → (rows_in (word z r'.world)).state q ≡ (rows_in (word z r.world)).state q
-  state_kept a h sane q f = ap (λ w. state_met (state_of w)) (word_of_row h sane (name.State q) q (omega arith) (λ o. state_stays a h q o f))
+  state_kept a h sane q f = ap (λ w. state_seen (state_of w)) (word_of_row h sane (name.State q) q (omega arith) (λ o. state_stays a h q o f))
 
   -- an event that writes none of these words leaves all but the states
   pub links_kept : (a : Activity) → Happens z r r' s choice l l' a → IsSane z r.world → (ChangesHead a s l → ⊥) → ((q : ℕ) → ChangesNext a s l q → ⊥) → ((q : ℕ) → ChangesCount a s l q → ⊥) → ((q : ℕ) → ChangesLeast a s l q → ⊥) →
@@ -119,12 +119,12 @@ module _ {z : Sizes} {r r' : Run} {s : ℕ} {choice : Choice} {l l' : Local} whe
   states_still a h sane x others e q = which (cases_eq q x)
     where
       which : (q ≡ x) ⊎ (q ≡ x → ⊥) → (rows_in (word z r'.world)).state q ≡ (rows_in (word z r.world)).state q
-      which (inl c) = subst (λ k. (rows_in (word z r'.world)).state k ≡ (rows_in (word z r.world)).state k) (sym c) (ap (λ w. state_met (state_of w)) e)
+      which (inl c) = subst (λ k. (rows_in (word z r'.world)).state k ≡ (rows_in (word z r.world)).state k) (sym c) (ap (λ w. state_seen (state_of w)) e)
       which (inr d) = state_kept a h sane q (others q d)
 
-  -- an event that changes no fate, pass or number
+  -- an event that changes no fate, visit or number
   pub ledger_kept : (a : Activity) → Happens z r r' s choice l l' a → ((q : ℕ) → ChangesFate a l q → ⊥) → (WritesPass a → ⊥) → (DrawsNumber a → ⊥) → SameLedger r.ledger.rows r'.ledger.rows
-  ledger_kept a h fates passes drawn = record { fates = λ q. fate_stays a h q (fates q); others = passes_stay a h passes drawn }
+  ledger_kept a h fates visits drawn = record { fates = λ q. fate_stays a h q (fates q); others = visits_stay a h visits drawn }
 
   -- the number of a seat fits a state
   pub seat_fits : (a : Activity) → Happens z r r' s choice l l' a → IsSane z r.world → IsState (state.Infant s)
@@ -142,7 +142,7 @@ module _ {z : Sizes} {r r' : Run} {s : ℕ} {choice : Choice} {l l' : Local} whe
         turns = record {
           sets = sets_state (Activity.Rebalance (Rebalance.Seek Seek.Take)) h sane (λ c. c) (λ q c. c) (λ q c. c) (λ q c. c) l.rebalance.sought (λ q d c. d c) (row.Infant s) (word_says _ (state.Infant s) (seat_fits (Activity.Rebalance (Rebalance.Seek Seek.Take)) h sane) (taken_won h e));
           fates = λ q d. fate_stays (Activity.Rebalance (Rebalance.Seek Seek.Take)) h q d;
-          others = passes_stay (Activity.Rebalance (Rebalance.Seek Seek.Take)) h (λ c. c) (λ c. c);
+          others = visits_stay (Activity.Rebalance (Rebalance.Seek Seek.Take)) h (λ c. c) (λ c. c);
         };
         status = ap (λ (f : kw_rows.Fate). f.status) (fate_of_taken h e);
         owner = ap (λ (f : kw_rows.Fate). f.owner) (fate_of_taken h e);
@@ -150,12 +150,12 @@ module _ {z : Sizes} {r r' : Run} {s : ℕ} {choice : Choice} {l l' : Local} whe
       which (inr d) = rests (record {
         links = links_kept (Activity.Rebalance (Rebalance.Seek Seek.Take)) h sane (λ c. c) (λ q c. c) (λ q c. c) (λ q c. c);
         states = states_still (Activity.Rebalance (Rebalance.Seek Seek.Take)) h sane l.rebalance.sought (λ q n c. n c) (taken_lost h d);
-        ledger = record { fates = λ q. ap (λ (g : ledger.Ledger). g.rows.fates q) (none_taken h d); others = passes_stay (Activity.Rebalance (Rebalance.Seek Seek.Take)) h (λ c. c) (λ c. c) };
+        ledger = record { fates = λ q. ap (λ (g : ledger.Ledger). g.rows.fates q) (none_taken h d); others = visits_stay (Activity.Rebalance (Rebalance.Seek Seek.Take)) h (λ c. c) (λ c. c) };
       })
 
   -- one that finds a row retired with the number that it knows frees it
   pub freeing : Happens z r r' s choice l l' (Activity.Rebalance (Rebalance.Seek Seek.Reclaim)) → IsSane z r.world → States (rows_in (word z r.world)) r.ledger.rows → IsState (state.Retired l.rebalance.number) →
-      ((t since at : ℕ) → r.ledger.rows.passes t ≡ Some since → r.ledger.rows.numbered l.rebalance.number ≡ Some at → at < since) → Event (rows_in (word z r.world)) (rows_in (word z r'.world)) r.ledger.rows r'.ledger.rows (length r.history.log)
+      ((t since at : ℕ) → r.ledger.rows.visits t ≡ Some since → r.ledger.rows.numbered l.rebalance.number ≡ Some at → at < since) → Event (rows_in (word z r.world)) (rows_in (word z r'.world)) r.ledger.rows r'.ledger.rows (length r.history.log)
   freeing h sane states small young = which (cases_eq (word z r.world (name.State l.rebalance.sought)) (state_word (state.Retired l.rebalance.number)))
     where
       which : (word z r.world (name.State l.rebalance.sought) ≡ state_word (state.Retired l.rebalance.number)) ⊎ (word z r.world (name.State l.rebalance.sought) ≡ state_word (state.Retired l.rebalance.number) → ⊥) →
@@ -169,14 +169,14 @@ module _ {z : Sizes} {r r' : Run} {s : ℕ} {choice : Choice} {l l' : Local} whe
             turns = record {
               sets = sets_state (Activity.Rebalance (Rebalance.Seek Seek.Reclaim)) h sane (λ c. c) (λ q c. c) (λ q c. c) (λ q c. c) l.rebalance.sought (λ q d c. d c) row.Free (word_says _ state.Free tt (freed h e));
               fates = λ q d. fate_stays (Activity.Rebalance (Rebalance.Seek Seek.Reclaim)) h q d;
-              others = passes_stay (Activity.Rebalance (Rebalance.Seek Seek.Reclaim)) h (λ c. c) (λ c. c);
+              others = visits_stay (Activity.Rebalance (Rebalance.Seek Seek.Reclaim)) h (λ c. c) (λ c. c);
             };
             status = ap (λ (f : kw_rows.Fate). f.status) (fate_of_freed h e);
           })
       which (inr d) = rests (record {
         links = links_kept (Activity.Rebalance (Rebalance.Seek Seek.Reclaim)) h sane (λ c. c) (λ q c. c) (λ q c. c) (λ q c. c);
         states = states_still (Activity.Rebalance (Rebalance.Seek Seek.Reclaim)) h sane l.rebalance.sought (λ q n c. n c) (not_freed h d);
-        ledger = record { fates = λ q. ap (λ (g : ledger.Ledger). g.rows.fates q) (none_freed h d); others = passes_stay (Activity.Rebalance (Rebalance.Seek Seek.Reclaim)) h (λ c. c) (λ c. c) };
+        ledger = record { fates = λ q. ap (λ (g : ledger.Ledger). g.rows.fates q) (none_freed h d); others = visits_stay (Activity.Rebalance (Rebalance.Seek Seek.Reclaim)) h (λ c. c) (λ c. c) };
       })
 
   -- one that gives its infant at hand back
@@ -186,7 +186,7 @@ module _ {z : Sizes} {r r' : Run} {s : ℕ} {choice : Choice} {l l' : Local} whe
     turns = record {
       sets = sets_state (Activity.Rebalance (Rebalance.Seek Seek.GiveBack)) h sane (λ c. c) (λ q c. c) (λ q c. c) (λ q c. c) (infant l) (λ q d c. d c) row.Free (word_says _ state.Free tt (given_back h));
       fates = λ q d. fate_stays (Activity.Rebalance (Rebalance.Seek Seek.GiveBack)) h q d;
-      others = passes_stay (Activity.Rebalance (Rebalance.Seek Seek.GiveBack)) h (λ c. c) (λ c. c);
+      others = visits_stay (Activity.Rebalance (Rebalance.Seek Seek.GiveBack)) h (λ c. c) (λ c. c);
     };
     status = ap (λ (f : kw_rows.Fate). f.status) (fate_of_given h);
   })
@@ -194,7 +194,7 @@ module _ {z : Sizes} {r r' : Run} {s : ℕ} {choice : Choice} {l l' : Local} whe
   -- one that writes a word of it
   filling : (a : Activity) → Happens z r r' s choice l l' a → IsSane z r.world → IsInfantOf r.ledger.rows s (infant l) → (ChangesHead a s l → ⊥) → ((q : ℕ) → q ≢ infant l → ChangesNext a s l q → ⊥) → ((q : ℕ) → q ≢ infant l → ChangesCount a s l q → ⊥) → ((q : ℕ) → q ≢ infant l → ChangesLeast a s l q → ⊥) →
       ((q : ℕ) → ChangesState a s l q → ⊥) → ((q : ℕ) → ChangesFate a l q → ⊥) → (WritesPass a → ⊥) → (DrawsNumber a → ⊥) → Event (rows_in (word z r.world)) (rows_in (word z r'.world)) r.ledger.rows r'.ledger.rows (length r.history.log)
-  filling a h sane x head next count least states fates passes drawn = fills (infant l) (record {
+  filling a h sane x head next count least states fates visits drawn = fills (infant l) (record {
     infant = x.status;
     head = ap (λ w. row_linked (link_of w)) (head_stays a h head);
     next = λ q d. ap (λ w. row_linked (link_of w)) (next_word a h sane q (next q d));
@@ -202,7 +202,7 @@ module _ {z : Sizes} {r r' : Run} {s : ℕ} {choice : Choice} {l l' : Local} whe
     frozen = λ q d. ap (λ w. has_frozen (count_of w)) (count_word a h sane q (count q d));
     least = λ q d. ap key_of_word (least_word a h sane q (least q d));
     states = λ q. state_kept a h sane q (states q);
-    ledger = ledger_kept a h fates passes drawn;
+    ledger = ledger_kept a h fates visits drawn;
   })
 
   -- each of the events that write
@@ -244,7 +244,7 @@ module _ {z : Sizes} {r r' : Run} {s : ℕ} {choice : Choice} {l l' : Local} whe
     links = links_kept (Activity.Rebalance (Rebalance.Replace Replace.Number)) h sane (λ c. c) (λ q c. c) (λ q c. c) (λ q c. c);
     states = λ q. state_kept (Activity.Rebalance (Rebalance.Replace Replace.Number)) h sane q (λ c. c);
     fates = λ q. fate_stays (Activity.Rebalance (Rebalance.Replace Replace.Number)) h q (λ c. c);
-    passes = λ t. others_stay (Activity.Rebalance (Rebalance.Replace Replace.Number)) h t (λ c e. c);
+    visits = λ t. others_stay (Activity.Rebalance (Rebalance.Replace Replace.Number)) h t (λ c e. c);
     drawn = number_of_drawn h;
     others = λ k d. other_numbers h k d;
   })

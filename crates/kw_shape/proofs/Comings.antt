@@ -10,12 +10,12 @@ use Rattle.kw_world.specs.declared.event.Choice.{Choice}
 use Rattle.kw_world.specs.declared.local.Local.{Local}
 use Rattle.kw_world.specs.Sizes.{Sizes}
 use Rattle.kw_core.specs.Words.{Words}
-use Rattle.kw_core.proofs.Arrows.{Arrow, NextLook, looks, lists, NextRest, rests, answers, ends_scan, scans_on, meets_stamped, meets_neither, is_passed, helps, finds_stamped, finds_other, list_ends, key_above, rest_passed, gathers_rest, takes_no_more, keeps_no_more, builds}
+use Rattle.kw_core.proofs.Arrows.{Arrow, NextLook, looks, lists, NextLeftOver, goes_to_left_over, answers, ends_scan, scans_on, sees_stamped, sees_neither, is_gone_by, helps, finds_stamped, finds_other, list_ends, key_above, left_over_gone_by, gathers_left_over, takes_no_more, keeps_no_more, builds}
 use Rattle.kw_core.proofs.Building.{Building, IsBuilding}
 use Rattle.kw_shape.proofs.InfantsStay.{measured}
 use Rattle.kw_shape.proofs.SearchKeep.{elsewhere}
 use Rattle.kw_shape.specs.Infants.{HasNone, nursing_of}
-use Rattle.kw_shape.specs.Search.{HasBefore, HasMetNext, IsSearching, Search}
+use Rattle.kw_shape.specs.Search.{HasBefore, HasReachedNext, IsSearching, Search}
 use Rattle.kw_shape.specs.Won.{HasWon}
 
 -- it is at none of them, or begins to seek, or goes on from one
@@ -28,27 +28,27 @@ look_out : (z : Sizes) (j : ℕ) (next : Activity) → NextLook z j next → IsB
 look_out z j next (looks o) x = x
 look_out z j next (lists o) x = x
 
-rest_out : (l next : Local) → NextRest l next → IsBuilding next.activity → ⊥
-rest_out l next (rests m o) x = x
-rest_out l next (answers o n) x = x
-rest_out l next (ends_scan o y n) x = x
-rest_out l next (scans_on q o y n w) x = x
+left_over_out : (l next : Local) → NextLeftOver l next → IsBuilding next.activity → ⊥
+left_over_out l next (goes_to_left_over m o) x = x
+left_over_out l next (answers o n) x = x
+left_over_out l next (ends_scan o y n) x = x
+left_over_out l next (scans_on q o y n w) x = x
 
 -- each arrow is one of these
 pub comes : (z : Sizes) (v : Words) (s : ℕ) (choice : Choice) (l : Local) (a : Activity) (k : Local) → Arrow z v s choice l a k → Comes z v choice l a k
 comes z v s choice l a k (builds b next y t) = goes_on y t
 comes z v s choice l a k (takes_no_more e n) = seeks refl refl
 comes z v s choice l a k (keeps_no_more n) = seeks refl refl
-comes z v s choice l a k (meets_stamped j c version next y n) = stays_out (look_out z _ next n)
-comes z v s choice l a k (meets_neither j next y n) = stays_out (look_out z _ next n)
-comes z v s choice l a k (is_passed next y n) = stays_out (look_out z _ next n)
+comes z v s choice l a k (sees_stamped j c version next y n) = stays_out (look_out z _ next n)
+comes z v s choice l a k (sees_neither j next y n) = stays_out (look_out z _ next n)
+comes z v s choice l a k (is_gone_by next y n) = stays_out (look_out z _ next n)
 comes z v s choice l a k (helps next y n) = stays_out (look_out z _ next n)
 comes z v s choice l a k (finds_stamped c version next y n) = stays_out (look_out z _ next n)
 comes z v s choice l a k (finds_other next y n) = stays_out (look_out z _ next n)
-comes z v s choice l a k (list_ends next e n) = stays_out (rest_out _ next n)
-comes z v s choice l a k (key_above next y n) = stays_out (rest_out _ next n)
-comes z v s choice l a k (rest_passed next y n) = stays_out (rest_out _ next n)
-comes z v s choice l a k (gathers_rest next n) = stays_out (rest_out _ next n)
+comes z v s choice l a k (list_ends next e n) = stays_out (left_over_out _ next n)
+comes z v s choice l a k (key_above next y n) = stays_out (left_over_out _ next n)
+comes z v s choice l a k (left_over_gone_by next y n) = stays_out (left_over_out _ next n)
+comes z v s choice l a k (gathers_left_over next n) = stays_out (left_over_out _ next n)
 comes z v s choice l a k _ = stays_out (λ x. x)
 
 -- Elsewhere.
@@ -88,9 +88,9 @@ before_builds (Activity.Rebalance (Rebalance.Replace Replace.NextLeast)) l x = t
 before_builds (Activity.Rebalance (Rebalance.Seek Seek.GiveBack)) l x = tt
 before_builds _ l x = absurd x
 
-met_builds : (a : Activity) → HasMetNext a → IsBuilding a
-met_builds (Activity.Rebalance (Rebalance.Replace Replace.NextLeast)) x = tt
-met_builds _ x = absurd x
+reached_builds : (a : Activity) → HasReachedNext a → IsBuilding a
+reached_builds (Activity.Rebalance (Rebalance.Replace Replace.NextLeast)) x = tt
+reached_builds _ x = absurd x
 
 pub unbuilt_search : (v : Words) (g : Ledger) (t : ℕ) (a : Activity) (l : Local) → (IsBuilding a → ⊥) → Search v g t a l
-unbuilt_search v g t a l n = elsewhere v g t a l (λ x. n (searching_builds a l x)) (λ x. n (searching_builds a l (measured a l x))) (λ x. n (before_builds a l x)) (λ x. n (met_builds a x))
+unbuilt_search v g t a l n = elsewhere v g t a l (λ x. n (searching_builds a l x)) (λ x. n (searching_builds a l (measured a l x))) (λ x. n (before_builds a l x)) (λ x. n (reached_builds a x))

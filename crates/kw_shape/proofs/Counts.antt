@@ -14,7 +14,7 @@ use Rattle.kw_world.specs.declared.event.Choice.{Choice}
 use Rattle.kw_world.specs.Sizes.{Sizes}
 use Rattle.kw_shape.specs.Rooms.{adding, adders, drawing, drawers}
 use Rattle.kw_core.specs.Words.{Words}
-use Rattle.kw_core.proofs.Arrows.{Arrow, waits, finds_room, meets_stamped, meets_neither, is_passed, helps, finds_stamped, finds_other, list_ends, key_above, rest_passed, gathers_rest, NextLook, looks, lists, NextRest, rests, answers, ends_scan, scans_on, clock_serves, builds}
+use Rattle.kw_core.proofs.Arrows.{Arrow, waits, finds_room, sees_stamped, sees_neither, is_gone_by, helps, finds_stamped, finds_other, list_ends, key_above, left_over_gone_by, gathers_left_over, NextLook, looks, lists, NextLeftOver, goes_to_left_over, answers, ends_scan, scans_on, clock_serves, builds}
 use Rattle.kw_core.proofs.BuiltNext.{IsAfterBuilding, built_next}
 
 -- the seats that are about to ask a row for a cell, with one seat's local set
@@ -24,11 +24,11 @@ adders-set q (k ∷ ls) zero l l' e = let x = ap (λ (y : Local). adding y.activ
 adders-set q (k ∷ ls) (suc s) l l' e = omega (arith, adders-set q ls s l l' e)
 
 pub adding_at_most : (a : Activity) (row q : ℕ) → adding a row q ≤ 1
-adding_at_most (Activity.Put Put.Add) row q = met (row == q)
+adding_at_most (Activity.Put Put.Add) row q = saw (row == q)
   where
-    met : (b : Bool) → (if b then 1 else 0) ≤ 1
-    met true = omega arith
-    met false = omega arith
+    saw : (b : Bool) → (if b then 1 else 0) ≤ 1
+    saw true = omega arith
+    saw false = omega arith
 adding_at_most _ row q = omega arith
 
 -- there are no more of them than seats
@@ -85,8 +85,8 @@ look_adds : (z : Sizes) (j row q : ℕ) (next : Activity) → NextLook z j next 
 look_adds z j row q next (looks o) = refl
 look_adds z j row q next (lists o) = refl
 
-cell_adds : (l : Local) (q : ℕ) (next : Local) → NextRest l next → adding next.activity next.row q ≡ 0
-cell_adds l q next (rests m o) = refl
+cell_adds : (l : Local) (q : ℕ) (next : Local) → NextLeftOver l next → adding next.activity next.row q ≡ 0
+cell_adds l q next (goes_to_left_over m o) = refl
 cell_adds l q next (answers o n) = refl
 cell_adds l q next (ends_scan o y n) = refl
 cell_adds l q next (scans_on r o y n w) = refl
@@ -95,8 +95,8 @@ look_draws : (z : Sizes) (j n : ℕ) (next : Activity) → NextLook z j next →
 look_draws z j n next (looks o) = refl
 look_draws z j n next (lists o) = refl
 
-cell_draws : (l : Local) (n : ℕ) (next : Local) → NextRest l next → drawing n next.activity ≡ 0
-cell_draws l k next (rests m o) = refl
+cell_draws : (l : Local) (n : ℕ) (next : Local) → NextLeftOver l next → drawing n next.activity ≡ 0
+cell_draws l k next (goes_to_left_over m o) = refl
 cell_draws l k next (answers o n) = refl
 cell_draws l k next (ends_scan o y n) = refl
 cell_draws l k next (scans_on r o y n w) = refl
@@ -123,16 +123,16 @@ built_draws n _ o = refl
 pub adding_next : (z : Sizes) (v : Words) (s : ℕ) (choice : Choice) (l : Local) (a : Activity) (l' : Local) (q : ℕ) → Arrow z v s choice l a l' → (IsCounting a → ⊥) → adding l'.activity l'.row q ≡ 0
 adding_next z v s choice l a l' q (builds b next y t) n = built_adds next.activity next.row q (built_next z v choice l b next t)
 adding_next z v s choice l a l' q (finds_room e) n = absurd (n tt)
-adding_next z v s choice l a l' q (meets_stamped j c version next y m) n = look_adds z _ l.row q next m
-adding_next z v s choice l a l' q (meets_neither j next y m) n = look_adds z _ l.row q next m
-adding_next z v s choice l a l' q (is_passed next y m) n = look_adds z _ l.row q next m
+adding_next z v s choice l a l' q (sees_stamped j c version next y m) n = look_adds z _ l.row q next m
+adding_next z v s choice l a l' q (sees_neither j next y m) n = look_adds z _ l.row q next m
+adding_next z v s choice l a l' q (is_gone_by next y m) n = look_adds z _ l.row q next m
 adding_next z v s choice l a l' q (helps next y m) n = look_adds z _ l.row q next m
 adding_next z v s choice l a l' q (finds_stamped c version next y m) n = look_adds z _ l.row q next m
 adding_next z v s choice l a l' q (finds_other next y m) n = look_adds z _ l.row q next m
 adding_next z v s choice l a l' q (list_ends next e m) n = cell_adds _ q next m
 adding_next z v s choice l a l' q (key_above next y m) n = cell_adds _ q next m
-adding_next z v s choice l a l' q (rest_passed next y m) n = cell_adds _ q next m
-adding_next z v s choice l a l' q (gathers_rest next m) n = cell_adds _ q next m
+adding_next z v s choice l a l' q (left_over_gone_by next y m) n = cell_adds _ q next m
+adding_next z v s choice l a l' q (gathers_left_over next m) n = cell_adds _ q next m
 adding_next z v s choice l a l' q _ n = refl
 
 -- only a scan, or a rebalance, that found the clock below its end may draw more than before
@@ -140,14 +140,14 @@ pub drawing_next : (z : Sizes) (v : Words) (s : ℕ) (choice : Choice) (l : Loca
 drawing_next z v s choice l a l' (builds b next y t) w n = omega (arith, built_draws n next.activity (built_next z v choice l b next t))
 drawing_next z v s choice l a l' (waits e) w n = absurd (w tt)
 drawing_next z v s choice l a l' (clock_serves e) w n = absurd (w tt)
-drawing_next z v s choice l a l' (meets_stamped j c version next y m) w n = omega (arith, look_draws z _ n next m)
-drawing_next z v s choice l a l' (meets_neither j next y m) w n = omega (arith, look_draws z _ n next m)
-drawing_next z v s choice l a l' (is_passed next y m) w n = omega (arith, look_draws z _ n next m)
+drawing_next z v s choice l a l' (sees_stamped j c version next y m) w n = omega (arith, look_draws z _ n next m)
+drawing_next z v s choice l a l' (sees_neither j next y m) w n = omega (arith, look_draws z _ n next m)
+drawing_next z v s choice l a l' (is_gone_by next y m) w n = omega (arith, look_draws z _ n next m)
 drawing_next z v s choice l a l' (helps next y m) w n = omega (arith, look_draws z _ n next m)
 drawing_next z v s choice l a l' (finds_stamped c version next y m) w n = omega (arith, look_draws z _ n next m)
 drawing_next z v s choice l a l' (finds_other next y m) w n = omega (arith, look_draws z _ n next m)
 drawing_next z v s choice l a l' (list_ends next e m) w n = omega (arith, cell_draws _ n next m)
 drawing_next z v s choice l a l' (key_above next y m) w n = omega (arith, cell_draws _ n next m)
-drawing_next z v s choice l a l' (rest_passed next y m) w n = omega (arith, cell_draws _ n next m)
-drawing_next z v s choice l a l' (gathers_rest next m) w n = omega (arith, cell_draws _ n next m)
+drawing_next z v s choice l a l' (left_over_gone_by next y m) w n = omega (arith, cell_draws _ n next m)
+drawing_next z v s choice l a l' (gathers_left_over next m) w n = omega (arith, cell_draws _ n next m)
 drawing_next z v s choice l a l' _ w n = omega arith

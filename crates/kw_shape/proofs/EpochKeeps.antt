@@ -16,7 +16,7 @@ use Rattle.kw_world.specs.Sizes.{Sizes}
 use Rattle.kw_world.specs.Step.{word}
 use Rattle.kw_core.specs.Run.{Run}
 use Rattle.kw_core.specs.Words.{Words}
-use Rattle.kw_core.proofs.Arrows.{Arrow, meets_stamped, meets_neither, is_passed, helps, finds_stamped, finds_other, list_ends, key_above, rest_passed, gathers_rest, NextLook, looks, lists, NextRest, rests, answers, ends_scan, scans_on, epoch_is_spent, epoch_serves, builds, ends_at_epoch}
+use Rattle.kw_core.proofs.Arrows.{Arrow, sees_stamped, sees_neither, is_gone_by, helps, finds_stamped, finds_other, list_ends, key_above, left_over_gone_by, gathers_left_over, NextLook, looks, lists, NextLeftOver, goes_to_left_over, answers, ends_scan, scans_on, epoch_is_spent, epoch_serves, builds, ends_at_epoch}
 use Rattle.kw_core.proofs.Building.{Building, gives_one_back, gives_last_back, draws_number, retires_row, retires_and_leaves}
 use Rattle.kw_core.proofs.Happens.{Happens}
 use Rattle.kw_core.proofs.InfantFrames.{epoch_stays, number_drawn}
@@ -47,8 +47,8 @@ look_numbers : (z : Sizes) (j : ℕ) (next : Activity) → NextLook z j next →
 look_numbers z j next (looks o) = refl
 look_numbers z j next (lists o) = refl
 
-cell_numbers : (l : Local) (next : Local) → NextRest l next → numbering next.activity ≡ 0
-cell_numbers l k (rests m o) = refl
+cell_numbers : (l : Local) (next : Local) → NextLeftOver l next → numbering next.activity ≡ 0
+cell_numbers l k (goes_to_left_over m o) = refl
 cell_numbers l k (answers o n) = refl
 cell_numbers l k (ends_scan o y n) = refl
 cell_numbers l k (scans_on r o y n w) = refl
@@ -74,16 +74,16 @@ AsksEpoch _ = ⊥
 numbers_next : (z : Sizes) (v : Words) (s : ℕ) (choice : Choice) (l : Local) (a : Activity) (l' : Local) → Arrow z v s choice l a l' → (AsksEpoch a → ⊥) → numbering l'.activity ≤ numbering a
 numbers_next z v s choice l a l' (builds b next y t) n = built_numbers z v choice l b next t
 numbers_next z v s choice l a l' (epoch_serves e) n = absurd (n tt)
-numbers_next z v s choice l a l' (meets_stamped j c version next y m) n = omega (arith, look_numbers z _ next m)
-numbers_next z v s choice l a l' (meets_neither j next y m) n = omega (arith, look_numbers z _ next m)
-numbers_next z v s choice l a l' (is_passed next y m) n = omega (arith, look_numbers z _ next m)
+numbers_next z v s choice l a l' (sees_stamped j c version next y m) n = omega (arith, look_numbers z _ next m)
+numbers_next z v s choice l a l' (sees_neither j next y m) n = omega (arith, look_numbers z _ next m)
+numbers_next z v s choice l a l' (is_gone_by next y m) n = omega (arith, look_numbers z _ next m)
 numbers_next z v s choice l a l' (helps next y m) n = omega (arith, look_numbers z _ next m)
 numbers_next z v s choice l a l' (finds_stamped c version next y m) n = omega (arith, look_numbers z _ next m)
 numbers_next z v s choice l a l' (finds_other next y m) n = omega (arith, look_numbers z _ next m)
 numbers_next z v s choice l a l' (list_ends next e m) n = omega (arith, cell_numbers _ next m)
 numbers_next z v s choice l a l' (key_above next y m) n = omega (arith, cell_numbers _ next m)
-numbers_next z v s choice l a l' (rest_passed next y m) n = omega (arith, cell_numbers _ next m)
-numbers_next z v s choice l a l' (gathers_rest next m) n = omega (arith, cell_numbers _ next m)
+numbers_next z v s choice l a l' (left_over_gone_by next y m) n = omega (arith, cell_numbers _ next m)
+numbers_next z v s choice l a l' (gathers_left_over next m) n = omega (arith, cell_numbers _ next m)
 numbers_next z v s choice l a l' _ n = omega arith
 
 -- a seat that draws a number may draw none after it

@@ -66,11 +66,11 @@ use Rattle.kw_shape.proofs.NewWords as new
 
 -- the word after an exchange
 exchanges : (P : ℕ → Type 0) (found x y : ℕ) → P found → P y → P (if found == x then y else found)
-exchanges P found x y p q = met (found == x)
+exchanges P found x y p q = saw (found == x)
   where
-    met : (b : Bool) → P (if b then y else found)
-    met true = q
-    met false = p
+    saw : (b : Bool) → P (if b then y else found)
+    saw true = q
+    saw false = p
 
 -- the word of a scan stands for it
 scan_known : (x : ScanWord) → IsScan x → IsKnownWord (scan_of (scan_word x))
@@ -175,7 +175,7 @@ module _ (z : Sizes) (rows : ℕ) (v : Words) (s : ℕ) (choice : Choice) (l : L
   written (Activity.Draw Draw.Settle) k n = (exchanges (λ u. IsKnownWord (scan_of u)) (v (name.Scan s)) _ _ (w.each (name.Scan s) n) (scan_known (Drawn l.drawn) k.ranges.drawn), tt)
   written (Activity.Walk Walk.Start) k n = starts choice n
   written (Activity.Walk Walk.Next) k n = walks (is_stopped choice l) n
-  written (Activity.Look Look.Help) k n = (exchanges (λ u. IsEntry z (pend_of u)) (v (name.Pend l.row l.looked)) _ _ (w.each (name.Pend l.row l.looked) n) (entry_known z (pend.Stamped l.met l.helping) (omega (arith, k.ranges.met, w.sized.few_cells), k.ranges.helping.0, k.ranges.helping.1) (k.ranges.met, k.ranges.helping)), tt)
+  written (Activity.Look Look.Help) k n = (exchanges (λ u. IsEntry z (pend_of u)) (v (name.Pend l.row l.looked)) _ _ (w.each (name.Pend l.row l.looked) n) (entry_known z (pend.Stamped l.saw l.helping) (omega (arith, k.ranges.saw, w.sized.few_cells), k.ranges.helping.0, k.ranges.helping.1) (k.ranges.saw, k.ranges.helping)), tt)
   written (Activity.EndScan answer) k n = (scan_known Quiet tt, tt)
   written (Activity.Put Put.Add) k n = (given_known (v (name.Count l.row)) _ refl (w.each (name.Count l.row) n) (more.given l.row n), tt)
   written (Activity.Put Put.Key) k n = (first_in_range l.call k.ranges.call, tt)

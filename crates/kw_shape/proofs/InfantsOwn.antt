@@ -43,7 +43,7 @@ use Rattle.kw_shape.proofs.InfantsKeep.{Own, Wrote, at_writing, back_on, cell_on
 use Rattle.kw_shape.proofs.InfantsStay.{infant_at, infant_stays, infants_stable, written_stays}
 use Rattle.kw_shape.proofs.InfantsWritten.{writes_after, writes_count, writes_entry, writes_first, writes_key, writes_least, writes_next, writes_value, writes_version, written_like}
 use Rattle.kw_shape.specs.Infants.{Writes, Links, HasAll, HasAtHand, Infants, IsInfantOf, IsNursed, IsWhole, IsWriting, Written, nursing_of}
-use Rattle.kw_shape.specs.RowsIn.{rows_in, state_met}
+use Rattle.kw_shape.specs.RowsIn.{rows_in, state_seen}
 
 -- the state of an infant names its seat
 infant_state : (v : Words) (g : Ledger) (t q : ℕ) → States (rows_in v) g → IsInfantOf g t q → (rows_in v).state q ≡ row.Infant t
@@ -52,14 +52,14 @@ infant_state v g t q states x = let e : (rows_in v).state q ≡ row.Infant (g.fa
 -- so its word is not that of a free row
 pub infant_not_free : {A : Type 0} (v : Words) (g : Ledger) (t q : ℕ) → States (rows_in v) g → IsInfantOf g t q → v (name.State q) ≡ state_word state.Free → A
 infant_not_free v g t q states x e =
-    let free : (rows_in v).state q ≡ row.Free = ap (λ w. state_met (state_of w)) e ∙ ap state_met (state_of-state_word state.Free tt) in
+    let free : (rows_in v).state q ≡ row.Free = ap (λ w. state_seen (state_of w)) e ∙ ap state_seen (state_of-state_word state.Free tt) in
     let c : row.Infant t ≡ row.Free = sym (infant_state v g t q states x) ∙ free in
     absurd (cc)
 
 -- nor that of a retired one
 pub infant_not_retired : {A : Type 0} (v : Words) (g : Ledger) (t q m : ℕ) → States (rows_in v) g → IsState (state.Retired m) → IsInfantOf g t q → v (name.State q) ≡ state_word (state.Retired m) → A
 infant_not_retired v g t q m states small x e =
-    let retired : (rows_in v).state q ≡ row.Retired m = ap (λ w. state_met (state_of w)) e ∙ ap state_met (state_of-state_word (state.Retired m) small) in
+    let retired : (rows_in v).state q ≡ row.Retired m = ap (λ w. state_seen (state_of w)) e ∙ ap state_seen (state_of-state_word (state.Retired m) small) in
     let c : row.Infant t ≡ row.Retired m = sym (infant_state v g t q states x) ∙ retired in
     absurd (cc)
 

@@ -48,10 +48,10 @@ one_owner : {A : Type 0} (g : Ledger) (t s q : ℕ) → t ≢ s → IsInfantOf g
 one_owner g t s q d x y = absurd (d (sym x.owner ∙ y.owner))
 
 -- a row of a list stands at some place there
-pub place_of_row : (xs : List ℕ) (q : ℕ) → IsIn xs q → (i : ℕ) × (slice_get xs i ≡ Some q)
-place_of_row [] q i = absurd i
-place_of_row (x ∷ xs) q (inl e) = (0, ap Some (sym e))
-place_of_row (x ∷ xs) q (inr i) = let y = place_of_row xs q i in (suc y.0, y.1)
+pub index_of_row : (xs : List ℕ) (q : ℕ) → IsIn xs q → (i : ℕ) × (slice_get xs i ≡ Some q)
+index_of_row [] q i = absurd i
+index_of_row (x ∷ xs) q (inl e) = (0, ap Some (sym e))
+index_of_row (x ∷ xs) q (inr i) = let y = index_of_row xs q i in (suc y.0, y.1)
 
 -- the state of a row is no other word
 pub no_state : {A : Type 0} (q : ℕ) (n : Name) → is_state n ≡ false → Some (name.State q) ≡ Some n → A
@@ -109,7 +109,7 @@ module _ {z : Sizes} {r r' : Run} {s : ℕ} {choice : Choice} {l l' : Local} whe
     where
       acts : (q ≡ l.row) ⊎ IsIn l.rebalance.taken q → ⊥
       acts (inl c) = linked_not_infant r.ledger.rows t q (subst (WasLinked r.ledger.rows) (sym c) (full refl)) y
-      acts (inr c) = let p = place_of_row l.rebalance.taken q c in one_owner r.ledger.rows t s q d y (x.owned p.0 q tt p.1)
+      acts (inr c) = let p = index_of_row l.rebalance.taken q c in one_owner r.ledger.rows t s q d y (x.owned p.0 q tt p.1)
   fates_kept a h t d states small x full q y = fate_stays a h q (λ c. c)
 
   -- so the infants of another seat stay

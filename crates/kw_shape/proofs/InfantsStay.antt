@@ -34,7 +34,7 @@ pub record RelyInfants (z : Sizes) (rows : ℕ) (v v' : Words) (g g' : Ledger) (
 pub written_stays : (z : Sizes) (rows : ℕ) (v v' : Words) (a : Activity) (l : Local) (q : ℕ) → q < rows → ((n : Name) → row_in n ≡ Some q → is_state n ≡ false → IsWithin z.seats z.cells rows n → v' n ≡ v n) → Written z v a l q → Written z v' a l q
 written_stays z rows v v' a l q i same w = record {
   count = λ x. same (name.Count q) refl refl i ∙ w.count x;
-  least = λ x. same (name.Min q) refl refl i ∙ w.least x;
+  least = λ x. same (name.Least q) refl refl i ∙ w.least x;
   next = λ x. same (name.Next q) refl refl i ∙ w.next x;
   first = λ x. same (name.First q) refl refl i ∙ w.first x;
   entries = λ k o x. same (name.Pend q k) refl refl (i, o) ∙ w.entries k o x;
@@ -96,7 +96,7 @@ search_stable v v' g g' t a l y dead x = record {
   fresh = λ p s e. y.fresh p (x.fresh p s e);
   least = λ p m e. x.least p m e ∙ sym (y.least p (x.fresh p (measured a l m) e));
   left = λ p m e. which p m (y.least p (x.fresh p (measured a l m) e)) (x.left p m e);
-  met = λ m. y.fresh l.candidate (x.met m);
+  saw = λ m. y.fresh l.candidate (x.saw m);
 }
   where
     which : (p : ℕ) → IsMeasured a l → least_in v' p ≡ least_in v p → IsLeft v g l p → IsLeft v' g' l p

@@ -146,11 +146,11 @@ module _ {z : Sizes} {r r' : Run} {s : ℕ} {choice : Choice} {l l' : Local} whe
       known = known_at (Activity.Look Look.Help) h i
 
       there : WasLinked r.ledger.rows l.row → IsOfCell c (pend_of (word z r'.world (name.Pend l.row l.looked))) → HoldsCell (word z r.world) r.ledger.rows l.row c
-      there y p = which (entry_exchanged (IsOfCell c) (word z r.world (name.Pend l.row l.looked)) (word z r'.world (name.Pend l.row l.looked)) (pend.Pending l.met) (pend.Stamped l.met l.helping) (omega (arith, known.ranges.met, i.sane.sized.few_cells), known.ranges.helping.0, known.ranges.helping.1) (exchanged _ _ _ _ h.changed.same) (not_exchanged _ _ _ _ h.changed.same) p)
+      there y p = which (entry_exchanged (IsOfCell c) (word z r.world (name.Pend l.row l.looked)) (word z r'.world (name.Pend l.row l.looked)) (pend.Pending l.saw) (pend.Stamped l.saw l.helping) (omega (arith, known.ranges.saw, i.sane.sized.few_cells), known.ranges.helping.0, known.ranges.helping.1) (exchanged _ _ _ _ h.changed.same) (not_exchanged _ _ _ _ h.changed.same) p)
         where
-          which : IsOfCell c (pend_of (word z r.world (name.Pend l.row l.looked))) ⊎ (word z r.world (name.Pend l.row l.looked) ≡ pend_word (pend.Pending l.met)) × (l.met ≡ c) → HoldsCell (word z r.world) r.ledger.rows l.row c
+          which : IsOfCell c (pend_of (word z r.world (name.Pend l.row l.looked))) ⊎ (word z r.world (name.Pend l.row l.looked) ≡ pend_word (pend.Pending l.saw)) × (l.saw ≡ c) → HoldsCell (word z r.world) r.ledger.rows l.row c
           which (inl m) = (i.keyed l.row y).named l.looked c known.ranges.looked m
-          which (inr m) = (i.keyed l.row y).named l.looked c known.ranges.looked (was_pending c _ l.met m.0 (omega (arith, known.ranges.met, i.sane.sized.few_cells)) m.1)
+          which (inr m) = (i.keyed l.row y).named l.looked c known.ranges.looked (was_pending c _ l.saw m.0 (omega (arith, known.ranges.saw, i.sane.sized.few_cells)) m.1)
   named_before (Activity.Put Put.Announce) h i q j c k o x = at_entry (Activity.Put Put.Announce) h i q j c s k o x there (λ d. linked_entry (Activity.Put Put.Announce) h i q j k o (λ w e f. d e f) (λ w e f. w) (λ w e. w))
     where
       there : WasLinked r.ledger.rows l.row → IsOfCell c (pend_of (word z r'.world (name.Pend l.row s))) → HoldsCell (word z r.world) r.ledger.rows l.row c

@@ -35,14 +35,14 @@ use Rattle.kw_world.specs.TakeTransitions.{keeping}
 use Rattle.kw_core.specs.Run.{Run}
 use Rattle.kw_core.specs.Stages.{IsAtRow, IsBalancing}
 use Rattle.kw_core.specs.Words.{Words}
-use Rattle.kw_core.proofs.Arrows.{Arrow, NextLook, looks, lists, NextRest, rests, answers, ends_scan, scans_on, meets_stamped, meets_neither, is_passed, helps, finds_stamped, finds_other, list_ends, key_above, rest_passed, gathers_rest, stores_key, stores_value, announces, loads_clock, stamps, is_stamped, stores_version, meets_cell, meets_none, key_before, key_same, key_after, version_before, version_after, stores_after, loses, freezes_count, meets_idle, meets_unstamped, remembers, remembers_last, meets_frozen, meets_frozen_last, freezes_entry, freezes_last, looks_again, meets_quiet, meets_quiet_last, helps_scan, meets_drawn, meets_drawn_last, draws_for, settles_scan, settles_last, finds_drawn, finds_drawn_last, finds_no_scan, finds_no_scan_last, take_leads, takes_left, takes_no_more, takes_key, takes_version, keeps_taken, takes_left_key, keeps_left, keeps_no_more, builds}
+use Rattle.kw_core.proofs.Arrows.{Arrow, NextLook, looks, lists, NextLeftOver, goes_to_left_over, answers, ends_scan, scans_on, sees_stamped, sees_neither, is_gone_by, helps, finds_stamped, finds_other, list_ends, key_above, left_over_gone_by, gathers_left_over, stores_key, stores_value, announces, loads_clock, stamps, is_stamped, stores_version, reaches_cell, sees_none, key_before, key_same, key_after, version_before, version_after, stores_after, loses, freezes_count, sees_idle, sees_unstamped, remembers, remembers_last, sees_frozen, sees_frozen_last, freezes_entry, freezes_last, looks_again, sees_quiet, sees_quiet_last, helps_scan, sees_drawn, sees_drawn_last, draws_for, settles_scan, settles_last, finds_drawn, finds_drawn_last, finds_no_scan, finds_no_scan_last, take_leads, takes_left, takes_no_more, takes_key, takes_version, keeps_taken, takes_left_key, keeps_left, keeps_no_more, builds}
 use Rattle.kw_core.proofs.Building.{Building, IsBuilding, makes_normal, makes_last_normal, draws_number, retires_row, retires_and_leaves}
 use Rattle.kw_core.proofs.BuiltNext.{IsAfterBuilding, built_keeps, built_next}
 use Rattle.kw_core.proofs.Happens.{Happens}
 use Rattle.kw_core.proofs.InRange.{least_holds, unmarked_in_range, with_cell_in_range}
 use Rattle.kw_shape.proofs.KeyedKeeps.{cell_keeps, key_keeps, keyed_stays, link_of_row, put_key_holds}
 use Rattle.kw_shape.proofs.LinkedRows.{fresh_linked}
-use Rattle.kw_shape.specs.Keyed.{HasGathered, HasHeldCell, HasKeyInHand, HasMarks, HasMetCell, HasOwnKey, HoldsCell, IsOfCell, Keyed, Keys}
+use Rattle.kw_shape.specs.Keyed.{HasGathered, HasHeldCell, HasKeyInHand, HasMarks, HasReachedCell, HasOwnKey, HoldsCell, IsOfCell, Keyed, Keys}
 use Rattle.kw_shape.specs.RowsIn.{rows_in}
 use Rattle.kw_shape.specs.Shape.{Shape}
 
@@ -60,9 +60,9 @@ marks_row : (a : Activity) → HasMarks a → IsBalancing a
 marks_row (Activity.Rebalance (Rebalance.Engage Engage.Clock)) x = tt
 marks_row _ x = assumption (x, tt)
 
-met_row : (a : Activity) → HasMetCell a → IsBalancing a
-met_row (Activity.Rebalance (Rebalance.Engage Engage.Clock)) x = tt
-met_row _ x = assumption (x, tt)
+reached_row : (a : Activity) → HasReachedCell a → IsBalancing a
+reached_row (Activity.Rebalance (Rebalance.Engage Engage.Clock)) x = tt
+reached_row _ x = assumption (x, tt)
 
 key_row : (a : Activity) → HasKeyInHand a → IsBalancing a
 key_row (Activity.Rebalance (Rebalance.Engage Engage.Clock)) x = tt
@@ -86,9 +86,9 @@ after_marks : (a : Activity) → IsAfterBuilding a → HasMarks a → ⊥
 after_marks (Activity.Rebalance (Rebalance.Gather Gather.Link)) b x = b
 after_marks _ b x = assumption (b, x)
 
-after_met : (a : Activity) → IsAfterBuilding a → HasMetCell a → ⊥
-after_met (Activity.Rebalance (Rebalance.Gather Gather.Key)) b x = b
-after_met _ b x = assumption (b, x)
+after_reached : (a : Activity) → IsAfterBuilding a → HasReachedCell a → ⊥
+after_reached (Activity.Rebalance (Rebalance.Gather Gather.Key)) b x = b
+after_reached _ b x = assumption (b, x)
 
 after_key : (a : Activity) → IsAfterBuilding a → HasKeyInHand a → ⊥
 after_key (Activity.Rebalance (Rebalance.Gather Gather.Version)) b x = b
@@ -120,14 +120,14 @@ held_cell {n} None c o e = let x : None ≡ Some c = e in absurd (cc)
 module _ (v : Words) (g : Ledger) where
   -- a reader knows of no keys
   look_keys : (z : Sizes) (j : ℕ) (next : Activity) (k : Local) → NextLook z j next → Keys v g next k
-  look_keys z j next k (looks o) = record { own = λ x. absurd x; held = λ x. absurd x; marks = λ x. absurd x; met = λ x. absurd x; key = λ x. absurd x; gathered = λ x. absurd x }
-  look_keys z j next k (lists o) = record { own = λ x. absurd x; held = λ x. absurd x; marks = λ x. absurd x; met = λ x. absurd x; key = λ x. absurd x; gathered = λ x. absurd x }
+  look_keys z j next k (looks o) = record { own = λ x. absurd x; held = λ x. absurd x; marks = λ x. absurd x; saw = λ x. absurd x; key = λ x. absurd x; gathered = λ x. absurd x }
+  look_keys z j next k (lists o) = record { own = λ x. absurd x; held = λ x. absurd x; marks = λ x. absurd x; saw = λ x. absurd x; key = λ x. absurd x; gathered = λ x. absurd x }
 
-  cell_keys : (l : Local) (next : Local) → NextRest l next → Keys v g next.activity next
-  cell_keys l next (rests m o) = record { own = λ x. absurd x; held = λ x. absurd x; marks = λ x. absurd x; met = λ x. absurd x; key = λ x. absurd x; gathered = λ x. absurd x }
-  cell_keys l next (answers o n) = record { own = λ x. absurd x; held = λ x. absurd x; marks = λ x. absurd x; met = λ x. absurd x; key = λ x. absurd x; gathered = λ x. absurd x }
-  cell_keys l next (ends_scan o y n) = record { own = λ x. absurd x; held = λ x. absurd x; marks = λ x. absurd x; met = λ x. absurd x; key = λ x. absurd x; gathered = λ x. absurd x }
-  cell_keys l next (scans_on q o y n w) = record { own = λ x. absurd x; held = λ x. absurd x; marks = λ x. absurd x; met = λ x. absurd x; key = λ x. absurd x; gathered = λ x. absurd x }
+  cell_keys : (l : Local) (next : Local) → NextLeftOver l next → Keys v g next.activity next
+  cell_keys l next (goes_to_left_over m o) = record { own = λ x. absurd x; held = λ x. absurd x; marks = λ x. absurd x; saw = λ x. absurd x; key = λ x. absurd x; gathered = λ x. absurd x }
+  cell_keys l next (answers o n) = record { own = λ x. absurd x; held = λ x. absurd x; marks = λ x. absurd x; saw = λ x. absurd x; key = λ x. absurd x; gathered = λ x. absurd x }
+  cell_keys l next (ends_scan o y n) = record { own = λ x. absurd x; held = λ x. absurd x; marks = λ x. absurd x; saw = λ x. absurd x; key = λ x. absurd x; gathered = λ x. absurd x }
+  cell_keys l next (scans_on q o y n w) = record { own = λ x. absurd x; held = λ x. absurd x; marks = λ x. absurd x; saw = λ x. absurd x; key = λ x. absurd x; gathered = λ x. absurd x }
 
   -- one more cell is remembered
   marks_more : (q : ℕ) (marks : List Mark) (c version : ℕ) → All (λ m. HoldsCell v g q m.cell) marks → HoldsCell v g q c → All (λ m. HoldsCell v g q m.cell) (marks ++ mark_of c version ∷ [])
@@ -147,7 +147,7 @@ module _ (v : Words) (g : Ledger) where
     own = λ x. absurd (after_own next.activity after x);
     held = λ x. absurd (after_held next.activity after x);
     marks = λ x. absurd (after_marks next.activity after x);
-    met = λ x. absurd (after_met next.activity after x);
+    saw = λ x. absurd (after_reached next.activity after x);
     key = λ x. absurd (after_key next.activity after x);
     gathered = λ x.
         let y = built_keeps z w choice l a next t (after_gathered next.activity after x) in
@@ -174,7 +174,7 @@ module _ {z : Sizes} {r r' : Run} {s : ℕ} {choice : Choice} {l : Local} where
     own = λ x. cell_keeps a h i k.row k.cell (at (own_row k.activity x)) ranges.cell (keys.own x);
     held = λ x c e. cell_keeps a h i k.row c (at (held_row k.activity x)) (held_cell k.held c ranges.held e) (keys.held x c e);
     marks = λ x j d o. cell_keeps a h i k.row _ (full (marks_row k.activity x)) (ranges.rebalance.marks j d o).0 (keys.marks x j d o);
-    met = λ x. cell_keeps a h i k.row k.place (full (met_row k.activity x)) ranges.place (keys.met x);
+    saw = λ x. cell_keeps a h i k.row k.place (full (reached_row k.activity x)) ranges.place (keys.saw x);
     key = λ x. key_keeps a h i k.row k.place_key (full (key_row k.activity x)) (keys.key x);
     gathered = λ x j d o. key_keeps a h i k.row _ (full (gathered_row k.activity x)) (keys.gathered x j d o);
   }
@@ -200,65 +200,65 @@ module _ {z : Sizes} {r r' : Run} {s : ℕ} {choice : Choice} {l : Local} where
 
   -- by the arrow that the acting seat takes
   keys_by : (a : Activity) (l' : Local) → Arrow z (word z r.world) s choice l a l' → Happens z r r' s choice l l' a → Shape z r → Keys (word z r'.world) r'.ledger.rows a l → (IsAtRow a ⊎ IsBalancing a → Keyed z (word z r'.world) r'.ledger.rows l.row) → Keys (word z r'.world) r'.ledger.rows l'.activity l'
-  keys_by a l' stores_value h i k y = record { own = λ x. k.own tt; held = λ x. absurd x; marks = λ x. absurd x; met = λ x. absurd x; key = λ x. absurd x; gathered = λ x. absurd x }
-  keys_by a l' (announces e) h i k y = record { own = λ x. k.own tt; held = λ x. absurd x; marks = λ x. absurd x; met = λ x. absurd x; key = λ x. absurd x; gathered = λ x. absurd x }
-  keys_by a l' loads_clock h i k y = record { own = λ x. k.own tt; held = λ x. absurd x; marks = λ x. absurd x; met = λ x. absurd x; key = λ x. absurd x; gathered = λ x. absurd x }
-  keys_by a l' (stamps e) h i k y = record { own = λ x. k.own tt; held = λ x. absurd x; marks = λ x. absurd x; met = λ x. absurd x; key = λ x. absurd x; gathered = λ x. absurd x }
-  keys_by a l' (is_stamped version e) h i k y = record { own = λ x. k.own tt; held = λ x. absurd x; marks = λ x. absurd x; met = λ x. absurd x; key = λ x. absurd x; gathered = λ x. absurd x }
-  keys_by a l' stores_version h i k y = record { own = λ x. k.own tt; held = λ x. absurd x; marks = λ x. absurd x; met = λ x. absurd x; key = λ x. absurd x; gathered = λ x. absurd x }
-  keys_by a l' (meets_cell c e) h i k y = record { own = λ x. k.own tt; held = λ x d f. subst (HoldsCell (word z r'.world) r'.ledger.rows l.row) (same_Some c d f) (led (Activity.Insert Insert.Link) h i (y (inl tt)) c (h.changed.loaded refl) e); marks = λ x. absurd x; met = λ x. absurd x; key = λ x. absurd x; gathered = λ x. absurd x }
-  keys_by a l' (meets_none e) h i k y = record { own = λ x. k.own tt; held = λ x d f. let g : None ≡ Some d = f in absurd (cc); marks = λ x. absurd x; met = λ x. absurd x; key = λ x. absurd x; gathered = λ x. absurd x }
-  keys_by a l' (key_before e) h i k y = record { own = λ x. k.own tt; held = λ x. absurd x; marks = λ x. absurd x; met = λ x. absurd x; key = λ x. absurd x; gathered = λ x. absurd x }
-  keys_by a l' (key_same e) h i k y = record { own = λ x. k.own tt; held = λ x. k.held tt; marks = λ x. absurd x; met = λ x. absurd x; key = λ x. absurd x; gathered = λ x. absurd x }
-  keys_by a l' (key_after e) h i k y = record { own = λ x. k.own tt; held = λ x. k.held tt; marks = λ x. absurd x; met = λ x. absurd x; key = λ x. absurd x; gathered = λ x. absurd x }
-  keys_by a l' (version_before e) h i k y = record { own = λ x. k.own tt; held = λ x. absurd x; marks = λ x. absurd x; met = λ x. absurd x; key = λ x. absurd x; gathered = λ x. absurd x }
-  keys_by a l' (version_after e) h i k y = record { own = λ x. k.own tt; held = λ x. k.held tt; marks = λ x. absurd x; met = λ x. absurd x; key = λ x. absurd x; gathered = λ x. absurd x }
-  keys_by a l' stores_after h i k y = record { own = λ x. k.own tt; held = λ x. absurd x; marks = λ x. absurd x; met = λ x. absurd x; key = λ x. absurd x; gathered = λ x. absurd x }
-  keys_by a l' (loses e) h i k y = record { own = λ x. k.own tt; held = λ x. absurd x; marks = λ x. absurd x; met = λ x. absurd x; key = λ x. absurd x; gathered = λ x. absurd x }
-  keys_by a l' freezes_count h i k y = record { own = λ x. absurd x; held = λ x. absurd x; marks = λ x. All-nil (λ m. HoldsCell (word z r'.world) r'.ledger.rows l.row m.cell); met = λ x. absurd x; key = λ x. absurd x; gathered = λ x. absurd x }
-  keys_by a l' (meets_idle j e) h i k y = record { own = λ x. absurd x; held = λ x. absurd x; marks = λ x. k.marks tt; met = λ x. absurd x; key = λ x. absurd x; gathered = λ x. absurd x }
-  keys_by a l' (meets_unstamped j c e) h i k y = record { own = λ x. absurd x; held = λ x. absurd x; marks = λ x. k.marks tt; met = λ x. absurd x; key = λ x. absurd x; gathered = λ x. absurd x }
-  keys_by a l' (remembers j c version e o) h i k y = record { own = λ x. absurd x; held = λ x. absurd x; marks = λ x. marks_more (word z r'.world) r'.ledger.rows l.row l.rebalance.marks c version (k.marks tt) (named j h i (y (inr tt)) c version (h.changed.loaded refl) e); met = λ x. absurd x; key = λ x. absurd x; gathered = λ x. absurd x }
-  keys_by a l' (remembers_last j c version e o) h i k y = record { own = λ x. absurd x; held = λ x. absurd x; marks = λ x. marks_more (word z r'.world) r'.ledger.rows l.row l.rebalance.marks c version (k.marks tt) (named j h i (y (inr tt)) c version (h.changed.loaded refl) e); met = λ x. absurd x; key = λ x. absurd x; gathered = λ x. absurd x }
-  keys_by a l' (meets_frozen j e o) h i k y = record { own = λ x. absurd x; held = λ x. absurd x; marks = λ x. k.marks tt; met = λ x. absurd x; key = λ x. absurd x; gathered = λ x. absurd x }
-  keys_by a l' (meets_frozen_last j e o) h i k y = record { own = λ x. absurd x; held = λ x. absurd x; marks = λ x. k.marks tt; met = λ x. absurd x; key = λ x. absurd x; gathered = λ x. absurd x }
-  keys_by a l' (freezes_entry j e o) h i k y = record { own = λ x. absurd x; held = λ x. absurd x; marks = λ x. k.marks tt; met = λ x. absurd x; key = λ x. absurd x; gathered = λ x. absurd x }
-  keys_by a l' (freezes_last j e o) h i k y = record { own = λ x. absurd x; held = λ x. absurd x; marks = λ x. k.marks tt; met = λ x. absurd x; key = λ x. absurd x; gathered = λ x. absurd x }
-  keys_by a l' (looks_again j e) h i k y = record { own = λ x. absurd x; held = λ x. absurd x; marks = λ x. k.marks tt; met = λ x. absurd x; key = λ x. absurd x; gathered = λ x. absurd x }
-  keys_by a l' (meets_quiet j e o) h i k y = record { own = λ x. absurd x; held = λ x. absurd x; marks = λ x. k.marks tt; met = λ x. absurd x; key = λ x. absurd x; gathered = λ x. absurd x }
-  keys_by a l' (helps_scan j clock e) h i k y = record { own = λ x. absurd x; held = λ x. absurd x; marks = λ x. k.marks tt; met = λ x. absurd x; key = λ x. absurd x; gathered = λ x. absurd x }
-  keys_by a l' (meets_drawn j version e o) h i k y = record { own = λ x. absurd x; held = λ x. absurd x; marks = λ x. k.marks tt; met = λ x. absurd x; key = λ x. absurd x; gathered = λ x. absurd x }
-  keys_by a l' (draws_for j) h i k y = record { own = λ x. absurd x; held = λ x. absurd x; marks = λ x. k.marks tt; met = λ x. absurd x; key = λ x. absurd x; gathered = λ x. absurd x }
-  keys_by a l' (settles_scan j e o) h i k y = record { own = λ x. absurd x; held = λ x. absurd x; marks = λ x. k.marks tt; met = λ x. absurd x; key = λ x. absurd x; gathered = λ x. absurd x }
-  keys_by a l' (finds_drawn j version e o) h i k y = record { own = λ x. absurd x; held = λ x. absurd x; marks = λ x. k.marks tt; met = λ x. absurd x; key = λ x. absurd x; gathered = λ x. absurd x }
-  keys_by a l' (finds_no_scan j e o) h i k y = record { own = λ x. absurd x; held = λ x. absurd x; marks = λ x. k.marks tt; met = λ x. absurd x; key = λ x. absurd x; gathered = λ x. absurd x }
-  keys_by a l' (meets_quiet_last j e o) h i k y = record { own = λ x. absurd x; held = λ x. absurd x; marks = λ x. k.marks tt; met = λ x. absurd x; key = λ x. absurd x; gathered = λ x. All-nil (λ c. rows.HoldsKey (rows_in (word z r'.world)) r'.ledger.rows l.row c.key) }
-  keys_by a l' (meets_drawn_last j version e o) h i k y = record { own = λ x. absurd x; held = λ x. absurd x; marks = λ x. k.marks tt; met = λ x. absurd x; key = λ x. absurd x; gathered = λ x. All-nil (λ c. rows.HoldsKey (rows_in (word z r'.world)) r'.ledger.rows l.row c.key) }
-  keys_by a l' (settles_last j e o) h i k y = record { own = λ x. absurd x; held = λ x. absurd x; marks = λ x. k.marks tt; met = λ x. absurd x; key = λ x. absurd x; gathered = λ x. All-nil (λ c. rows.HoldsKey (rows_in (word z r'.world)) r'.ledger.rows l.row c.key) }
-  keys_by a l' (finds_drawn_last j version e o) h i k y = record { own = λ x. absurd x; held = λ x. absurd x; marks = λ x. k.marks tt; met = λ x. absurd x; key = λ x. absurd x; gathered = λ x. All-nil (λ c. rows.HoldsKey (rows_in (word z r'.world)) r'.ledger.rows l.row c.key) }
-  keys_by a l' (finds_no_scan_last j e o) h i k y = record { own = λ x. absurd x; held = λ x. absurd x; marks = λ x. k.marks tt; met = λ x. absurd x; key = λ x. absurd x; gathered = λ x. All-nil (λ c. rows.HoldsKey (rows_in (word z r'.world)) r'.ledger.rows l.row c.key) }
-  keys_by a l' (take_leads c e) h i k y = record { own = λ x. absurd x; held = λ x. absurd x; marks = λ x. unmarked_in_range (λ m. HoldsCell (word z r'.world) r'.ledger.rows l.row m.cell) c l.rebalance.marks (k.marks tt); met = λ x. led (Activity.Rebalance (Rebalance.Gather Gather.Link)) h i (y (inr tt)) c (h.changed.loaded refl) e; key = λ x. absurd x; gathered = λ x. k.gathered tt }
-  keys_by a l' (takes_left m e n) h i k y = record { own = λ x. absurd x; held = λ x. absurd x; marks = λ x. unmarked_in_range (λ m. HoldsCell (word z r'.world) r'.ledger.rows l.row m.cell) m.cell l.rebalance.marks (k.marks tt); met = λ x. least_holds (λ m. HoldsCell (word z r'.world) r'.ledger.rows l.row m.cell) l.rebalance.marks m n (k.marks tt); key = λ x. absurd x; gathered = λ x. k.gathered tt }
-  keys_by a l' (takes_no_more e n) h i k y = record { own = λ x. absurd x; held = λ x. absurd x; marks = λ x. absurd x; met = λ x. absurd x; key = λ x. absurd x; gathered = λ x. k.gathered tt }
-  keys_by a l' takes_key h i k y = record { own = λ x. absurd x; held = λ x. absurd x; marks = λ x. k.marks tt; met = λ x. absurd x; key = λ x. subst (λ w. rows.HoldsKey (rows_in (word z r'.world)) r'.ledger.rows l.row (key_of_word w)) (h.changed.loaded refl (name.Key l.row l.place)) (k.met tt); gathered = λ x. k.gathered tt }
-  keys_by a l' takes_version h i k y = record { own = λ x. absurd x; held = λ x. absurd x; marks = λ x. k.marks tt; met = λ x. absurd x; key = λ x. k.key tt; gathered = λ x. k.gathered tt }
-  keys_by a l' keeps_taken h i k y = record { own = λ x. absurd x; held = λ x. absurd x; marks = λ x. k.marks tt; met = λ x. absurd x; key = λ x. absurd x; gathered = λ x. kept_more (word z r'.world) r'.ledger.rows z l _ (k.key tt) (k.gathered tt) }
-  keys_by a l' takes_left_key h i k y = record { own = λ x. absurd x; held = λ x. absurd x; marks = λ x. k.marks tt; met = λ x. absurd x; key = λ x. subst (λ w. rows.HoldsKey (rows_in (word z r'.world)) r'.ledger.rows l.row (key_of_word w)) (h.changed.loaded refl (name.Key l.row l.place)) (k.met tt); gathered = λ x. k.gathered tt }
-  keys_by a l' (keeps_left m n) h i k y = record { own = λ x. absurd x; held = λ x. absurd x; marks = λ x. unmarked_in_range (λ m. HoldsCell (word z r'.world) r'.ledger.rows l.row m.cell) m.cell l.rebalance.marks (k.marks tt); met = λ x. least_holds (λ m. HoldsCell (word z r'.world) r'.ledger.rows l.row m.cell) l.rebalance.marks m n (k.marks tt); key = λ x. absurd x; gathered = λ x. kept_more (word z r'.world) r'.ledger.rows z l _ (k.key tt) (k.gathered tt) }
-  keys_by a l' (keeps_no_more n) h i k y = record { own = λ x. absurd x; held = λ x. absurd x; marks = λ x. absurd x; met = λ x. absurd x; key = λ x. absurd x; gathered = λ x. kept_more (word z r'.world) r'.ledger.rows z l _ (k.key tt) (k.gathered tt) }
+  keys_by a l' stores_value h i k y = record { own = λ x. k.own tt; held = λ x. absurd x; marks = λ x. absurd x; saw = λ x. absurd x; key = λ x. absurd x; gathered = λ x. absurd x }
+  keys_by a l' (announces e) h i k y = record { own = λ x. k.own tt; held = λ x. absurd x; marks = λ x. absurd x; saw = λ x. absurd x; key = λ x. absurd x; gathered = λ x. absurd x }
+  keys_by a l' loads_clock h i k y = record { own = λ x. k.own tt; held = λ x. absurd x; marks = λ x. absurd x; saw = λ x. absurd x; key = λ x. absurd x; gathered = λ x. absurd x }
+  keys_by a l' (stamps e) h i k y = record { own = λ x. k.own tt; held = λ x. absurd x; marks = λ x. absurd x; saw = λ x. absurd x; key = λ x. absurd x; gathered = λ x. absurd x }
+  keys_by a l' (is_stamped version e) h i k y = record { own = λ x. k.own tt; held = λ x. absurd x; marks = λ x. absurd x; saw = λ x. absurd x; key = λ x. absurd x; gathered = λ x. absurd x }
+  keys_by a l' stores_version h i k y = record { own = λ x. k.own tt; held = λ x. absurd x; marks = λ x. absurd x; saw = λ x. absurd x; key = λ x. absurd x; gathered = λ x. absurd x }
+  keys_by a l' (reaches_cell c e) h i k y = record { own = λ x. k.own tt; held = λ x d f. subst (HoldsCell (word z r'.world) r'.ledger.rows l.row) (same_Some c d f) (led (Activity.Insert Insert.Link) h i (y (inl tt)) c (h.changed.loaded refl) e); marks = λ x. absurd x; saw = λ x. absurd x; key = λ x. absurd x; gathered = λ x. absurd x }
+  keys_by a l' (sees_none e) h i k y = record { own = λ x. k.own tt; held = λ x d f. let g : None ≡ Some d = f in absurd (cc); marks = λ x. absurd x; saw = λ x. absurd x; key = λ x. absurd x; gathered = λ x. absurd x }
+  keys_by a l' (key_before e) h i k y = record { own = λ x. k.own tt; held = λ x. absurd x; marks = λ x. absurd x; saw = λ x. absurd x; key = λ x. absurd x; gathered = λ x. absurd x }
+  keys_by a l' (key_same e) h i k y = record { own = λ x. k.own tt; held = λ x. k.held tt; marks = λ x. absurd x; saw = λ x. absurd x; key = λ x. absurd x; gathered = λ x. absurd x }
+  keys_by a l' (key_after e) h i k y = record { own = λ x. k.own tt; held = λ x. k.held tt; marks = λ x. absurd x; saw = λ x. absurd x; key = λ x. absurd x; gathered = λ x. absurd x }
+  keys_by a l' (version_before e) h i k y = record { own = λ x. k.own tt; held = λ x. absurd x; marks = λ x. absurd x; saw = λ x. absurd x; key = λ x. absurd x; gathered = λ x. absurd x }
+  keys_by a l' (version_after e) h i k y = record { own = λ x. k.own tt; held = λ x. k.held tt; marks = λ x. absurd x; saw = λ x. absurd x; key = λ x. absurd x; gathered = λ x. absurd x }
+  keys_by a l' stores_after h i k y = record { own = λ x. k.own tt; held = λ x. absurd x; marks = λ x. absurd x; saw = λ x. absurd x; key = λ x. absurd x; gathered = λ x. absurd x }
+  keys_by a l' (loses e) h i k y = record { own = λ x. k.own tt; held = λ x. absurd x; marks = λ x. absurd x; saw = λ x. absurd x; key = λ x. absurd x; gathered = λ x. absurd x }
+  keys_by a l' freezes_count h i k y = record { own = λ x. absurd x; held = λ x. absurd x; marks = λ x. All-nil (λ m. HoldsCell (word z r'.world) r'.ledger.rows l.row m.cell); saw = λ x. absurd x; key = λ x. absurd x; gathered = λ x. absurd x }
+  keys_by a l' (sees_idle j e) h i k y = record { own = λ x. absurd x; held = λ x. absurd x; marks = λ x. k.marks tt; saw = λ x. absurd x; key = λ x. absurd x; gathered = λ x. absurd x }
+  keys_by a l' (sees_unstamped j c e) h i k y = record { own = λ x. absurd x; held = λ x. absurd x; marks = λ x. k.marks tt; saw = λ x. absurd x; key = λ x. absurd x; gathered = λ x. absurd x }
+  keys_by a l' (remembers j c version e o) h i k y = record { own = λ x. absurd x; held = λ x. absurd x; marks = λ x. marks_more (word z r'.world) r'.ledger.rows l.row l.rebalance.marks c version (k.marks tt) (named j h i (y (inr tt)) c version (h.changed.loaded refl) e); saw = λ x. absurd x; key = λ x. absurd x; gathered = λ x. absurd x }
+  keys_by a l' (remembers_last j c version e o) h i k y = record { own = λ x. absurd x; held = λ x. absurd x; marks = λ x. marks_more (word z r'.world) r'.ledger.rows l.row l.rebalance.marks c version (k.marks tt) (named j h i (y (inr tt)) c version (h.changed.loaded refl) e); saw = λ x. absurd x; key = λ x. absurd x; gathered = λ x. absurd x }
+  keys_by a l' (sees_frozen j e o) h i k y = record { own = λ x. absurd x; held = λ x. absurd x; marks = λ x. k.marks tt; saw = λ x. absurd x; key = λ x. absurd x; gathered = λ x. absurd x }
+  keys_by a l' (sees_frozen_last j e o) h i k y = record { own = λ x. absurd x; held = λ x. absurd x; marks = λ x. k.marks tt; saw = λ x. absurd x; key = λ x. absurd x; gathered = λ x. absurd x }
+  keys_by a l' (freezes_entry j e o) h i k y = record { own = λ x. absurd x; held = λ x. absurd x; marks = λ x. k.marks tt; saw = λ x. absurd x; key = λ x. absurd x; gathered = λ x. absurd x }
+  keys_by a l' (freezes_last j e o) h i k y = record { own = λ x. absurd x; held = λ x. absurd x; marks = λ x. k.marks tt; saw = λ x. absurd x; key = λ x. absurd x; gathered = λ x. absurd x }
+  keys_by a l' (looks_again j e) h i k y = record { own = λ x. absurd x; held = λ x. absurd x; marks = λ x. k.marks tt; saw = λ x. absurd x; key = λ x. absurd x; gathered = λ x. absurd x }
+  keys_by a l' (sees_quiet j e o) h i k y = record { own = λ x. absurd x; held = λ x. absurd x; marks = λ x. k.marks tt; saw = λ x. absurd x; key = λ x. absurd x; gathered = λ x. absurd x }
+  keys_by a l' (helps_scan j clock e) h i k y = record { own = λ x. absurd x; held = λ x. absurd x; marks = λ x. k.marks tt; saw = λ x. absurd x; key = λ x. absurd x; gathered = λ x. absurd x }
+  keys_by a l' (sees_drawn j version e o) h i k y = record { own = λ x. absurd x; held = λ x. absurd x; marks = λ x. k.marks tt; saw = λ x. absurd x; key = λ x. absurd x; gathered = λ x. absurd x }
+  keys_by a l' (draws_for j) h i k y = record { own = λ x. absurd x; held = λ x. absurd x; marks = λ x. k.marks tt; saw = λ x. absurd x; key = λ x. absurd x; gathered = λ x. absurd x }
+  keys_by a l' (settles_scan j e o) h i k y = record { own = λ x. absurd x; held = λ x. absurd x; marks = λ x. k.marks tt; saw = λ x. absurd x; key = λ x. absurd x; gathered = λ x. absurd x }
+  keys_by a l' (finds_drawn j version e o) h i k y = record { own = λ x. absurd x; held = λ x. absurd x; marks = λ x. k.marks tt; saw = λ x. absurd x; key = λ x. absurd x; gathered = λ x. absurd x }
+  keys_by a l' (finds_no_scan j e o) h i k y = record { own = λ x. absurd x; held = λ x. absurd x; marks = λ x. k.marks tt; saw = λ x. absurd x; key = λ x. absurd x; gathered = λ x. absurd x }
+  keys_by a l' (sees_quiet_last j e o) h i k y = record { own = λ x. absurd x; held = λ x. absurd x; marks = λ x. k.marks tt; saw = λ x. absurd x; key = λ x. absurd x; gathered = λ x. All-nil (λ c. rows.HoldsKey (rows_in (word z r'.world)) r'.ledger.rows l.row c.key) }
+  keys_by a l' (sees_drawn_last j version e o) h i k y = record { own = λ x. absurd x; held = λ x. absurd x; marks = λ x. k.marks tt; saw = λ x. absurd x; key = λ x. absurd x; gathered = λ x. All-nil (λ c. rows.HoldsKey (rows_in (word z r'.world)) r'.ledger.rows l.row c.key) }
+  keys_by a l' (settles_last j e o) h i k y = record { own = λ x. absurd x; held = λ x. absurd x; marks = λ x. k.marks tt; saw = λ x. absurd x; key = λ x. absurd x; gathered = λ x. All-nil (λ c. rows.HoldsKey (rows_in (word z r'.world)) r'.ledger.rows l.row c.key) }
+  keys_by a l' (finds_drawn_last j version e o) h i k y = record { own = λ x. absurd x; held = λ x. absurd x; marks = λ x. k.marks tt; saw = λ x. absurd x; key = λ x. absurd x; gathered = λ x. All-nil (λ c. rows.HoldsKey (rows_in (word z r'.world)) r'.ledger.rows l.row c.key) }
+  keys_by a l' (finds_no_scan_last j e o) h i k y = record { own = λ x. absurd x; held = λ x. absurd x; marks = λ x. k.marks tt; saw = λ x. absurd x; key = λ x. absurd x; gathered = λ x. All-nil (λ c. rows.HoldsKey (rows_in (word z r'.world)) r'.ledger.rows l.row c.key) }
+  keys_by a l' (take_leads c e) h i k y = record { own = λ x. absurd x; held = λ x. absurd x; marks = λ x. unmarked_in_range (λ m. HoldsCell (word z r'.world) r'.ledger.rows l.row m.cell) c l.rebalance.marks (k.marks tt); saw = λ x. led (Activity.Rebalance (Rebalance.Gather Gather.Link)) h i (y (inr tt)) c (h.changed.loaded refl) e; key = λ x. absurd x; gathered = λ x. k.gathered tt }
+  keys_by a l' (takes_left m e n) h i k y = record { own = λ x. absurd x; held = λ x. absurd x; marks = λ x. unmarked_in_range (λ m. HoldsCell (word z r'.world) r'.ledger.rows l.row m.cell) m.cell l.rebalance.marks (k.marks tt); saw = λ x. least_holds (λ m. HoldsCell (word z r'.world) r'.ledger.rows l.row m.cell) l.rebalance.marks m n (k.marks tt); key = λ x. absurd x; gathered = λ x. k.gathered tt }
+  keys_by a l' (takes_no_more e n) h i k y = record { own = λ x. absurd x; held = λ x. absurd x; marks = λ x. absurd x; saw = λ x. absurd x; key = λ x. absurd x; gathered = λ x. k.gathered tt }
+  keys_by a l' takes_key h i k y = record { own = λ x. absurd x; held = λ x. absurd x; marks = λ x. k.marks tt; saw = λ x. absurd x; key = λ x. subst (λ w. rows.HoldsKey (rows_in (word z r'.world)) r'.ledger.rows l.row (key_of_word w)) (h.changed.loaded refl (name.Key l.row l.place)) (k.saw tt); gathered = λ x. k.gathered tt }
+  keys_by a l' takes_version h i k y = record { own = λ x. absurd x; held = λ x. absurd x; marks = λ x. k.marks tt; saw = λ x. absurd x; key = λ x. k.key tt; gathered = λ x. k.gathered tt }
+  keys_by a l' keeps_taken h i k y = record { own = λ x. absurd x; held = λ x. absurd x; marks = λ x. k.marks tt; saw = λ x. absurd x; key = λ x. absurd x; gathered = λ x. kept_more (word z r'.world) r'.ledger.rows z l _ (k.key tt) (k.gathered tt) }
+  keys_by a l' takes_left_key h i k y = record { own = λ x. absurd x; held = λ x. absurd x; marks = λ x. k.marks tt; saw = λ x. absurd x; key = λ x. subst (λ w. rows.HoldsKey (rows_in (word z r'.world)) r'.ledger.rows l.row (key_of_word w)) (h.changed.loaded refl (name.Key l.row l.place)) (k.saw tt); gathered = λ x. k.gathered tt }
+  keys_by a l' (keeps_left m n) h i k y = record { own = λ x. absurd x; held = λ x. absurd x; marks = λ x. unmarked_in_range (λ m. HoldsCell (word z r'.world) r'.ledger.rows l.row m.cell) m.cell l.rebalance.marks (k.marks tt); saw = λ x. least_holds (λ m. HoldsCell (word z r'.world) r'.ledger.rows l.row m.cell) l.rebalance.marks m n (k.marks tt); key = λ x. absurd x; gathered = λ x. kept_more (word z r'.world) r'.ledger.rows z l _ (k.key tt) (k.gathered tt) }
+  keys_by a l' (keeps_no_more n) h i k y = record { own = λ x. absurd x; held = λ x. absurd x; marks = λ x. absurd x; saw = λ x. absurd x; key = λ x. absurd x; gathered = λ x. kept_more (word z r'.world) r'.ledger.rows z l _ (k.key tt) (k.gathered tt) }
   keys_by a l' (builds b next p t) h i k y = built_keys (word z r'.world) r'.ledger.rows z (word z r.world) choice l b next p t k
-  keys_by a l' (meets_stamped j c version next e n) h i k y = look_keys (word z r'.world) r'.ledger.rows z _ next _ n
-  keys_by a l' (meets_neither j next e n) h i k y = look_keys (word z r'.world) r'.ledger.rows z _ next _ n
-  keys_by a l' (is_passed next e n) h i k y = look_keys (word z r'.world) r'.ledger.rows z _ next _ n
+  keys_by a l' (sees_stamped j c version next e n) h i k y = look_keys (word z r'.world) r'.ledger.rows z _ next _ n
+  keys_by a l' (sees_neither j next e n) h i k y = look_keys (word z r'.world) r'.ledger.rows z _ next _ n
+  keys_by a l' (is_gone_by next e n) h i k y = look_keys (word z r'.world) r'.ledger.rows z _ next _ n
   keys_by a l' (helps next e n) h i k y = look_keys (word z r'.world) r'.ledger.rows z _ next _ n
   keys_by a l' (finds_stamped c version next e n) h i k y = look_keys (word z r'.world) r'.ledger.rows z _ next _ n
   keys_by a l' (finds_other next e n) h i k y = look_keys (word z r'.world) r'.ledger.rows z _ next _ n
   keys_by a l' (list_ends next e n) h i k y = cell_keys (word z r'.world) r'.ledger.rows _ next n
   keys_by a l' (key_above next e n) h i k y = cell_keys (word z r'.world) r'.ledger.rows _ next n
-  keys_by a l' (rest_passed next e n) h i k y = cell_keys (word z r'.world) r'.ledger.rows _ next n
-  keys_by a l' (gathers_rest next n) h i k y = cell_keys (word z r'.world) r'.ledger.rows _ next n
-  keys_by a l' stores_key h i k y = record { own = λ x. put_key_holds h i (row_linked i s l (Activity.Put Put.Key) h.knows h.activity tt); held = λ x. absurd x; marks = λ x. absurd x; met = λ x. absurd x; key = λ x. absurd x; gathered = λ x. absurd x }
-  keys_by a l' _ h i k y = record { own = λ x. absurd x; held = λ x. absurd x; marks = λ x. absurd x; met = λ x. absurd x; key = λ x. absurd x; gathered = λ x. absurd x }
+  keys_by a l' (left_over_gone_by next e n) h i k y = cell_keys (word z r'.world) r'.ledger.rows _ next n
+  keys_by a l' (gathers_left_over next n) h i k y = cell_keys (word z r'.world) r'.ledger.rows _ next n
+  keys_by a l' stores_key h i k y = record { own = λ x. put_key_holds h i (row_linked i s l (Activity.Put Put.Key) h.knows h.activity tt); held = λ x. absurd x; marks = λ x. absurd x; saw = λ x. absurd x; key = λ x. absurd x; gathered = λ x. absurd x }
+  keys_by a l' _ h i k y = record { own = λ x. absurd x; held = λ x. absurd x; marks = λ x. absurd x; saw = λ x. absurd x; key = λ x. absurd x; gathered = λ x. absurd x }
 
   -- what the acting seat knows
   pub keys_own : {l' : Local} (a : Activity) → Happens z r r' s choice l l' a → Shape z r → IsSane z r'.world → Keys (word z r'.world) r'.ledger.rows l'.activity l'

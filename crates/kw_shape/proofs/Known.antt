@@ -60,7 +60,7 @@ use Rattle.kw_core.proofs.Events.{IsBegun}
 use Rattle.kw_core.proofs.RoomBelow.{room_below}
 use Rattle.kw_core.proofs.InRange.{unmarked_in_range, unmarked_few, least_holds, version_in_hand, gathered_in_range, gathered_few, version_of_scan, answer_in_range, pairs_in_range, value_in_range, first_in_range, last_in_range, linked_in_range, stopped_in_range, with_cell_in_range}
 use Rattle.kw_cells.proofs.InOrder.{length-with_cell}
-use Rattle.kw_core.proofs.Arrows.{Arrow, begins, enters, is_spent, waits, draws, settles_empty, settles, starts_at_head, guesses, takes_head, guess_serves, stops, puts_in_last, reads_last, meets_next, walks_on, puts_before, reads_before, meets_pending, meets_stamped, meets_neither, is_passed, loads_to_help, helps, finds_stamped, finds_other, list_leads, list_ends, key_below, key_within, key_above, loads_version, gathers_listed, rest_wanted, rest_passed, gathers_rest, clears_scan, takes_cell, loads_clock, is_stamped, stores_version, meets_cell, meets_none, key_before, version_before, loses, clears, leaves, enters_again, clock_is_spent, epoch_is_spent, finds_infant, finds_leader, finds_other_state, engages, marks_link, marks_led, decides, decides_not, finds_full, takes_full, announces_full, stamps_full, NextLook, looks, lists, NextRest, rests, answers, ends_scan, scans_on, freezes_count, meets_idle, meets_unstamped, remembers, remembers_last, meets_frozen, meets_frozen_last, freezes_entry, freezes_last, looks_again, meets_quiet, meets_quiet_last, helps_scan, meets_drawn, meets_drawn_last, draws_for, settles_scan, settles_last, finds_drawn, finds_drawn_last, finds_no_scan, finds_no_scan_last, take_leads, takes_left, takes_no_more, takes_key, takes_version, keeps_taken, takes_left_key, keeps_left, keeps_no_more, below, builds, ends_at_state, ends_at_clock, ends_at_epoch, ends_undecided, tidies}
+use Rattle.kw_core.proofs.Arrows.{Arrow, begins, enters, is_spent, waits, draws, settles_empty, settles, starts_at_head, guesses, takes_head, guess_serves, stops, puts_in_last, reads_last, reaches_next, walks_on, puts_before, reads_before, sees_pending, sees_stamped, sees_neither, is_gone_by, loads_to_help, helps, finds_stamped, finds_other, list_leads, list_ends, key_below, key_within, key_above, loads_version, gathers_listed, left_over_wanted, left_over_gone_by, gathers_left_over, clears_scan, takes_cell, loads_clock, is_stamped, stores_version, reaches_cell, sees_none, key_before, version_before, loses, clears, leaves, enters_again, clock_is_spent, epoch_is_spent, finds_infant, finds_leader, finds_other_state, engages, marks_link, marks_led, decides, decides_not, finds_full, takes_full, announces_full, stamps_full, NextLook, looks, lists, NextLeftOver, goes_to_left_over, answers, ends_scan, scans_on, freezes_count, sees_idle, sees_unstamped, remembers, remembers_last, sees_frozen, sees_frozen_last, freezes_entry, freezes_last, looks_again, sees_quiet, sees_quiet_last, helps_scan, sees_drawn, sees_drawn_last, draws_for, settles_scan, settles_last, finds_drawn, finds_drawn_last, finds_no_scan, finds_no_scan_last, take_leads, takes_left, takes_no_more, takes_key, takes_version, keeps_taken, takes_left_key, keeps_left, keeps_no_more, below, builds, ends_at_state, ends_at_clock, ends_at_epoch, ends_undecided, tidies}
 use Rattle.kw_core.proofs.Building.{Building, IsBuilding, first_is_free, first_is_taken, sought_is_free, sought_is_taken, first_is_retired, sought_is_retired, pass_is_old, pass_is_young, frees_row, takes_row, loses_row, gives_one_back, gives_last_back, writes_count, writes_least, writes_link, writes_first, writes_entry, writes_key, writes_value, writes_version, writes_after, begins_before, guesses_before, guess_before_fails, before_serves, before_is_above, takes_head_before, leads_to_full, leads_on_marked, leads_to_other, leads_nowhere, walks_before, walks_past, replaces_row, is_marked_before, is_replaced, makes_normal, makes_last_normal, draws_number, retires_row, retires_and_leaves}
 use Rattle.kw_core.proofs.NextBuilt as following
 use Rattle.kw_core.proofs.NextBuilt.{begun_anew, refused, GivenBack, is_refused_rows, moves_left, NextBack, gives_back, has_none, NextSeek, asks, has_asked, looks_on, has_looked, NextTaken, wants_more, has_enough, NextNewRow, writes_row, has_written, NextNewCell, fills, empties, has_cells, NextNewEntry, writes_idle, has_entries, NextBefore, is_first, is_behind, was_served}
@@ -104,19 +104,19 @@ lists_of z (Activity.Rebalance (Rebalance.Freeze (Freeze.Draw i))) b y k = recor
 lists_of z (Activity.Rebalance (Rebalance.Freeze (Freeze.Settle i))) b y k = record { marks = k.marks; needed = omega (arith, k.needed, y); gathered = k.gathered; taken = λ t. absurd t }
 lists_of z _ b y k = record { marks = k.marks; needed = k.needed; gathered = k.gathered; taken = λ t. absurd t }
 
--- the entry that was met
+-- the entry that was seen
 entry : (z : Sizes) (rows : ℕ) (v : Words) (l : Local) → AreSane z rows v → (i : ℕ) (x : Pend) → l.row < rows → i < z.seats → pend_of (v (name.Pend l.row i)) ≡ Some x → IsEntry z (Some x)
 entry z rows v l w i x o u e = subst (IsEntry z) e (w.each (name.Pend l.row i) (o, u))
 
 -- a link between cells leads to one that is in range
 pub linked_below : (w c n : ℕ) → cell_of_link_word w ≡ Some c → w ≤ n → c < n
 unfolding cell_of_link_word
-linked_below w c n e o = met (w == 0) (nat_le w MOST_CELLS) refl refl e
+linked_below w c n e o = saw (w == 0) (nat_le w MOST_CELLS) refl refl e
   where
-    met : (a b : Bool) → (w == 0) ≡ a → nat_le w MOST_CELLS ≡ b → (let x : Option ℕ = if a then None else if b then Some (w - 1) else None in x) ≡ Some c → c < n
-    met true b f g e = let x : None ≡ Some c = e in absurd (cc)
-    met false true f g e = let x : Some (w - 1) ≡ Some c = e in let y : w - 1 ≡ c = cc in grind (arith, nat_tests)
-    met false false f g e = let x : None ≡ Some c = e in absurd (cc)
+    saw : (a b : Bool) → (w == 0) ≡ a → nat_le w MOST_CELLS ≡ b → (let x : Option ℕ = if a then None else if b then Some (w - 1) else None in x) ≡ Some c → c < n
+    saw true b f g e = let x : None ≡ Some c = e in absurd (cc)
+    saw false true f g e = let x : Some (w - 1) ≡ Some c = e in let y : w - 1 ≡ c = cc in grind (arith, nat_tests)
+    saw false false f g e = let x : None ≡ Some c = e in absurd (cc)
 
 pub link_below : (z : Sizes) (rows : ℕ) (v : Words) → AreSane z rows v → (r : ℕ) (link : Option ℕ) → IsCellBelow z.cells link → r < rows → v (link_name r link) ≤ z.cells
 link_below z rows v w r (Some c) o u = w.each (name.After r c) (u, o)
@@ -186,8 +186,8 @@ module _ (z : Sizes) (rows : ℕ) (l : Local) (sized : IsSized z.seats z.cells r
       assumption (k, b, a, e, g, x)
 
   -- it goes on to a cell that it remembers, or is at the end of the row
-  next_cell : (next : Local) → NextRest l next → IsLocal z l → IsLocalBelow rows l → length l.remembered ≤ z.seats → length l.gathered ≤ z.cells → HasLists z l → IsKnown z rows next
-  next_cell next (rests m o) k b u g x =
+  next_cell : (next : Local) → NextLeftOver l next → IsLocal z l → IsLocalBelow rows l → length l.remembered ≤ z.seats → length l.gathered ≤ z.cells → HasLists z l → IsKnown z rows next
+  next_cell next (goes_to_left_over m o) k b u g x =
       let f = least_holds (IsMark z) l.remembered m o k.marks in
       let marks = unmarked_in_range (IsMark z) m.cell l.remembered k.marks in
       let few : length (unmarked m.cell l.remembered) ≤ z.seats = omega (arith, unmarked_few m.cell l.remembered, u) in
@@ -429,7 +429,7 @@ built_known z rows v choice l a next w c i k (writes_after j other y) s = cell_k
 built_known z rows v choice l a next w c i k (begins_before other y) s = before_known z rows w.sized _ l next y c k.ranges k.below k.remembered k.gathered (idle_room z l.rebalance k.rebalance.marks k.rebalance.needed k.rebalance.gathered)
 built_known z rows v choice l a next w c i k (guesses_before q e f) s = let o : q < rows = subst (IsOffered rows) e i in assumption (k, o)
 built_known z rows v choice l a next w c i k guess_before_fails s = assumption k
-built_known z rows v choice l a next w c i k (before_serves o) s = let u = key_of_word-below (v (name.Min (row_or_first l.rebalance.before))) in assumption (k, u)
+built_known z rows v choice l a next w c i k (before_serves o) s = let u = key_of_word-below (v (name.Least (row_or_first l.rebalance.before))) in assumption (k, u)
 built_known z rows v choice l a next w c i k (before_is_above o) s = assumption k
 built_known z rows v choice l a next w c i k (takes_head_before other y) s = before_known z rows w.sized _ l next y c k.ranges k.below k.remembered k.gathered (idle_room z l.rebalance k.rebalance.marks k.rebalance.needed k.rebalance.gathered)
 built_known z rows v choice l a next w c i k (leads_to_full e) s = assumption k
@@ -439,7 +439,7 @@ built_known z rows v choice l a next w c i k (leads_to_other q e d) s =
     let u = linked_in_range rows q (link_of (v (name.Next (row_or_first l.rebalance.before)))) (w.led (name.Next (row_or_first l.rebalance.before)) o) e in
     assumption (k, u)
 built_known z rows v choice l a next w c i k (leads_nowhere other e y) s = back_known z rows w.sized _ l next y k.ranges k.below k.remembered k.gathered (idle_room z l.rebalance k.rebalance.marks k.rebalance.needed k.rebalance.gathered)
-built_known z rows v choice l a next w c i k (walks_before o) s = let u = key_of_word-below (v (name.Min l.candidate)) in assumption (k, u)
+built_known z rows v choice l a next w c i k (walks_before o) s = let u = key_of_word-below (v (name.Least l.candidate)) in assumption (k, u)
 built_known z rows v choice l a next w c i k (walks_past other o y) s = back_known z rows w.sized _ l next y k.ranges k.below k.remembered k.gathered (idle_room z l.rebalance k.rebalance.marks k.rebalance.needed k.rebalance.gathered)
 built_known z rows v choice l a next w c i k (replaces_row e) s = let first : 0 ≤ length l.rebalance.taken = omega arith in assumption (k, first)
 built_known z rows v choice l a next w c i k (is_marked_before other e y) s = back_known z rows w.sized _ l next y k.ranges k.below k.remembered k.gathered (idle_room z l.rebalance k.rebalance.marks k.rebalance.needed k.rebalance.gathered)
@@ -463,20 +463,20 @@ known_by z rows v s choice l a l' (settles y) w c t b i k sought = let u = versi
 known_by z rows v s choice l a l' starts_at_head w c t b i k sought = takes_first z rows l w.sized v c k.ranges k.below k.remembered k.gathered (lists_of z _ l.rebalance k.activity k.rebalance)
 known_by z rows v s choice l a l' (guesses q y n) w c t b i k sought = let o : q < rows = subst (IsOffered rows) y i in assumption (k, o)
 known_by z rows v s choice l a l' takes_head w c t b i k sought = takes_first z rows l w.sized v c k.ranges k.below k.remembered k.gathered (lists_of z _ l.rebalance k.activity k.rebalance)
-known_by z rows v s choice l a l' (guess_serves o) w c t b i k sought = let u = key_of_word-below (v (name.Min l.row)) in assumption (k, u)
+known_by z rows v s choice l a l' (guess_serves o) w c t b i k sought = let u = key_of_word-below (v (name.Least l.row)) in assumption (k, u)
 known_by z rows v s choice l a l' (stops y) w c t b i k sought = is_leaving z rows l w.sized _ tt k.ranges k.below k.remembered k.gathered (lists_of z _ l.rebalance k.activity k.rebalance)
 known_by z rows v s choice l a l' (puts_in_last y n) w c t b i k sought = puts_last z rows l w.sized k
 known_by z rows v s choice l a l' (reads_last y n) w c t b i k sought = comes_last z rows l w.sized k
-known_by z rows v s choice l a l' (meets_next q n) w c t b i k sought = let o = linked_in_range rows q (link_of (v (name.Next l.row))) (w.led (name.Next l.row) k.below.row) n in assumption (k, o)
-known_by z rows v s choice l a l' (walks_on o) w c t b i k sought = let u = key_of_word-below (v (name.Min l.candidate)) in assumption (k, u)
-known_by z rows v s choice l a l' (puts_before y o) w c t b i k sought = let u = key_of_word-below (v (name.Min l.candidate)) in assumption (k, u)
-known_by z rows v s choice l a l' (reads_before y o) w c t b i k sought = comes_before z rows l w.sized (key_of_word (v (name.Min l.candidate))) (key_of_word-below (v (name.Min l.candidate))) k
-known_by z rows v s choice l a l' (meets_pending j x y) w c t b i k sought = let u : x < z.cells = entry z rows v l w j (pend.Pending x) k.below.row k.activity y in assumption (k, u)
-known_by z rows v s choice l a l' (meets_stamped j x version next y n) w c t b i k sought = let u = entry z rows v l w j (pend.Stamped x version) k.below.row k.activity y in look_marks z rows l w.sized j x version next n k.ranges k.below k.remembered k.activity k.gathered (lists_of z _ l.rebalance k.activity k.rebalance) u.0 u.1
-known_by z rows v s choice l a l' (meets_neither j next y n) w c t b i k sought = next_look z rows l w.sized (j + 1) next n k.ranges k.below (omega (arith, k.remembered)) (omega (arith, k.remembered, k.activity)) k.gathered (lists_of z _ l.rebalance k.activity k.rebalance)
-known_by z rows v s choice l a l' (is_passed next y n) w c t b i k sought = next_look z rows l w.sized (l.looked + 1) next n k.ranges k.below (omega (arith, k.remembered)) (omega (arith, k.remembered, k.ranges.looked)) k.gathered (lists_of z _ l.rebalance k.activity k.rebalance)
+known_by z rows v s choice l a l' (reaches_next q n) w c t b i k sought = let o = linked_in_range rows q (link_of (v (name.Next l.row))) (w.led (name.Next l.row) k.below.row) n in assumption (k, o)
+known_by z rows v s choice l a l' (walks_on o) w c t b i k sought = let u = key_of_word-below (v (name.Least l.candidate)) in assumption (k, u)
+known_by z rows v s choice l a l' (puts_before y o) w c t b i k sought = let u = key_of_word-below (v (name.Least l.candidate)) in assumption (k, u)
+known_by z rows v s choice l a l' (reads_before y o) w c t b i k sought = comes_before z rows l w.sized (key_of_word (v (name.Least l.candidate))) (key_of_word-below (v (name.Least l.candidate))) k
+known_by z rows v s choice l a l' (sees_pending j x y) w c t b i k sought = let u : x < z.cells = entry z rows v l w j (pend.Pending x) k.below.row k.activity y in assumption (k, u)
+known_by z rows v s choice l a l' (sees_stamped j x version next y n) w c t b i k sought = let u = entry z rows v l w j (pend.Stamped x version) k.below.row k.activity y in look_marks z rows l w.sized j x version next n k.ranges k.below k.remembered k.activity k.gathered (lists_of z _ l.rebalance k.activity k.rebalance) u.0 u.1
+known_by z rows v s choice l a l' (sees_neither j next y n) w c t b i k sought = next_look z rows l w.sized (j + 1) next n k.ranges k.below (omega (arith, k.remembered)) (omega (arith, k.remembered, k.activity)) k.gathered (lists_of z _ l.rebalance k.activity k.rebalance)
+known_by z rows v s choice l a l' (is_gone_by next y n) w c t b i k sought = next_look z rows l w.sized (l.looked + 1) next n k.ranges k.below (omega (arith, k.remembered)) (omega (arith, k.remembered, k.ranges.looked)) k.gathered (lists_of z _ l.rebalance k.activity k.rebalance)
 known_by z rows v s choice l a l' loads_to_help w c t b i k sought = let u = w.each name.Clock tt in assumption (k, u)
-known_by z rows v s choice l a l' (helps next y n) w c t b i k sought = look_marks z rows l w.sized l.looked l.met l.helping next n k.ranges k.below k.remembered k.ranges.looked k.gathered (lists_of z _ l.rebalance k.activity k.rebalance) k.ranges.met k.ranges.helping
+known_by z rows v s choice l a l' (helps next y n) w c t b i k sought = look_marks z rows l w.sized l.looked l.saw l.helping next n k.ranges k.below k.remembered k.ranges.looked k.gathered (lists_of z _ l.rebalance k.activity k.rebalance) k.ranges.saw k.ranges.helping
 known_by z rows v s choice l a l' (finds_stamped x version next y n) w c t b i k sought = let u = entry z rows v l w l.looked (pend.Stamped x version) k.below.row k.ranges.looked y in look_marks z rows l w.sized l.looked x version next n k.ranges k.below k.remembered k.ranges.looked k.gathered (lists_of z _ l.rebalance k.activity k.rebalance) u.0 u.1
 known_by z rows v s choice l a l' (finds_other next y n) w c t b i k sought = next_look z rows l w.sized (l.looked + 1) next n k.ranges k.below (omega (arith, k.remembered)) (omega (arith, k.remembered, k.ranges.looked)) k.gathered (lists_of z _ l.rebalance k.activity k.rebalance)
 known_by z rows v s choice l a l' (list_leads x y) w c t b i k sought =
@@ -495,9 +495,9 @@ known_by z rows v s choice l a l' gathers_listed w c t b i k sought =
     let m = gathered_more z (value_of_word (v (name.Value l.row l.place))) l u k.ranges in
     let g = gathered_few z (value_of_word (v (name.Value l.row l.place))) l k.gathered in
     assumption (k, m, g)
-known_by z rows v s choice l a l' (rest_wanted y) w c t b i k sought = let u = key_of_word-below (v (name.Key l.row l.place)) in assumption (k, u)
-known_by z rows v s choice l a l' (rest_passed next y n) w c t b i k sought = next_cell z rows l w.sized next n k.ranges k.below k.remembered k.gathered (lists_of z _ l.rebalance k.activity k.rebalance)
-known_by z rows v s choice l a l' (gathers_rest next n) w c t b i k sought =
+known_by z rows v s choice l a l' (left_over_wanted y) w c t b i k sought = let u = key_of_word-below (v (name.Key l.row l.place)) in assumption (k, u)
+known_by z rows v s choice l a l' (left_over_gone_by next y n) w c t b i k sought = next_cell z rows l w.sized next n k.ranges k.below k.remembered k.gathered (lists_of z _ l.rebalance k.activity k.rebalance)
+known_by z rows v s choice l a l' (gathers_left_over next n) w c t b i k sought =
     let u = value_in_range (v (name.Value l.row l.place)) (w.each (name.Value l.row l.place) (k.below.row, k.ranges.place)) in
     next_cell z rows (gathering z (value_of_word (v (name.Value l.row l.place))) l) w.sized next n (gathered_more z _ l u k.ranges) (assumption k) k.remembered (gathered_few z (value_of_word (v (name.Value l.row l.place))) l k.gathered) (lists_of z _ l.rebalance k.activity k.rebalance)
 known_by z rows v s choice l a l' (clears_scan answer) w c t b i k sought = is_leaving z rows l w.sized _ (stopped_in_range answer choice k.activity) k.ranges k.below k.remembered k.gathered (lists_of z _ l.rebalance k.activity k.rebalance)
@@ -510,11 +510,11 @@ known_by z rows v s choice l a l' (is_stamped version y) w c t b i k sought = le
 known_by z rows v s choice l a l' (stamps_full y) w c t b i k sought = is_balancing z rows l w.sized k.ranges k.below k.remembered k.gathered
 known_by z rows v s choice l a l' (tidies own e) w c t b i k sought = is_tidying z rows l w.sized k.ranges k.below k.remembered k.gathered
 known_by z rows v s choice l a l' stores_version w c t b i k sought = let o : 0 ≤ z.cells = omega arith in assumption (k, o)
-known_by z rows v s choice l a l' (meets_cell x y) w c t b i k sought =
+known_by z rows v s choice l a l' (reaches_cell x y) w c t b i k sought =
     let u : x < z.cells = linked_below (v (link_name l.row l.link)) x z.cells y (link_below z rows v w l.row l.link k.ranges.link k.below.row) in
     let o = min-le_right (l.walked + 1) z.cells in
     assumption (k, u, o)
-known_by z rows v s choice l a l' (meets_none y) w c t b i k sought = assumption k
+known_by z rows v s choice l a l' (sees_none y) w c t b i k sought = assumption k
 known_by z rows v s choice l a l' (key_before y) w c t b i k sought = assumption k
 known_by z rows v s choice l a l' (version_before y) w c t b i k sought = assumption k
 known_by z rows v s choice l a l' (loses y) w c t b i k sought = let o = min-le_right (l.lost + 1) z.cells in let p : 0 ≤ z.cells = omega arith in assumption (k, o, p)
@@ -541,8 +541,8 @@ known_by z rows v s choice l a l' (decides count m e o) w c t b i k sought = ass
 known_by z rows v s choice l a l' (decides_not count nd) w c t b i k sought = tries_anew z rows l w.sized k.ranges k.below k.remembered k.gathered
 known_by z rows v s choice l a l' (ends_undecided count dn) w c t b i k sought = is_refusing z rows l w.sized Done tt k.ranges k.below k.remembered k.gathered
 known_by z rows v s choice l a l' freezes_count w c t b i k sought = let o : 0 < z.seats = omega (arith, w.sized.some_seats) in let n : 0 ≤ 0 = omega arith in assumption (k, o, n, All-nil (IsMark z))
-known_by z rows v s choice l a l' (meets_idle j e) w c t b i k sought = let u : IsEntry z (Some pend.Idle) = tt in assumption (k, u)
-known_by z rows v s choice l a l' (meets_unstamped j x e) w c t b i k sought = let u : x < z.cells = entry z rows v l w j (pend.Pending x) k.below.row k.activity e in assumption (k, u)
+known_by z rows v s choice l a l' (sees_idle j e) w c t b i k sought = let u : IsEntry z (Some pend.Idle) = tt in assumption (k, u)
+known_by z rows v s choice l a l' (sees_unstamped j x e) w c t b i k sought = let u : x < z.cells = entry z rows v l w j (pend.Pending x) k.below.row k.activity e in assumption (k, u)
 known_by z rows v s choice l a l' (remembers j x version e o) w c t b i k sought =
     let u = entry z rows v l w j (pend.Stamped x version) k.below.row k.activity e in
     let m = marked z l.rebalance.marks x version k.ranges.rebalance.marks u.0 u.1 in
@@ -555,16 +555,16 @@ known_by z rows v s choice l a l' (remembers_last j x version e o) w c t b i k s
     let y : 0 < z.seats = omega (arith, w.sized.some_seats) in
     let none : 0 ≤ 0 = omega arith in
     assumption (k, m, n, y, none, All-nil IsVersion)
-known_by z rows v s choice l a l' (meets_frozen j e o) w c t b i k sought = let n : length l.rebalance.marks ≤ j + 1 = omega (arith, k.rebalance.marks) in assumption (k, n, o)
-known_by z rows v s choice l a l' (meets_frozen_last j e o) w c t b i k sought = looks_at_scans z rows l w.sized k.ranges k.below k.remembered k.gathered k.rebalance.gathered (omega (arith, k.rebalance.marks, k.activity))
+known_by z rows v s choice l a l' (sees_frozen j e o) w c t b i k sought = let n : length l.rebalance.marks ≤ j + 1 = omega (arith, k.rebalance.marks) in assumption (k, n, o)
+known_by z rows v s choice l a l' (sees_frozen_last j e o) w c t b i k sought = looks_at_scans z rows l w.sized k.ranges k.below k.remembered k.gathered k.rebalance.gathered (omega (arith, k.rebalance.marks, k.activity))
 known_by z rows v s choice l a l' (freezes_entry j e o) w c t b i k sought = let n : length l.rebalance.marks ≤ j + 1 = omega (arith, k.rebalance.marks) in assumption (k, n, o)
 known_by z rows v s choice l a l' (freezes_last j e o) w c t b i k sought = looks_at_scans z rows l w.sized k.ranges k.below k.remembered k.gathered k.rebalance.gathered (omega (arith, k.rebalance.marks, k.activity))
 known_by z rows v s choice l a l' (looks_again j e) w c t b i k sought = assumption k
-known_by z rows v s choice l a l' (meets_quiet j e o) w c t b i k sought = let n : length l.rebalance.needed ≤ j + 1 = omega (arith, k.rebalance.needed) in assumption (k, n, o)
-known_by z rows v s choice l a l' (meets_quiet_last j e o) w c t b i k sought = begins_to_take z rows l k.ranges k.below k.remembered k.gathered k.rebalance.marks (omega (arith, k.rebalance.needed, k.activity))
+known_by z rows v s choice l a l' (sees_quiet j e o) w c t b i k sought = let n : length l.rebalance.needed ≤ j + 1 = omega (arith, k.rebalance.needed) in assumption (k, n, o)
+known_by z rows v s choice l a l' (sees_quiet_last j e o) w c t b i k sought = begins_to_take z rows l k.ranges k.below k.remembered k.gathered k.rebalance.marks (omega (arith, k.rebalance.needed, k.activity))
 known_by z rows v s choice l a l' (helps_scan j clock e) w c t b i k sought = let u : IsVersion clock = IsScan-scan_of (v (name.Scan j)) (scan.Waiting clock) e in assumption (k, u)
-known_by z rows v s choice l a l' (meets_drawn j version e o) w c t b i k sought = needs_more z rows l j version o k.ranges k.below k.remembered k.gathered k.rebalance.marks k.rebalance.gathered k.rebalance.needed (IsScan-scan_of (v (name.Scan j)) (scan.Drawn version) e)
-known_by z rows v s choice l a l' (meets_drawn_last j version e o) w c t b i k sought = needs_last z rows l j version k.activity k.ranges k.below k.remembered k.gathered k.rebalance.marks k.rebalance.needed (IsScan-scan_of (v (name.Scan j)) (scan.Drawn version) e)
+known_by z rows v s choice l a l' (sees_drawn j version e o) w c t b i k sought = needs_more z rows l j version o k.ranges k.below k.remembered k.gathered k.rebalance.marks k.rebalance.gathered k.rebalance.needed (IsScan-scan_of (v (name.Scan j)) (scan.Drawn version) e)
+known_by z rows v s choice l a l' (sees_drawn_last j version e o) w c t b i k sought = needs_last z rows l j version k.activity k.ranges k.below k.remembered k.gathered k.rebalance.marks k.rebalance.needed (IsScan-scan_of (v (name.Scan j)) (scan.Drawn version) e)
 known_by z rows v s choice l a l' (draws_for j) w c t b i k sought = let u = w.each name.Clock tt in assumption (k, u)
 known_by z rows v s choice l a l' (settles_scan j e o) w c t b i k sought = needs_more z rows l j l.rebalance.drawn o k.ranges k.below k.remembered k.gathered k.rebalance.marks k.rebalance.gathered k.rebalance.needed k.ranges.rebalance.drawn
 known_by z rows v s choice l a l' (settles_last j e o) w c t b i k sought = needs_last z rows l j l.rebalance.drawn k.activity k.ranges k.below k.remembered k.gathered k.rebalance.marks k.rebalance.needed k.ranges.rebalance.drawn

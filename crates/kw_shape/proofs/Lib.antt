@@ -5,7 +5,7 @@ mod Offered
 pub mod RelyRows
 pub mod AfterBuilding
 pub mod RowsKeep
-pub mod PassesKeep
+pub mod VisitsKeep
 pub mod Walking
 pub mod Known
 pub mod SoughtRows

@@ -49,7 +49,7 @@ use Rattle.kw_core.proofs.Happens.{Happens}
 use Rattle.kw_core.proofs.InfantFrames.{count_stays, row_in, row_stays}
 use Rattle.kw_shape.proofs.BuildEvents.{dead_by_state, free_by_state, least_word, word_says}
 use Rattle.kw_shape.proofs.InfantsFit.{row_link}
-use Rattle.kw_shape.proofs.InfantsRely.{linked_not_infant, no_state, place_of_row}
+use Rattle.kw_shape.proofs.InfantsRely.{linked_not_infant, no_state, index_of_row}
 use Rattle.kw_shape.proofs.InfantsStay.{infant_at, is_state}
 use Rattle.kw_shape.proofs.ReplaceEvent.{exchanged_head}
 use Rattle.kw_shape.specs.Balances.{Balances}
@@ -63,7 +63,7 @@ use Rattle.kw_model.specs.declared.call.Call.{Call}
 use Rattle.kw_model.specs.declared.call.Call.TheVariants.{Put, Del, Get, Scan}
 use Rattle.kw_world.specs.Calls.{first_key, is_scan}
 use Rattle.kw_core.specs.Stages.{IsAtRow, IsPastStart}
-use Rattle.kw_shape.specs.MetRows.{IsMet, is_first, is_next}
+use Rattle.kw_shape.specs.ReachedRows.{IsReached, is_first, is_next}
 
 -- a row that was linked is not free
 pub linked_not_free : {A : Type 0} (g : Ledger) (q : ℕ) → WasLinked g q → (g.fates q).status ≡ Free → A
@@ -178,7 +178,7 @@ module _ {z : Sizes} {r r' : Run} {s : ℕ} {choice : Choice} {l l' : Local} whe
 
   -- nor is it one of those that the seat links
   pub not_taken : Happens z r r' s choice l l' (Activity.Rebalance (Rebalance.Replace Replace.Exchange)) → Shape z r → (q : ℕ) → WasLinked r.ledger.rows q → IsIn l.rebalance.taken q → ⊥
-  not_taken h i q k y = let p = place_of_row l.rebalance.taken q y in linked_not_infant r.ledger.rows s q k ((infants_at (Activity.Rebalance (Rebalance.Replace Replace.Exchange)) h i).owned p.0 q tt p.1)
+  not_taken h i q k y = let p = index_of_row l.rebalance.taken q y in linked_not_infant r.ledger.rows s q k ((infants_at (Activity.Rebalance (Rebalance.Replace Replace.Exchange)) h i).owned p.0 q tt p.1)
 
   -- nor one that is free
   not_sought : Happens z r r' s choice l l' (Activity.Rebalance (Rebalance.Seek Seek.Take)) → Shape z r → word z r.world (name.State l.rebalance.sought) ≡ state_word state.Free → (q : ℕ) → WasLinked r.ledger.rows q → q ≢ l.rebalance.sought
@@ -211,8 +211,8 @@ module _ {z : Sizes} {r r' : Run} {s : ℕ} {choice : Choice} {l l' : Local} whe
   pub sought_at : (a : Activity) → Happens z r r' s choice l l' a → Shape z r → Sought z (word z r.world) r.ledger.rows s a l
   sought_at a h i = subst (λ b. Sought z (word z r.world) r.ledger.rows s b l) h.activity (i.sought s l h.knows)
 
-  -- each pass that is on, of whatever seat, began after the number was drawn
-  pub all_young : Happens z r r' s choice l l' (Activity.Rebalance (Rebalance.Seek Seek.Reclaim)) → Shape z r → (t since at : ℕ) → r.ledger.rows.passes t ≡ Some since → r.ledger.rows.numbered l.rebalance.number ≡ Some at → at < since
+  -- each visit that is on, of whatever seat, began after the number was drawn
+  pub all_young : Happens z r r' s choice l l' (Activity.Rebalance (Rebalance.Seek Seek.Reclaim)) → Shape z r → (t since at : ℕ) → r.ledger.rows.visits t ≡ Some since → r.ledger.rows.numbered l.rebalance.number ≡ Some at → at < since
   all_young h i t since at p n = which (cases_lt t z.seats)
     where
       which : (t < z.seats) ⊎ (z.seats ≤ t) → at < since
@@ -337,7 +337,7 @@ module _ {z : Sizes} {r r' : Run} {s : ℕ} {choice : Choice} {l l' : Local} whe
       here : word z r.world (replaced_link l.rebalance.before) ≡ link_word (unmarked_link (Some l.row)) → (q ≡ l.row) ⊎ (q ≡ l.row → ⊥) → IsIn l.rebalance.taken q ⊎ (IsIn l.rebalance.taken q → ⊥) →
           WasLinked r.ledger.rows q ⊎ ComesNow (word z r.world) r.ledger.rows r'.ledger.rows s (length r.history.log) l (Activity.Rebalance (Rebalance.Replace Replace.Exchange)) q
       here e (inl c) y = inl (subst (WasLinked r.ledger.rows) (sym c) full)
-      here e (inr d) (inl y) = let p = place_of_row l.rebalance.taken q y in inr (record { replaces = refl; won = e; taken = y; infant = (infants_at (Activity.Rebalance (Rebalance.Replace Replace.Exchange)) h i).owned p.0 q tt p.1; fate = fate_of_new h e q y d })
+      here e (inr d) (inl y) = let p = index_of_row l.rebalance.taken q y in inr (record { replaces = refl; won = e; taken = y; infant = (infants_at (Activity.Rebalance (Rebalance.Replace Replace.Exchange)) h i).owned p.0 q tt p.1; fate = fate_of_new h e q y d })
       here e (inr d) (inr n) = inl (linked_same r.ledger.rows r'.ledger.rows q (fate_stays (Activity.Rebalance (Rebalance.Replace Replace.Exchange)) h q (acts d n)) k)
 
       which : (word z r.world (replaced_link l.rebalance.before) ≡ link_word (unmarked_link (Some l.row))) ⊎ (word z r.world (replaced_link l.rebalance.before) ≡ link_word (unmarked_link (Some l.row)) → ⊥) →
@@ -429,29 +429,29 @@ holds_put z r s l a y k e row past put = wanted ((y.walks s l k).at (subst IsAtR
 pub holds_first : (z : Sizes) (r : Run) (s : ℕ) (l : Local) → Shape z r → slice_get r.world.locals s ≡ Some l → l.activity ≡ Activity.Put Put.Add → HoldsKey (word z r.world) r.ledger.rows l.row (first_key l.call)
 holds_first z r s l y k e = holds_put z r s l (Activity.Put Put.Add) y k e tt tt (λ x. x)
 
--- The rows of the list are those that are met from Head along links.
+-- The rows of the list are those that are reached from Head along links.
 
--- a row that is met is in the list
-pub met_live : (v : Words) (g : Ledger) → Chain (rows_in v) g → (q : ℕ) → IsMet v q → IsLive g q
-met_live v g c _ (is_first q e) = subst (IsLive g) (same_Some c.first q (sym c.leads ∙ e)) c.first_live
-met_live v g c _ (is_next p q m e) = c.linked p q (met_live v g c p m) e
+-- a row that is reached is in the list
+pub reached_live : (v : Words) (g : Ledger) → Chain (rows_in v) g → (q : ℕ) → IsReached v q → IsLive g q
+reached_live v g c _ (is_first q e) = subst (IsLive g) (same_Some c.first q (sym c.leads ∙ e)) c.first_live
+reached_live v g c _ (is_next p q m e) = c.linked p q (reached_live v g c p m) e
 
--- from a row that is met one comes to every row of the list whose minimum is not below: at most as
--- many links as minima between them
-along : (v : Words) (g : Ledger) → Chain (rows_in v) g → (n p q : ℕ) → least_in v q ≤ least_in v p + n → least_in v p ≤ least_in v q → IsLive g p → IsLive g q → IsMet v p → IsMet v q
+-- from a row that is reached one comes to every row of the list whose least key is not below: at
+-- most as many links as least keys between them
+along : (v : Words) (g : Ledger) → Chain (rows_in v) g → (n p q : ℕ) → least_in v q ≤ least_in v p + n → least_in v p ≤ least_in v q → IsLive g p → IsLive g q → IsReached v p → IsReached v q
 along v g c zero p q o f a b m = which (c.apart p q a b)
   where
-    which : (p ≡ q) ⊎ IsBefore (rows_in v) p q ⊎ IsBefore (rows_in v) q p → IsMet v q
-    which (inl e) = subst (IsMet v) e m
+    which : (p ≡ q) ⊎ IsBefore (rows_in v) p q ⊎ IsBefore (rows_in v) q p → IsReached v q
+    which (inl e) = subst (IsReached v) e m
     which (inr (inl x)) = absurd (omega (arith, x.above, c.rises p x.next a x.follows, o))
     which (inr (inr x)) = absurd (omega (arith, x.above, c.rises q x.next b x.follows, f))
 along v g c (suc n) p q o f a b m = which (λ y k u d i. along v g c n y q k u d b i) (c.apart p q a b)
   where
-    which : ((y : ℕ) → least_in v q ≤ least_in v y + n → least_in v y ≤ least_in v q → IsLive g y → IsMet v y → IsMet v q) → (p ≡ q) ⊎ IsBefore (rows_in v) p q ⊎ IsBefore (rows_in v) q p → IsMet v q
-    which go (inl e) = subst (IsMet v) e m
+    which : ((y : ℕ) → least_in v q ≤ least_in v y + n → least_in v y ≤ least_in v q → IsLive g y → IsReached v y → IsReached v q) → (p ≡ q) ⊎ IsBefore (rows_in v) p q ⊎ IsBefore (rows_in v) q p → IsReached v q
+    which go (inl e) = subst (IsReached v) e m
     which go (inr (inl x)) = go x.next (omega (arith, o, c.rises p x.next a x.follows)) x.above (c.linked p x.next a x.follows) (is_next p x.next m x.follows)
     which go (inr (inr x)) = absurd (omega (arith, x.above, c.rises q x.next b x.follows, f))
 
--- a row of the list is met
-pub live_met : (v : Words) (g : Ledger) → Chain (rows_in v) g → (q : ℕ) → IsLive g q → IsMet v q
-live_met v g c q a = along v g c (least_in v q) c.first q (omega (arith, c.first_least)) (omega (arith, c.first_least)) c.first_live a (is_first c.first c.leads)
+-- a row of the list is reached
+pub live_reached : (v : Words) (g : Ledger) → Chain (rows_in v) g → (q : ℕ) → IsLive g q → IsReached v q
+live_reached v g c q a = along v g c (least_in v q) c.first q (omega (arith, c.first_least)) (omega (arith, c.first_least)) c.first_live a (is_first c.first c.leads)

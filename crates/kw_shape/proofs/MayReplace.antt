@@ -27,7 +27,7 @@ use Rattle.kw_shape.specs.Plans.{Plans}
 use Rattle.kw_shape.specs.RowsIn.{rows_in}
 use Rattle.kw_shape.specs.Shape.{Shape}
 use Rattle.kw_shape.proofs.InfantsFit.{infant_counts, infant_links, taken_below}
-use Rattle.kw_shape.proofs.InfantsRely.{place_of_row}
+use Rattle.kw_shape.proofs.InfantsRely.{index_of_row}
 use Rattle.kw_shape.proofs.LinkedRows.{balance_at, fresh_linked, infants_at, search_at}
 use Rattle.kw_shape.proofs.Planned.{IsPlan, leasts_below, leasts_rise, plan_of}
 use Rattle.kw_shape.proofs.ReplaceEvent.{MayReplace, whole_least}
@@ -119,5 +119,5 @@ module _ {z : Sizes} {r r' : Run} {s : ℕ} {choice : Choice} {l l' : Local} (h 
 
       below : (x b : ℕ) → IsIn l.rebalance.taken x → l.rebalance.after ≡ Some b → least_in (word z r.world) x < least_in (word z r.world) b
       below x b o e =
-          let p = place_of_row l.rebalance.taken x o in
+          let p = index_of_row l.rebalance.taken x o in
           omega (arith, least_of_new p.0 x p.1, leasts_below z.built l is_plan (least_in (word z r.world) b) (lower_below b e) (kept_below b e) p.0 (has_start p.0 x p.1))

@@ -42,7 +42,7 @@ use Rattle.kw_shape.specs.Keyed.{HoldsCell, IsLinkOf, IsOfCell, Keyed}
 use Rattle.kw_shape.specs.RowsIn.{rows_in}
 use Rattle.kw_shape.specs.Shape.{Shape}
 use Rattle.kw_shape.proofs.InfantsFit.{infant_links, part_length, taken_below}
-use Rattle.kw_shape.proofs.InfantsRely.{linked_not_infant, place_of_row}
+use Rattle.kw_shape.proofs.InfantsRely.{linked_not_infant, index_of_row}
 use Rattle.kw_shape.proofs.InfantsStay.{written_stays}
 use Rattle.kw_shape.proofs.LinkedRows.{fresh_linked, infants_at, search_at}
 use Rattle.kw_shape.proofs.MayReplace.{has_start, is_plan, kept_below, kept_from, least_of_new, may_replace}
@@ -117,10 +117,10 @@ module _ {z : Sizes} {r r' : Run} {s : ℕ} {choice : Choice} {l l' : Local} (h 
   new_rows_keyed won q m = new_row_keyed z (word z r'.world) r'.ledger.rows (at_infant k l) q written fits few i.sane.sized.few_cells held
     where
       k : ℕ
-      k = (place_of_row l.rebalance.taken q m).0
+      k = (index_of_row l.rebalance.taken q m).0
 
       e : slice_get l.rebalance.taken k ≡ Some q
-      e = (place_of_row l.rebalance.taken q m).1
+      e = (index_of_row l.rebalance.taken q m).1
 
       below : q < r.world.rows
       below = taken_below z r.world s l i.sane h.knows k q e
@@ -138,7 +138,7 @@ module _ {z : Sizes} {r r' : Run} {s : ℕ} {choice : Choice} {l l' : Local} (h 
       few = omega (arith, part_length (end_of l.rebalance.kept l.rebalance.starts k - slice_index l.rebalance.starts k) (slice_index l.rebalance.starts k) l.rebalance.kept, (i.sane.locals s l h.knows).ranges.rebalance.few)
 
       least : least_in (word z r'.world) q ≡ least_in (word z r.world) q
-      least = ap key_of_word (row_stays (Activity.Rebalance (Rebalance.Replace Replace.Exchange)) h (name.Min q) q refl below apart)
+      least = ap key_of_word (row_stays (Activity.Rebalance (Rebalance.Replace Replace.Exchange)) h (name.Least q) q refl below apart)
 
       fate : r'.ledger.rows.fates q ≡ fate_live (word z r.world) (length r.history.log) q (r.ledger.rows.fates q)
       fate = fate_of_new h won q m (λ c. linked_not_infant r.ledger.rows s q (subst (WasLinked r.ledger.rows) (sym c) (may_replace h i).linked) ((infants_at (Activity.Rebalance (Rebalance.Replace Replace.Exchange)) h i).owned k q tt e))

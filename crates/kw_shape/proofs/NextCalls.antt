@@ -14,13 +14,13 @@ use Rattle.kw_world.specs.ScanTransitions.{answer_or_stopped}
 use Rattle.kw_core.specs.Stages.{IsBalancing, IsPublished, IsDone, IsPutClear, IsUnderway}
 use Rattle.kw_core.specs.Words.{Words}
 use Rattle.kw_shape.specs.Shape.{IsPairs, IsKind}
-use Rattle.kw_core.proofs.Arrows.{IsNotOwn, NextLook, looks, lists, NextRest, rests, answers, ends_scan, scans_on, Arrow, begins, list_ends, key_above, rest_passed, gathers_rest, meets_stamped, meets_neither, is_passed, helps, finds_stamped, finds_other, clears_scan, loads_clock, stamps, is_stamped, stamps_full, stores_version, meets_cell, meets_none, key_before, key_same, key_after, version_before, version_after, stores_after, inserts, loses, clears, leaves, builds, clock_serves, epoch_serves, finds_infant, finds_normal, finds_leader, normalises, engages, is_engaged, marks_link, marks_led, decides, freezes_count, meets_idle, meets_unstamped, remembers, remembers_last, meets_frozen, meets_frozen_last, freezes_entry, freezes_last, looks_again, meets_quiet, meets_quiet_last, helps_scan, meets_drawn, meets_drawn_last, draws_for, settles_scan, settles_last, finds_drawn, finds_drawn_last, finds_no_scan, finds_no_scan_last, take_leads, takes_left, takes_no_more, takes_key, takes_version, keeps_taken, takes_left_key, keeps_left, keeps_no_more, tidies, clock_is_spent, ends_at_clock, epoch_is_spent, ends_at_epoch, finds_other_state, ends_at_state, decides_not, ends_undecided}
+use Rattle.kw_core.proofs.Arrows.{IsNotOwn, NextLook, looks, lists, NextLeftOver, goes_to_left_over, answers, ends_scan, scans_on, Arrow, begins, list_ends, key_above, left_over_gone_by, gathers_left_over, sees_stamped, sees_neither, is_gone_by, helps, finds_stamped, finds_other, clears_scan, loads_clock, stamps, is_stamped, stamps_full, stores_version, reaches_cell, sees_none, key_before, key_same, key_after, version_before, version_after, stores_after, inserts, loses, clears, leaves, builds, clock_serves, epoch_serves, finds_infant, finds_normal, finds_leader, normalises, engages, is_engaged, marks_link, marks_led, decides, freezes_count, sees_idle, sees_unstamped, remembers, remembers_last, sees_frozen, sees_frozen_last, freezes_entry, freezes_last, looks_again, sees_quiet, sees_quiet_last, helps_scan, sees_drawn, sees_drawn_last, draws_for, settles_scan, settles_last, finds_drawn, finds_drawn_last, finds_no_scan, finds_no_scan_last, take_leads, takes_left, takes_no_more, takes_key, takes_version, keeps_taken, takes_left_key, keeps_left, keeps_no_more, tidies, clock_is_spent, ends_at_clock, epoch_is_spent, ends_at_epoch, finds_other_state, ends_at_state, decides_not, ends_undecided}
 use Rattle.kw_core.proofs.BuiltNext.{built_goes}
 use Rattle.kw_shape.proofs.AfterBuilding.{built_unpublished}
 
 -- the next cell is one of the same call
-pub cell_call : (l : Local) (k : Local) → NextRest l k → (k.call ≡ l.call) × (k.number ≡ l.number)
-cell_call l k (rests m w) = (refl, refl)
+pub cell_call : (l : Local) (k : Local) → NextLeftOver l k → (k.call ≡ l.call) × (k.number ≡ l.number)
+cell_call l k (goes_to_left_over m w) = (refl, refl)
 cell_call l k (answers w e) = (refl, refl)
 cell_call l k (ends_scan w e f) = (refl, refl)
 cell_call l k (scans_on r w e f o) = (refl, refl)
@@ -32,8 +32,8 @@ arrow_call z v s choice l a k (begins call e b) u = absurd u
 arrow_call z v s choice l a k (leaves answer) u = absurd u
 arrow_call z v s choice l a k (list_ends next e n) u = let x = cell_call _ _ n in (x.0, x.1)
 arrow_call z v s choice l a k (key_above next e n) u = cell_call _ _ n
-arrow_call z v s choice l a k (rest_passed next e n) u = cell_call _ _ n
-arrow_call z v s choice l a k (gathers_rest next n) u = let x = cell_call _ _ n in (x.0, x.1)
+arrow_call z v s choice l a k (left_over_gone_by next e n) u = cell_call _ _ n
+arrow_call z v s choice l a k (gathers_left_over next n) u = let x = cell_call _ _ n in (x.0, x.1)
 arrow_call z v s choice l a k _ u = (refl, refl)
 
 -- a seat begins at most one call at an event
@@ -41,8 +41,8 @@ pub arrow_number : (z : Sizes) (v : Words) (s : ℕ) (choice : Choice) (l : Loca
 arrow_number z v s choice l a k (builds b next y t) = omega (arith, (built_goes z v choice l b next t).number)
 arrow_number z v s choice l a k (list_ends next e n) = let x = cell_call _ _ n in omega (arith, x.1)
 arrow_number z v s choice l a k (key_above next e n) = let x = cell_call _ _ n in omega (arith, x.1)
-arrow_number z v s choice l a k (rest_passed next e n) = let x = cell_call _ _ n in omega (arith, x.1)
-arrow_number z v s choice l a k (gathers_rest next n) = let x = cell_call _ _ n in omega (arith, x.1)
+arrow_number z v s choice l a k (left_over_gone_by next e n) = let x = cell_call _ _ n in omega (arith, x.1)
+arrow_number z v s choice l a k (gathers_left_over next n) = let x = cell_call _ _ n in omega (arith, x.1)
 arrow_number z v s choice l a k _ = omega arith
 
 -- a put that has announced its cell goes on to its end, where the entry is its own
@@ -53,8 +53,8 @@ arrow_published z v s choice l a k (stamps e) f p = inl tt
 arrow_published z v s choice l a k (is_stamped version e) f p = inl tt
 arrow_published z v s choice l a k (stamps_full n) f p = absurd (f n refl)
 arrow_published z v s choice l a k stores_version f p = inl tt
-arrow_published z v s choice l a k (meets_cell c e) f p = inl tt
-arrow_published z v s choice l a k (meets_none e) f p = inl tt
+arrow_published z v s choice l a k (reaches_cell c e) f p = inl tt
+arrow_published z v s choice l a k (sees_none e) f p = inl tt
 arrow_published z v s choice l a k (key_before e) f p = inl tt
 arrow_published z v s choice l a k (key_same e) f p = inl tt
 arrow_published z v s choice l a k (key_after e) f p = inl tt
@@ -78,8 +78,8 @@ next_look_done z j next (looks w) d = d
 next_look_done z j next (lists w) d = d
 
 -- nor is what follows a cell
-next_cell_done : (l : Local) (k : Local) → NextRest l k → IsDone k.activity → ⊥
-next_cell_done l k (rests m w) d = d
+next_cell_done : (l : Local) (k : Local) → NextLeftOver l k → IsDone k.activity → ⊥
+next_cell_done l k (goes_to_left_over m w) d = d
 next_cell_done l k (answers w e) d = found_not_done _ d
 next_cell_done l k (ends_scan w e f) d = d
 next_cell_done l k (scans_on r w e f o) d = d
@@ -108,11 +108,11 @@ arrow_done z v s choice l a k (ends_undecided count e) n d = inr e
 arrow_done z v s choice l a k (clears_scan answer) n d = absurd (cleared_not_done answer choice n.1 d)
 arrow_done z v s choice l a k (list_ends next e x) n d = absurd (next_cell_done _ _ x d)
 arrow_done z v s choice l a k (key_above next e x) n d = absurd (next_cell_done _ _ x d)
-arrow_done z v s choice l a k (rest_passed next e x) n d = absurd (next_cell_done _ _ x d)
-arrow_done z v s choice l a k (gathers_rest next x) n d = absurd (next_cell_done _ _ x d)
-arrow_done z v s choice l a k (meets_stamped j c version next e x) n d = absurd (next_look_done z _ next x d)
-arrow_done z v s choice l a k (meets_neither j next e x) n d = absurd (next_look_done z _ next x d)
-arrow_done z v s choice l a k (is_passed next e x) n d = absurd (next_look_done z _ next x d)
+arrow_done z v s choice l a k (left_over_gone_by next e x) n d = absurd (next_cell_done _ _ x d)
+arrow_done z v s choice l a k (gathers_left_over next x) n d = absurd (next_cell_done _ _ x d)
+arrow_done z v s choice l a k (sees_stamped j c version next e x) n d = absurd (next_look_done z _ next x d)
+arrow_done z v s choice l a k (sees_neither j next e x) n d = absurd (next_look_done z _ next x d)
+arrow_done z v s choice l a k (is_gone_by next e x) n d = absurd (next_look_done z _ next x d)
 arrow_done z v s choice l a k (helps next e x) n d = absurd (next_look_done z _ next x d)
 arrow_done z v s choice l a k (finds_stamped c version next e x) n d = absurd (next_look_done z _ next x d)
 arrow_done z v s choice l a k (finds_other next e x) n d = absurd (next_look_done z _ next x d)
@@ -145,20 +145,20 @@ arrow_tidies z v s choice l a k (marks_link q0 q1) x e = inr (tt, e)
 arrow_tidies z v s choice l a k (marks_led q0 q1) x e = inr (tt, e)
 arrow_tidies z v s choice l a k (decides q0 q1 q2 q3) x e = inr (tt, e)
 arrow_tidies z v s choice l a k freezes_count x e = inr (tt, e)
-arrow_tidies z v s choice l a k (meets_idle q0 q1) x e = inr (tt, e)
-arrow_tidies z v s choice l a k (meets_unstamped q0 q1 q2) x e = inr (tt, e)
+arrow_tidies z v s choice l a k (sees_idle q0 q1) x e = inr (tt, e)
+arrow_tidies z v s choice l a k (sees_unstamped q0 q1 q2) x e = inr (tt, e)
 arrow_tidies z v s choice l a k (remembers q0 q1 q2 q3 q4) x e = inr (tt, e)
 arrow_tidies z v s choice l a k (remembers_last q0 q1 q2 q3 q4) x e = inr (tt, e)
-arrow_tidies z v s choice l a k (meets_frozen q0 q1 q2) x e = inr (tt, e)
-arrow_tidies z v s choice l a k (meets_frozen_last q0 q1 q2) x e = inr (tt, e)
+arrow_tidies z v s choice l a k (sees_frozen q0 q1 q2) x e = inr (tt, e)
+arrow_tidies z v s choice l a k (sees_frozen_last q0 q1 q2) x e = inr (tt, e)
 arrow_tidies z v s choice l a k (freezes_entry q0 q1 q2) x e = inr (tt, e)
 arrow_tidies z v s choice l a k (freezes_last q0 q1 q2) x e = inr (tt, e)
 arrow_tidies z v s choice l a k (looks_again q0 q1) x e = inr (tt, e)
-arrow_tidies z v s choice l a k (meets_quiet q0 q1 q2) x e = inr (tt, e)
-arrow_tidies z v s choice l a k (meets_quiet_last q0 q1 q2) x e = inr (tt, e)
+arrow_tidies z v s choice l a k (sees_quiet q0 q1 q2) x e = inr (tt, e)
+arrow_tidies z v s choice l a k (sees_quiet_last q0 q1 q2) x e = inr (tt, e)
 arrow_tidies z v s choice l a k (helps_scan q0 q1 q2) x e = inr (tt, e)
-arrow_tidies z v s choice l a k (meets_drawn q0 q1 q2 q3) x e = inr (tt, e)
-arrow_tidies z v s choice l a k (meets_drawn_last q0 q1 q2 q3) x e = inr (tt, e)
+arrow_tidies z v s choice l a k (sees_drawn q0 q1 q2 q3) x e = inr (tt, e)
+arrow_tidies z v s choice l a k (sees_drawn_last q0 q1 q2 q3) x e = inr (tt, e)
 arrow_tidies z v s choice l a k (draws_for q0) x e = inr (tt, e)
 arrow_tidies z v s choice l a k (settles_scan q0 q1 q2) x e = inr (tt, e)
 arrow_tidies z v s choice l a k (settles_last q0 q1 q2) x e = inr (tt, e)
@@ -178,8 +178,8 @@ arrow_tidies z v s choice l a k (keeps_no_more q0) x e = inr (tt, e)
 arrow_tidies z v s choice l a k _ x e = absurd x
 
 -- what the next cell leaves of the bit
-cell_tidies : (l : Local) (k : Local) → NextRest l k → k.tidies ≡ l.tidies
-cell_tidies l k (rests m w) = refl
+cell_tidies : (l : Local) (k : Local) → NextLeftOver l k → k.tidies ≡ l.tidies
+cell_tidies l k (goes_to_left_over m w) = refl
 cell_tidies l k (answers w e) = refl
 cell_tidies l k (ends_scan w e f) = refl
 cell_tidies l k (scans_on r w e f o) = refl
@@ -204,20 +204,20 @@ arrow_tidied z v s choice l a k (marks_link q0 q1) f e = inl tt
 arrow_tidied z v s choice l a k (marks_led q0 q1) f e = inl tt
 arrow_tidied z v s choice l a k (decides q0 q1 q2 q3) f e = inl tt
 arrow_tidied z v s choice l a k freezes_count f e = inl tt
-arrow_tidied z v s choice l a k (meets_idle q0 q1) f e = inl tt
-arrow_tidied z v s choice l a k (meets_unstamped q0 q1 q2) f e = inl tt
+arrow_tidied z v s choice l a k (sees_idle q0 q1) f e = inl tt
+arrow_tidied z v s choice l a k (sees_unstamped q0 q1 q2) f e = inl tt
 arrow_tidied z v s choice l a k (remembers q0 q1 q2 q3 q4) f e = inl tt
 arrow_tidied z v s choice l a k (remembers_last q0 q1 q2 q3 q4) f e = inl tt
-arrow_tidied z v s choice l a k (meets_frozen q0 q1 q2) f e = inl tt
-arrow_tidied z v s choice l a k (meets_frozen_last q0 q1 q2) f e = inl tt
+arrow_tidied z v s choice l a k (sees_frozen q0 q1 q2) f e = inl tt
+arrow_tidied z v s choice l a k (sees_frozen_last q0 q1 q2) f e = inl tt
 arrow_tidied z v s choice l a k (freezes_entry q0 q1 q2) f e = inl tt
 arrow_tidied z v s choice l a k (freezes_last q0 q1 q2) f e = inl tt
 arrow_tidied z v s choice l a k (looks_again q0 q1) f e = inl tt
-arrow_tidied z v s choice l a k (meets_quiet q0 q1 q2) f e = inl tt
-arrow_tidied z v s choice l a k (meets_quiet_last q0 q1 q2) f e = inl tt
+arrow_tidied z v s choice l a k (sees_quiet q0 q1 q2) f e = inl tt
+arrow_tidied z v s choice l a k (sees_quiet_last q0 q1 q2) f e = inl tt
 arrow_tidied z v s choice l a k (helps_scan q0 q1 q2) f e = inl tt
-arrow_tidied z v s choice l a k (meets_drawn q0 q1 q2 q3) f e = inl tt
-arrow_tidied z v s choice l a k (meets_drawn_last q0 q1 q2 q3) f e = inl tt
+arrow_tidied z v s choice l a k (sees_drawn q0 q1 q2 q3) f e = inl tt
+arrow_tidied z v s choice l a k (sees_drawn_last q0 q1 q2 q3) f e = inl tt
 arrow_tidied z v s choice l a k (draws_for q0) f e = inl tt
 arrow_tidied z v s choice l a k (settles_scan q0 q1 q2) f e = inl tt
 arrow_tidied z v s choice l a k (settles_last q0 q1 q2) f e = inl tt
@@ -247,8 +247,8 @@ arrow_tidied z v s choice l a k (tidies rows o) f e = inl tt
 arrow_tidied z v s choice l a k (leaves answer) f e = let y : false ≡ true = e in cc
 arrow_tidied z v s choice l a k (list_ends next o n) f e = nobody _ (f (sym (cell_tidies _ _ n) ∙ e))
 arrow_tidied z v s choice l a k (key_above next o n) f e = nobody _ (f (sym (cell_tidies _ _ n) ∙ e))
-arrow_tidied z v s choice l a k (rest_passed next o n) f e = nobody _ (f (sym (cell_tidies _ _ n) ∙ e))
-arrow_tidied z v s choice l a k (gathers_rest next n) f e = nobody _ (f (sym (cell_tidies _ _ n) ∙ e))
+arrow_tidied z v s choice l a k (left_over_gone_by next o n) f e = nobody _ (f (sym (cell_tidies _ _ n) ∙ e))
+arrow_tidied z v s choice l a k (gathers_left_over next n) f e = nobody _ (f (sym (cell_tidies _ _ n) ∙ e))
 arrow_tidied z v s choice l a k _ f e = nobody _ (f e)
 
 -- it did so before, or clears its entry now
@@ -258,6 +258,6 @@ arrow_from z v s choice l a k (tidies rows o) e = inl tt
 arrow_from z v s choice l a k (leaves answer) e = let y : false ≡ true = e in cc
 arrow_from z v s choice l a k (list_ends next o n) e = inr (sym (cell_tidies _ _ n) ∙ e)
 arrow_from z v s choice l a k (key_above next o n) e = inr (sym (cell_tidies _ _ n) ∙ e)
-arrow_from z v s choice l a k (rest_passed next o n) e = inr (sym (cell_tidies _ _ n) ∙ e)
-arrow_from z v s choice l a k (gathers_rest next n) e = inr (sym (cell_tidies _ _ n) ∙ e)
+arrow_from z v s choice l a k (left_over_gone_by next o n) e = inr (sym (cell_tidies _ _ n) ∙ e)
+arrow_from z v s choice l a k (gathers_left_over next n) e = inr (sym (cell_tidies _ _ n) ∙ e)
 arrow_from z v s choice l a k _ e = inr e

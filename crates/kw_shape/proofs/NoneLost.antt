@@ -73,7 +73,7 @@ on_seek : (rows : ℕ) (k next : Local) (q : ℕ) → NextSeek rows k next → I
 on_seek rows k next q (asks o) y = (y.0, tt, y.1)
 on_seek rows k next q (has_asked m o n) y = on_back _ k next q n y
 
--- the next pass is looked at, or all were
+-- the next visit is looked at, or all were
 on_pass : (z : Sizes) (i : ℕ) (k next : Local) (q : ℕ) → NextPass z i k next → IsTaken k q → IsNursedRow next.activity next q
 on_pass z i k next q (looks_on o) y = (y.0, tt, y.1)
 on_pass z i k next q (has_looked o) y = (y.0, tt, y.1)

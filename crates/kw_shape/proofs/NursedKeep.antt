@@ -17,12 +17,12 @@ use Rattle.kw_world.specs.declared.local.Local.{Local}
 use Rattle.kw_world.specs.Sizes.{Sizes}
 use Rattle.kw_world.specs.Step.{word}
 use Rattle.kw_core.specs.Run.{Run}
-use Rattle.kw_core.specs.Stages.{IsAtRow, IsPassing}
+use Rattle.kw_core.specs.Stages.{IsAtRow, IsVisiting}
 use Rattle.kw_core.proofs.Arrows.{Arrow}
 use Rattle.kw_core.proofs.BuiltNext.{built_keeps}
 use Rattle.kw_core.proofs.Happens.{Happens}
 use Rattle.kw_core.proofs.InfantFrames.{OwnRow, RowBefore, target_of}
-use Rattle.kw_shape.proofs.AfterBuilding.{built_balancing, built_pass, built_passes}
+use Rattle.kw_shape.proofs.AfterBuilding.{built_balancing, built_pass, built_visits}
 use Rattle.kw_shape.proofs.Comings.{Comes, comes, goes_on, searching_builds, seeks, stays_out, unbuilt_nursing, unbuilt_search}
 use Rattle.kw_shape.proofs.InfantsFit.{row_link, taken_below}
 use Rattle.kw_shape.proofs.InfantsKeep.{Own, nowhere, seeking}
@@ -31,7 +31,7 @@ use Rattle.kw_shape.proofs.InfantsRely.{rely_infants}
 use Rattle.kw_shape.proofs.InfantsStay.{infants_stable, measured, search_stable}
 use Rattle.kw_shape.proofs.LinkedRows.{balance_at, fresh_linked, held_dead, infants_at, linked_keeps, search_at}
 use Rattle.kw_shape.proofs.RowsKeep.{own_rely, others_kept, rely_rows}
-use Rattle.kw_shape.proofs.RelyRows.{is_passing}
+use Rattle.kw_shape.proofs.RelyRows.{is_visiting}
 use Rattle.kw_shape.proofs.SearchKeep.{search_by}
 use Rattle.kw_shape.proofs.WonKeep.{head_open}
 use Rattle.kw_shape.specs.Infants.{Infants}
@@ -110,18 +110,18 @@ module _ {z : Sizes} {r r' : Run} {s : ℕ} {choice : Choice} {l l' : Local} whe
     where
       which : Comes z (word z r.world) choice l a l' → Search (word z r'.world) r'.ledger.rows s l'.activity l'
       which (stays_out n) = unbuilt_search (word z r'.world) r'.ledger.rows s l'.activity l' n
-      which (seeks e t) = subst (λ c. Search (word z r'.world) r'.ledger.rows s c l') (sym e) (record { some = λ x. absurd x; fresh = λ p x. absurd x; least = λ p x. absurd x; left = λ p x. absurd x; met = λ x. absurd x })
+      which (seeks e t) = subst (λ c. Search (word z r'.world) r'.ledger.rows s c l') (sym e) (record { some = λ x. absurd x; fresh = λ p x. absurd x; least = λ p x. absurd x; left = λ p x. absurd x; saw = λ x. absurd x })
       which (goes_on o t) =
           let y = balance_at a h i in
           let was = search_by (word z r.world) r.ledger.rows s _ i.rows l (y.fresh (built_balancing a o)) (y.lower (built_balancing a o)) z choice a l' t (head_open z r i l.row) (search_at a h i) in
           let same : IsMeasured l'.activity l' → l'.row ≡ l.row = λ m. (built_keeps z (word z r.world) choice l a l' t (searching_builds l'.activity l' (measured l'.activity l' m))).row in
           let held : IsMeasured l'.activity l' → IsHeld r.ledger.rows l'.row = λ m. subst (IsHeld r.ledger.rows) (sym (same m)) (held_by r.ledger.rows s l.row (y.fresh (built_balancing a o))) in
-          search_stable _ _ r.ledger.rows r'.ledger.rows s l'.activity l' (own_rely z r r' s choice l a l' h i (built_passes a o).0 (built_pass a o)) (λ m. dead_stays a h i l'.row (held m)) was
+          search_stable _ _ r.ledger.rows r'.ledger.rows s l'.activity l' (own_rely z r r' s choice l a l' h i (built_visits a o).0 (built_pass a o)) (λ m. dead_stays a h i l'.row (held m)) was
 
   -- another seat
   pub search_other : (a : Activity) → Happens z r r' s choice l l' a → Shape z r → (t : ℕ) (k : Local) → t ≢ s → slice_get r.world.locals t ≡ Some k → Search (word z r'.world) r'.ledger.rows t k.activity k
-  search_other a h i t k d g = which (is_passing k.activity)
+  search_other a h i t k d g = which (is_visiting k.activity)
     where
-      which : IsPassing k.activity ⊎ (IsPassing k.activity → ⊥) → Search (word z r'.world) r'.ledger.rows t k.activity k
-      which (inl x) = let p = (i.passes t k g).in_pass x in search_stable _ _ r.ledger.rows r'.ledger.rows t k.activity k (rely_rows a h i t p.since p.passes (others_kept a h t d ∙ p.passes)) (λ m. dead_stays a h i k.row (held_by r.ledger.rows t k.row ((i.balances t k g).fresh (built_balancing k.activity (searching_builds k.activity k (measured k.activity k m)))))) (i.search t k g)
-      which (inr n) = unbuilt_search (word z r'.world) r'.ledger.rows t k.activity k (λ x. n (built_passes k.activity x).0)
+      which : IsVisiting k.activity ⊎ (IsVisiting k.activity → ⊥) → Search (word z r'.world) r'.ledger.rows t k.activity k
+      which (inl x) = let p = (i.visits t k g).in_visit x in search_stable _ _ r.ledger.rows r'.ledger.rows t k.activity k (rely_rows a h i t p.since p.visits (others_kept a h t d ∙ p.visits)) (λ m. dead_stays a h i k.row (held_by r.ledger.rows t k.row ((i.balances t k g).fresh (built_balancing k.activity (searching_builds k.activity k (measured k.activity k m)))))) (i.search t k g)
+      which (inr n) = unbuilt_search (word z r'.world) r'.ledger.rows t k.activity k (λ x. n (built_visits k.activity x).0)

@@ -13,7 +13,7 @@ use Rattle.kw_cells.specs.Cuts.{starts_of}
 use Rattle.kw_cells.specs.Kept.{kept_of}
 use Rattle.kw_core.specs.Run.{Run}
 use Rattle.kw_core.specs.Words.{Words}
-use Rattle.kw_core.proofs.Arrows.{Arrow, NextLook, NextRest, answers, builds, ends_scan, finds_other, finds_stamped, gathers_rest, helps, is_passed, keeps_no_more, key_above, list_ends, lists, looks, meets_neither, meets_stamped, rest_passed, rests, scans_on, takes_no_more}
+use Rattle.kw_core.proofs.Arrows.{Arrow, NextLook, NextLeftOver, answers, builds, ends_scan, finds_other, finds_stamped, gathers_left_over, helps, is_gone_by, keeps_no_more, key_above, list_ends, lists, looks, sees_neither, sees_stamped, left_over_gone_by, goes_to_left_over, scans_on, takes_no_more}
 use Rattle.kw_core.proofs.Building.{Building, first_is_retired, sought_is_retired, pass_is_old, pass_is_young, frees_row, before_is_above, before_serves, begins_before, draws_number, first_is_free, first_is_taken, gives_last_back, gives_one_back, guess_before_fails, guesses_before, is_marked_before, is_replaced, leads_nowhere, leads_on_marked, leads_to_full, leads_to_other, loses_row, makes_last_normal, makes_normal, replaces_row, retires_row, sought_is_free, sought_is_taken, takes_head_before, takes_row, walks_before, walks_past, writes_after, writes_count, writes_entry, writes_first, writes_key, writes_least, writes_link, writes_value, writes_version, retires_and_leaves}
 use Rattle.kw_core.proofs.Happens.{Happens}
 use Rattle.kw_core.proofs.NextBuilt.{GivenBack, is_refused_rows, moves_left, tries_again, NextBack, gives_back, has_none, NextSeek, asks, has_asked, NextPass, looks_on, has_looked, NextTaken, has_enough, wants_more, NextNewCell, empties, fills, has_cells, NextNewEntry, has_entries, writes_idle, NextNewRow, has_written, writes_row, NextBefore, is_behind, is_first, was_done, was_served}
@@ -43,11 +43,11 @@ module _ (z : Sizes) where
   look_unplanned j next l (looks o) = unplanned z _ l refl
   look_unplanned j next l (lists o) = unplanned z _ l refl
 
-  rest_unplanned : (l next : Local) → NextRest l next → Plans z next.activity next
-  rest_unplanned l next (rests m o) = unplanned z _ _ refl
-  rest_unplanned l next (answers o n) = unplanned z _ _ refl
-  rest_unplanned l next (ends_scan o y n) = unplanned z _ _ refl
-  rest_unplanned l next (scans_on q o y n w) = unplanned z _ _ refl
+  left_over_unplanned : (l next : Local) → NextLeftOver l next → Plans z next.activity next
+  left_over_unplanned l next (goes_to_left_over m o) = unplanned z _ _ refl
+  left_over_unplanned l next (answers o n) = unplanned z _ _ refl
+  left_over_unplanned l next (ends_scan o y n) = unplanned z _ _ refl
+  left_over_unplanned l next (scans_on q o y n w) = unplanned z _ _ refl
 
   -- one that has given its rows back has planned nothing; as long as it has rows or seeks them, it
   -- has its plan
@@ -142,16 +142,16 @@ plans_by : (z : Sizes) (v : Words) (s : ℕ) (choice : Choice) (l : Local) (a : 
 plans_by z v s choice l a l' (builds b next y t) o p = plans_built z v choice l a l' t o p
 plans_by z v s choice l a l' (takes_no_more e n) o p = record { kept = λ x. refl; starts = λ x. refl; few = λ x. absurd x }
 plans_by z v s choice l a l' (keeps_no_more n) o p = record { kept = λ x. refl; starts = λ x. refl; few = λ x. absurd x }
-plans_by z v s choice l a l' (meets_stamped j c version next y n) o p = look_unplanned z _ next _ n
-plans_by z v s choice l a l' (meets_neither j next y n) o p = look_unplanned z _ next _ n
-plans_by z v s choice l a l' (is_passed next y n) o p = look_unplanned z _ next _ n
+plans_by z v s choice l a l' (sees_stamped j c version next y n) o p = look_unplanned z _ next _ n
+plans_by z v s choice l a l' (sees_neither j next y n) o p = look_unplanned z _ next _ n
+plans_by z v s choice l a l' (is_gone_by next y n) o p = look_unplanned z _ next _ n
 plans_by z v s choice l a l' (helps next y n) o p = look_unplanned z _ next _ n
 plans_by z v s choice l a l' (finds_stamped c version next y n) o p = look_unplanned z _ next _ n
 plans_by z v s choice l a l' (finds_other next y n) o p = look_unplanned z _ next _ n
-plans_by z v s choice l a l' (list_ends next e n) o p = rest_unplanned z _ next n
-plans_by z v s choice l a l' (key_above next y n) o p = rest_unplanned z _ next n
-plans_by z v s choice l a l' (rest_passed next y n) o p = rest_unplanned z _ next n
-plans_by z v s choice l a l' (gathers_rest next n) o p = rest_unplanned z _ next n
+plans_by z v s choice l a l' (list_ends next e n) o p = left_over_unplanned z _ next n
+plans_by z v s choice l a l' (key_above next y n) o p = left_over_unplanned z _ next n
+plans_by z v s choice l a l' (left_over_gone_by next y n) o p = left_over_unplanned z _ next n
+plans_by z v s choice l a l' (gathers_left_over next n) o p = left_over_unplanned z _ next n
 plans_by z v s choice l a l' _ o p = unplanned z _ _ refl
 
 -- the acting seat

@@ -6,7 +6,7 @@ use Rattle.kw_world.specs.declared.activity.Activity.{Activity}
 use Rattle.kw_world.specs.declared.activity.walk.Walk.TheVariants as Walk
 use Rattle.kw_world.specs.declared.local.Local.{Local}
 use Rattle.kw_world.specs.Calls.{first_key, is_scan}
-use Rattle.kw_core.specs.Stages.{IsPassing, IsPastStart}
+use Rattle.kw_core.specs.Stages.{IsVisiting, IsPastStart}
 use Rattle.kw_core.specs.Words.{Words, least_in}
 use Rattle.kw_shape.specs.Shape.{IsAtItsRow, IsOnWalk, Walks}
 
@@ -23,14 +23,14 @@ fresh_past v g t (Activity.Walk Walk.Next) l w x = w.on.0
 fresh_past v g t (Activity.Walk Walk.NextLeast) l w x = w.on.0
 fresh_past v g t _ l w x = (w.at x).fresh
 
--- a seat is in a pass or in none
-pub is_passing : (a : Activity) → IsPassing a ⊎ (IsPassing a → ⊥)
-is_passing Activity.Idle = inr (λ x. x)
-is_passing (Activity.Enter _) = inr (λ x. x)
-is_passing _ = inl tt
+-- a seat is in a visit or in none
+pub is_visiting : (a : Activity) → IsVisiting a ⊎ (IsVisiting a → ⊥)
+is_visiting Activity.Idle = inr (λ x. x)
+is_visiting (Activity.Enter _) = inr (λ x. x)
+is_visiting _ = inl tt
 
--- a seat that is in no pass is nowhere along the rows
-pub walks_outside : (v : Words) (g : Ledger) (t : ℕ) (a : Activity) (l : Local) → (IsPassing a → ⊥) → Walks v g t a l
+-- a seat that is in no visit is nowhere along the rows
+pub walks_outside : (v : Words) (g : Ledger) (t : ℕ) (a : Activity) (l : Local) → (IsVisiting a → ⊥) → Walks v g t a l
 walks_outside v g t Activity.Idle l n = record { on = tt; lower = λ x. absurd x; at = λ x. absurd x; begins = λ x. absurd x; wants = λ x. absurd x }
 walks_outside v g t (Activity.Enter _) l n = record { on = tt; lower = λ x. absurd x; at = λ x. absurd x; begins = λ x. absurd x; wants = λ x. absurd x }
 walks_outside v g t _ l n = absurd (n tt)

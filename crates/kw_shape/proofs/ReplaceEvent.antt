@@ -35,12 +35,12 @@ use Rattle.kw_core.specs.Ledger as ledger
 use Rattle.kw_core.specs.Ledger.{fate_dead, fate_live, least_of}
 use Rattle.kw_core.specs.Run.{Run}
 use Rattle.kw_core.specs.Words.{Words, least_in, next_in}
-use Rattle.kw_core.proofs.Fates.{fate_of_full, fate_of_new, fate_stays, none_replaced, passes_stay}
+use Rattle.kw_core.proofs.Fates.{fate_of_full, fate_of_new, fate_stays, none_replaced, visits_stay}
 use Rattle.kw_core.proofs.Happens.{Happens, not_exchanged}
 use Rattle.kw_core.proofs.InfantFrames.{head_stays, replaced_won}
 use Rattle.kw_shape.proofs.BuildEvents.{count_word, least_word, next_word, state_kept}
 use Rattle.kw_shape.proofs.InfantsKeep.{Own}
-use Rattle.kw_shape.proofs.InfantsRely.{linked_not_infant, place_of_row}
+use Rattle.kw_shape.proofs.InfantsRely.{linked_not_infant, index_of_row}
 use Rattle.kw_shape.specs.Infants.{IsInfantOf, Written}
 use Rattle.kw_shape.specs.RowsIn.{has_frozen, has_mark, rows_in}
 
@@ -136,7 +136,7 @@ module _ {z : Sizes} {r r' : Run} {s : ℕ} {choice : Choice} {l l' : Local} whe
     come_owner = λ x i. ap (λ (f : Fate). f.owner) (live x i);
     come_upper = λ x i. ap (λ (f : Fate). f.upper) (live x i) ∙ bound_is (word z r.world) (next_in (word z r.world) x);
     fates = λ x a b. fate_stays (Activity.Rebalance (Rebalance.Replace Replace.Exchange)) h x (λ c. stays x a b c);
-    passes = passes_stay (Activity.Rebalance (Rebalance.Replace Replace.Exchange)) h (λ c. c) (λ c. c);
+    visits = visits_stay (Activity.Rebalance (Rebalance.Replace Replace.Exchange)) h (λ c. c) (λ c. c);
   })
     where
       won : word z r.world (replaced_link l.rebalance.before) ≡ link_word (unmarked_link (Some l.row))
@@ -146,7 +146,7 @@ module _ {z : Sizes} {r r' : Run} {s : ℕ} {choice : Choice} {l l' : Local} whe
       there x i = subst (λ xs. IsIn xs x) (sym t) i
 
       place : (x : ℕ) → IsIn (n ∷ more) x → (i : ℕ) × (slice_get l.rebalance.taken i ≡ Some x)
-      place x i = place_of_row l.rebalance.taken x (there x i)
+      place x i = index_of_row l.rebalance.taken x (there x i)
 
       infant : (x : ℕ) → IsIn (n ∷ more) x → IsInfantOf r.ledger.rows s x
       infant x i = let p = place x i in m.own.owned p.0 x p.1
@@ -200,7 +200,7 @@ module _ {z : Sizes} {r r' : Run} {s : ℕ} {choice : Choice} {l l' : Local} whe
       least = λ x. ap key_of_word (least_word (Activity.Rebalance (Rebalance.Replace Replace.Exchange)) h sane x (λ c. c));
     };
     states = λ x. state_kept (Activity.Rebalance (Rebalance.Replace Replace.Exchange)) h sane x (λ c. c);
-    ledger = record { fates = λ x. ap (λ (g : ledger.Ledger). g.rows.fates x) (none_replaced h d); others = passes_stay (Activity.Rebalance (Rebalance.Replace Replace.Exchange)) h (λ c. c) (λ c. c) };
+    ledger = record { fates = λ x. ap (λ (g : ledger.Ledger). g.rows.fates x) (none_replaced h d); others = visits_stay (Activity.Rebalance (Rebalance.Replace Replace.Exchange)) h (λ c. c) (λ c. c) };
   })
     where
       still : word z r'.world (replaced_link l.rebalance.before) ≡ word z r.world (replaced_link l.rebalance.before)

@@ -1,4 +1,4 @@
--- What an event does to the rows and to the ledger: a seat that enters begins its pass, one that
+-- What an event does to the rows and to the ledger: a seat that enters begins its visit, one that
 -- leaves or tries again ends it; a seat that rebalances its row exchanges the row's state, marks
 -- its link and freezes its count, and then takes, writes and links new rows in its place, as
 -- `BuildEvents` and `ReplaceEvent` say. Nothing else of either changes. So every event is one of
@@ -18,7 +18,7 @@ use Rattle.kw_words.specs.State.{IsState, state_of, state_word}
 use Rattle.kw_words.proofs.CountWords.{count_of_next}
 use Rattle.kw_words.proofs.LinkWords.{link_of_marked}
 use Rattle.kw_words.proofs.StateWords.{state_word_of}
-use Rattle.kw_rows.specs.Events.{Event, Passes, SameLinks, MarksLink, Freezes, freezes, begins, ends, engages, marks, decides, normalises, rests}
+use Rattle.kw_rows.specs.Events.{Event, Visits, SameLinks, MarksLink, Freezes, freezes, begins, ends, engages, marks, decides, normalises, rests}
 use Rattle.kw_rows.specs.Group.{View, Group, Named}
 use Rattle.kw_rows.specs.Ledger as kw_rows
 use Rattle.kw_rows.specs.RowState as row
@@ -59,12 +59,12 @@ pub use Rattle.kw_shape.proofs.LinkedRows.{balance_at, all_young, fresh_linked, 
 use Rattle.kw_shape.proofs.RelyRows.{RelyRows}
 use Rattle.kw_shape.proofs.ReplaceEvent.{replace_event}
 use Rattle.kw_shape.specs.Balances.{Balances}
-use Rattle.kw_shape.specs.RowsIn.{has_frozen, has_mark, rows_in, state_met}
+use Rattle.kw_shape.specs.RowsIn.{has_frozen, has_mark, rows_in, state_seen}
 use Rattle.kw_shape.specs.Shape.{Kinds, Shape}
 use Rattle.kw_shape.specs.Won.{Won}
-use Rattle.kw_core.specs.Stages.{IsPassing}
+use Rattle.kw_core.specs.Stages.{IsVisiting}
 use Rattle.kw_core.proofs.Frame.{WritesPass}
-use Rattle.kw_shape.specs.Passes.{Passes as InPasses}
+use Rattle.kw_shape.specs.Visits.{Visits as InVisits}
 
 -- a marked link leads where it led
 marked_link : (w : ℕ) (x : Option Link) → link_of w ≡ x → IsKnownWord x → (row_linked (link_of (bit_or w MARK_BIT)) ≡ row_linked (link_of w)) × (has_mark (link_of (bit_or w MARK_BIT)) ≡ true)
@@ -99,19 +99,19 @@ module _ {z : Sizes} {r r' : Run} {s : ℕ} {choice : Choice} {l l' : Local} whe
 
   -- The ledger.
 
-  -- the passes of other seats are as they were
-  pub others_kept : (a : Activity) → Happens z r r' s choice l l' a → (t : ℕ) → t ≢ s → r'.ledger.rows.passes t ≡ r.ledger.rows.passes t
+  -- the visits of other seats are as they were
+  pub others_kept : (a : Activity) → Happens z r r' s choice l l' a → (t : ℕ) → t ≢ s → r'.ledger.rows.visits t ≡ r.ledger.rows.visits t
   others_kept a h t d = others_stay a h t (λ x e. d e)
 
-  -- a seat that enters is in a pass, and one that leaves or tries again is in none
-  pub pass_begins : Happens z r r' s choice l l' (Activity.Enter Enter.Announce) → r'.ledger.rows.passes s ≡ Some (length r.history.log)
-  pass_begins h = ap (λ (g : Ledger). g.rows.passes s) h.ledger ∙ chosen s s (Some (length r.history.log)) (r.ledger.rows.passes s) refl
+  -- a seat that enters is in a visit, and one that leaves or tries again is in none
+  pub visit_begins : Happens z r r' s choice l l' (Activity.Enter Enter.Announce) → r'.ledger.rows.visits s ≡ Some (length r.history.log)
+  visit_begins h = ap (λ (g : Ledger). g.rows.visits s) h.ledger ∙ chosen s s (Some (length r.history.log)) (r.ledger.rows.visits s) refl
 
-  pub pass_ends : (answer : Answer) → Happens z r r' s choice l l' (Activity.Leave answer) → r'.ledger.rows.passes s ≡ None
-  pass_ends answer h = ap (λ (g : Ledger). g.rows.passes s) h.ledger ∙ chosen s s None (r.ledger.rows.passes s) refl
+  pub visit_ends : (answer : Answer) → Happens z r r' s choice l l' (Activity.Leave answer) → r'.ledger.rows.visits s ≡ None
+  visit_ends answer h = ap (λ (g : Ledger). g.rows.visits s) h.ledger ∙ chosen s s None (r.ledger.rows.visits s) refl
 
-  pub pass_taken_back : Happens z r r' s choice l l' Activity.Retry → r'.ledger.rows.passes s ≡ None
-  pass_taken_back h = ap (λ (g : Ledger). g.rows.passes s) h.ledger ∙ chosen s s None (r.ledger.rows.passes s) refl
+  pub visit_taken_back : Happens z r r' s choice l l' Activity.Retry → r'.ledger.rows.visits s ≡ None
+  visit_taken_back h = ap (λ (g : Ledger). g.rows.visits s) h.ledger ∙ chosen s s None (r.ledger.rows.visits s) refl
 
   -- The event.
 
@@ -122,14 +122,14 @@ module _ {z : Sizes} {r r' : Run} {s : ℕ} {choice : Choice} {l l' : Local} whe
   won_at a h i = subst (λ b. Won r.ledger.rows s b l) h.activity (i.won s l h.knows)
 
   -- of a seat that enters, leaves or tries again
-  passes_set : (a : Activity) (at : Option ℕ) → Happens z r r' s choice l l' a → IsSane z r.world → (ChangesHead a s l → ⊥) → ((q : ℕ) → ChangesNext a s l q → ⊥) → ((q : ℕ) → ChangesCount a s l q → ⊥) → ((q : ℕ) → ChangesLeast a s l q → ⊥) → ((q : ℕ) → ChangesState a s l q → ⊥) →
-      ((q : ℕ) → ChangesFate a l q → ⊥) → (DrawsNumber a → ⊥) → r'.ledger.rows.passes s ≡ at → Passes (rows_in (word z r.world)) (rows_in (word z r'.world)) r.ledger.rows r'.ledger.rows s at
-  passes_set a at h sane head next count least states fates drawn e = record {
+  visits_set : (a : Activity) (at : Option ℕ) → Happens z r r' s choice l l' a → IsSane z r.world → (ChangesHead a s l → ⊥) → ((q : ℕ) → ChangesNext a s l q → ⊥) → ((q : ℕ) → ChangesCount a s l q → ⊥) → ((q : ℕ) → ChangesLeast a s l q → ⊥) → ((q : ℕ) → ChangesState a s l q → ⊥) →
+      ((q : ℕ) → ChangesFate a l q → ⊥) → (DrawsNumber a → ⊥) → r'.ledger.rows.visits s ≡ at → Visits (rows_in (word z r.world)) (rows_in (word z r'.world)) r.ledger.rows r'.ledger.rows s at
+  visits_set a at h sane head next count least states fates drawn e = record {
     links = links_kept a h sane head next count least;
     states = λ q. state_kept a h sane q (states q);
     fates = λ q. fate_stays a h q (fates q);
     numbered = numbers_stay a h drawn;
-    passes = e;
+    visits = e;
     others = others_kept a h;
   }
 
@@ -167,8 +167,8 @@ module _ {z : Sizes} {r r' : Run} {s : ℕ} {choice : Choice} {l l' : Local} whe
       which (inr d) = rests (record { links = links_kept (Activity.Rebalance (Rebalance.Engage Engage.Lead)) h i.sane (λ c. c) (λ q c. c) (λ q c. c) (λ q c. c); states = states_still (Activity.Rebalance (Rebalance.Engage Engage.Lead)) h i.sane l.row (λ q n c. n c) (not_exchanged _ _ _ _ h.changed.same d); ledger = ledger_kept (Activity.Rebalance (Rebalance.Engage Engage.Lead)) h (λ q c. c) (λ c. c) (λ c. c) })
 
   -- a state that is read stands there still
-  pub read_state : (a : Activity) → Happens z r r' s choice l l' a → Shape z r → (t : State) → state_of (word z r.world (name.State l.row)) ≡ Some t → (ChangesState a s l l.row → ⊥) → (rows_in (word z r'.world)).state l.row ≡ state_met (Some t)
-  read_state a h i t e n = state_kept a h i.sane l.row n ∙ ap state_met e
+  pub read_state : (a : Activity) → Happens z r r' s choice l l' a → Shape z r → (t : State) → state_of (word z r.world (name.State l.row)) ≡ Some t → (ChangesState a s l l.row → ⊥) → (rows_in (word z r'.world)).state l.row ≡ state_seen (Some t)
+  read_state a h i t e n = state_kept a h i.sane l.row n ∙ ap state_seen e
 
   -- one that marks its link
   marking : (count : ℕ) → Happens z r r' s choice l l' (Activity.Rebalance (Rebalance.Engage (Engage.MarkLink count))) → Shape z r → MarksLink (rows_in (word z r.world)) (rows_in (word z r'.world)) r.ledger.rows r'.ledger.rows l.row
@@ -229,7 +229,7 @@ module _ {z : Sizes} {r r' : Run} {s : ℕ} {choice : Choice} {l l' : Local} whe
 
       which : (word z r.world (name.State l.row) ≡ state_word (state.Leader 0)) ⊎ (word z r.world (name.State l.row) ≡ state_word (state.Leader 0) → ⊥) → (rows_in (word z r'.world)).state l.row ≡ row.Leader 1
       which (inl f) = word_says _ (state.Leader count) (omega (arith, one)) (exchanged _ _ _ _ h.changed.same f) ∙ ap row.Leader one
-      which (inr d) = ap (λ w. state_met (state_of w)) (not_exchanged _ _ _ _ h.changed.same d) ∙ ap state_met e ∙ ap row.Leader (alone n o (λ f. d (undecided f)))
+      which (inr d) = ap (λ w. state_seen (state_of w)) (not_exchanged _ _ _ _ h.changed.same d) ∙ ap state_seen e ∙ ap row.Leader (alone n o (λ f. d (undecided f)))
         where
           alone : (m : ℕ) → m ≤ 1 → (m ≡ 0 → ⊥) → m ≡ 1
           alone m u v = omega (arith, u, v)
@@ -256,9 +256,9 @@ module _ {z : Sizes} {r r' : Run} {s : ℕ} {choice : Choice} {l l' : Local} whe
       is_frozen None e g = absurd g
 
   pub row_event : (a : Activity) → Happens z r r' s choice l l' a → Shape z r → Event (rows_in (word z r.world)) (rows_in (word z r'.world)) r.ledger.rows r'.ledger.rows (length r.history.log)
-  row_event (Activity.Enter Enter.Announce) h i = begins s (passes_set (Activity.Enter Enter.Announce) _ h i.sane (λ c. c) (λ q c. c) (λ q c. c) (λ q c. c) (λ q c. c) (λ q c. c) (λ c. c) (pass_begins h))
-  row_event (Activity.Leave answer) h i = ends s (passes_set (Activity.Leave answer) _ h i.sane (λ c. c) (λ q c. c) (λ q c. c) (λ q c. c) (λ q c. c) (λ q c. c) (λ c. c) (pass_ends answer h))
-  row_event Activity.Retry h i = ends s (passes_set Activity.Retry _ h i.sane (λ c. c) (λ q c. c) (λ q c. c) (λ q c. c) (λ q c. c) (λ q c. c) (λ c. c) (pass_taken_back h))
+  row_event (Activity.Enter Enter.Announce) h i = begins s (visits_set (Activity.Enter Enter.Announce) _ h i.sane (λ c. c) (λ q c. c) (λ q c. c) (λ q c. c) (λ q c. c) (λ q c. c) (λ c. c) (visit_begins h))
+  row_event (Activity.Leave answer) h i = ends s (visits_set (Activity.Leave answer) _ h i.sane (λ c. c) (λ q c. c) (λ q c. c) (λ q c. c) (λ q c. c) (λ q c. c) (λ c. c) (visit_ends answer h))
+  row_event Activity.Retry h i = ends s (visits_set Activity.Retry _ h i.sane (λ c. c) (λ q c. c) (λ q c. c) (λ q c. c) (λ q c. c) (λ q c. c) (λ c. c) (visit_taken_back h))
   row_event (Activity.Put Put.Add) h i = rests (record { links = more_given h i.sane; states = λ q. state_kept (Activity.Put Put.Add) h i.sane q (λ c. c); ledger = ledger_kept (Activity.Put Put.Add) h (λ q c. c) (λ c. c) (λ c. c) })
   row_event (Activity.Rebalance (Rebalance.Engage (Engage.Normal seat))) h i = normalising seat h i
   row_event (Activity.Rebalance (Rebalance.Engage Engage.Lead)) h i = engaging h i
@@ -305,9 +305,9 @@ module _ {z : Sizes} {r r' : Run} {s : ℕ} {choice : Choice} {l l' : Local} whe
 
   -- What a seat may name.
 
-  -- a seat that is in one pass before and after the event may name the rows that it might, and they
-  -- are as they were
-  pub rely_rows : (a : Activity) → Happens z r r' s choice l l' a → Shape z r → (t since : ℕ) → r.ledger.rows.passes t ≡ Some since → r'.ledger.rows.passes t ≡ Some since →
+  -- a seat that is in one visit before and after the event may name the rows that it might, and
+  -- they are as they were
+  pub rely_rows : (a : Activity) → Happens z r r' s choice l l' a → Shape z r → (t since : ℕ) → r.ledger.rows.visits t ≡ Some since → r'.ledger.rows.visits t ≡ Some since →
       RelyRows (word z r.world) (word z r'.world) r.ledger.rows r'.ledger.rows t
   rely_rows a h i t since before after =
       let k = kept (rows_in (word z r.world)) (rows_in (word z r'.world)) r.ledger.rows r'.ledger.rows (length r.history.log) i.rows (row_event a h i) in
@@ -325,8 +325,8 @@ module _ {z : Sizes} {r r' : Run} {s : ℕ} {choice : Choice} {l l' : Local} whe
 
 -- What an event leaves to the acting seat of the rows that it may name.
 
--- a seat that goes on in its pass may name the rows that it might
-pub own_rely : (z : Sizes) (r r' : Run) (s : ℕ) (choice : Choice) (l : Local) (a : Activity) (l' : Local) → Happens z r r' s choice l l' a → Shape z r → IsPassing a → (WritesPass a → ⊥) → RelyRows (word z r.world) (word z r'.world) r.ledger.rows r'.ledger.rows s
+-- a seat that goes on in its visit may name the rows that it might
+pub own_rely : (z : Sizes) (r r' : Run) (s : ℕ) (choice : Choice) (l : Local) (a : Activity) (l' : Local) → Happens z r r' s choice l l' a → Shape z r → IsVisiting a → (WritesPass a → ⊥) → RelyRows (word z r.world) (word z r'.world) r.ledger.rows r'.ledger.rows s
 own_rely z r r' s choice l a l' h i x n =
-    let p = (subst (λ q. InPasses (word z r.world) r.ledger.rows s q l) h.activity (i.passes s l h.knows)).in_pass x in
-    rely_rows a h i s p.since p.passes (others_stay a h s (λ x e. n x) ∙ p.passes)
+    let p = (subst (λ q. InVisits (word z r.world) r.ledger.rows s q l) h.activity (i.visits s l h.knows)).in_visit x in
+    rely_rows a h i s p.since p.visits (others_stay a h s (λ x e. n x) ∙ p.visits)

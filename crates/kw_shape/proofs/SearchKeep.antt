@@ -23,13 +23,13 @@ use Rattle.kw_world.specs.Transition.{row_linked, row_or_first}
 use Rattle.kw_core.specs.Words.{Words, least_in, next_in}
 use Rattle.kw_core.proofs.Building.{Building, first_is_free, first_is_retired, first_is_taken, sought_is_free, sought_is_retired, sought_is_taken, pass_is_old, pass_is_young, frees_row, takes_row, loses_row, gives_one_back, gives_last_back, writes_count, writes_least, writes_link, writes_first, writes_entry, writes_key, writes_value, writes_version, writes_after, begins_before, guesses_before, guess_before_fails, before_serves, before_is_above, takes_head_before, leads_to_full, leads_on_marked, leads_to_other, leads_nowhere, walks_before, walks_past, replaces_row, is_marked_before, is_replaced, makes_normal, makes_last_normal, draws_number, retires_row, marked_link, retires_and_leaves}
 use Rattle.kw_core.proofs.NextBuilt.{GivenBack, is_refused_rows, moves_left, tries_again, NextBack, gives_back, has_none, NextPass, has_looked, looks_on, NextSeek, asks, has_asked, NextTaken, has_enough, wants_more, NextNewCell, empties, fills, has_cells, NextNewEntry, has_entries, writes_idle, NextNewRow, has_written, writes_row, NextBefore, is_behind, is_first, was_done, was_served}
-use Rattle.kw_shape.specs.RowsIn.{rows_in, state_met}
-use Rattle.kw_shape.specs.Search.{HasBefore, HasMetNext, IsLeft, IsMeasured, IsSearching, Search}
+use Rattle.kw_shape.specs.RowsIn.{rows_in, state_seen}
+use Rattle.kw_shape.specs.Search.{HasBefore, HasReachedNext, IsLeft, IsMeasured, IsSearching, Search}
 
 module _ (v : Words) (g : Ledger) (t : ℕ) where
   -- a seat that seeks no row before its own, and is about to move to none
-  pub elsewhere : (a : Activity) (k : Local) → (IsSearching a k → ⊥) → (IsMeasured a k → ⊥) → (HasBefore a k → ⊥) → (HasMetNext a → ⊥) → Search v g t a k
-  elsewhere a k n m b c = record { some = λ x. absurd (b x); fresh = λ p x e. absurd (n x); least = λ p x e. absurd (m x); left = λ p x e. absurd (m x); met = λ x. absurd (c x) }
+  pub elsewhere : (a : Activity) (k : Local) → (IsSearching a k → ⊥) → (IsMeasured a k → ⊥) → (HasBefore a k → ⊥) → (HasReachedNext a → ⊥) → Search v g t a k
+  elsewhere a k n m b c = record { some = λ x. absurd (b x); fresh = λ p x e. absurd (n x); least = λ p x e. absurd (m x); left = λ p x e. absurd (m x); saw = λ x. absurd (c x) }
 
   -- one that gives its rows back, and does not move then
   stays_back : (k : Local) (c : Afterwards) → k.rebalance.afterwards ≡ c → (c ≡ MoveLeft → ⊥) → Search v g t (Activity.Rebalance (Rebalance.Seek Seek.GiveBack)) k
@@ -50,7 +50,7 @@ module _ (v : Words) (g : Ledger) (t : ℕ) where
   -- it moves to the row that it knows
   left_on : (k next : Local) → NextBack MoveLeft k next → (p : ℕ) × (k.rebalance.before ≡ Some p) → ((p : ℕ) → k.rebalance.before ≡ Some p → IsFresh g t p) → ((p : ℕ) → k.rebalance.before ≡ Some p → k.rebalance.least ≡ least_in v p) →
       ((p : ℕ) → k.rebalance.before ≡ Some p → IsLeft v g k p) → Search v g t next.activity next
-  left_on k next (gives_back o) some fresh least left = record { some = λ x. some; fresh = λ p x e. fresh p e; least = λ p x e. least p e; left = λ p x e. left p e; met = λ x. absurd x }
+  left_on k next (gives_back o) some fresh least left = record { some = λ x. some; fresh = λ p x e. fresh p e; least = λ p x e. least p e; left = λ p x e. left p e; saw = λ x. absurd x }
   left_on k next (has_none m o y) some fresh least left = given_on MoveLeft k next y
 
   seek_on : (rows : ℕ) (k next : Local) → NextSeek rows k next → Search v g t next.activity next
@@ -98,13 +98,13 @@ module _ (v : Words) (g : Ledger) (t now : ℕ) (i : Structure (rows_in v) g now
 
   -- the walk begins there, or there is none before the full row
   begins_on : (next : Local) → NextBefore (row_or_first (row_linked (link_of (v name.Head)))) l next → Search v g t next.activity next
-  begins_on next (is_first e) = record { some = λ x. absurd x; fresh = λ p x e. let c : None ≡ Some p = e in absurd (cc); least = λ p x e. let c : None ≡ Some p = e in absurd (cc); left = λ p x e. let c : None ≡ Some p = e in absurd (cc); met = λ x. absurd x }
+  begins_on next (is_first e) = record { some = λ x. absurd x; fresh = λ p x e. let c : None ≡ Some p = e in absurd (cc); least = λ p x e. let c : None ≡ Some p = e in absurd (cc); left = λ p x e. let c : None ≡ Some p = e in absurd (cc); saw = λ x. absurd x }
   begins_on next (is_behind d) = record {
     some = λ x. (row_or_first (row_linked (link_of (v name.Head))), refl);
     fresh = λ p x e. subst (IsFresh g t) (first ∙ same_Some _ p e) (inl i.chain.first_live);
     least = λ p x e. subst (λ q. 0 ≡ least_in v q) (first ∙ same_Some _ p e) (sym i.chain.first_least);
     left = λ p x e. subst (λ q. IsLeft v g l q) (first ∙ same_Some _ p e) (first_left (λ c. d (sym first ∙ c)));
-    met = λ x. absurd x;
+    saw = λ x. absurd x;
   }
     where
       first : i.chain.first ≡ row_or_first (row_linked (link_of (v name.Head)))
@@ -128,7 +128,7 @@ module _ (v : Words) (g : Ledger) (t now : ℕ) (i : Structure (rows_in v) g now
   search_by z choice a k frees_row head x = elsewhere v g t _ _ (λ y. y) (λ y. y) (λ y. y) (λ y. y)
   search_by z choice a k (takes_row rows next e y) head x = taken_on v g t rows _ next y
   search_by z choice a k (loses_row rows next d y) head x = seek_on v g t rows _ next y
-  search_by z choice a k (gives_one_back o) head x = record { some = x.some; fresh = x.fresh; least = x.least; left = x.left; met = x.met }
+  search_by z choice a k (gives_one_back o) head x = record { some = x.some; fresh = x.fresh; least = x.least; left = x.left; saw = x.saw }
   search_by z choice a k (gives_last_back next o y) head x = given_on v g t l.rebalance.afterwards l next y
   search_by z choice a k writes_count head x = elsewhere v g t _ _ (λ y. y) (λ y. y) (λ y. y) (λ y. y)
   search_by z choice a k writes_least head x = elsewhere v g t _ _ (λ y. y) (λ y. y) (λ y. y) (λ y. y)
@@ -140,16 +140,16 @@ module _ (v : Words) (g : Ledger) (t now : ℕ) (i : Structure (rows_in v) g now
   search_by z choice a k (writes_version j) head x = elsewhere v g t _ _ (λ y. y) (λ y. y) (λ y. y) (λ y. y)
   search_by z choice a k (writes_after j next y) head x = cell_on v g t z (j + 1) l next y
   search_by z choice a k (begins_before next y) head x = begins_on next y
-  search_by z choice a k (guesses_before q f e) head x = record { some = λ y. (q, refl); fresh = λ p y d. subst (IsFresh g t) (same_Some q p d) (inl (normal_live (rows_in v) g q i.states (ap state_met e))); least = λ p y d. absurd y; left = λ p y d. absurd y; met = λ y. absurd y }
+  search_by z choice a k (guesses_before q f e) head x = record { some = λ y. (q, refl); fresh = λ p y d. subst (IsFresh g t) (same_Some q p d) (inl (normal_live (rows_in v) g q i.states (ap state_seen e))); least = λ p y d. absurd y; left = λ p y d. absurd y; saw = λ y. absurd y }
   search_by z choice a k guess_before_fails head x = elsewhere v g t _ _ (λ y. y) (λ y. y) (λ y. y) (λ y. y)
-  search_by z choice a k (before_serves o) head x = record { some = λ y. x.some tt; fresh = λ p y e. x.fresh p tt e; least = λ p y e. ap (λ b. least_in v (row_or_first b)) e; left = λ p y e. inl (subst (λ b. least_in v (row_or_first b) < l.lower) e o); met = λ y. absurd y }
+  search_by z choice a k (before_serves o) head x = record { some = λ y. x.some tt; fresh = λ p y e. x.fresh p tt e; least = λ p y e. ap (λ b. least_in v (row_or_first b)) e; left = λ p y e. inl (subst (λ b. least_in v (row_or_first b) < l.lower) e o); saw = λ y. absurd y }
   search_by z choice a k (before_is_above o) head x = elsewhere v g t _ _ (λ y. y) (λ y. y) (λ y. y) (λ y. y)
   search_by z choice a k (takes_head_before next y) head x = begins_on next y
-  search_by z choice a k (leads_to_full e) head x = record { some = λ y. absurd y; fresh = λ p y f. x.fresh p tt f; least = λ p y f. x.least p tt f; left = λ p y f. x.left p tt f; met = λ y. absurd y }
+  search_by z choice a k (leads_to_full e) head x = record { some = λ y. absurd y; fresh = λ p y f. x.fresh p tt f; least = λ p y f. x.least p tt f; left = λ p y f. x.left p tt f; saw = λ y. absurd y }
   search_by z choice a k (leads_on_marked next e y) head x = left_on v g t l next y (x.some tt) (λ p f. x.fresh p tt f) (λ p f. x.least p tt f) (λ p f. x.left p tt f)
-  search_by z choice a k (leads_to_other q e d) head x = let p = x.some tt in record { some = λ y. p; fresh = λ o y f. x.fresh o tt f; least = λ o y f. x.least o tt f; left = λ o y f. x.left o tt f; met = λ y. fresh_next (rows_in v) g i.closed t p.0 q (x.fresh p.0 tt p.1) (subst (λ b. next_in v (row_or_first b) ≡ Some q) p.1 e) }
+  search_by z choice a k (leads_to_other q e d) head x = let p = x.some tt in record { some = λ y. p; fresh = λ o y f. x.fresh o tt f; least = λ o y f. x.least o tt f; left = λ o y f. x.left o tt f; saw = λ y. fresh_next (rows_in v) g i.closed t p.0 q (x.fresh p.0 tt p.1) (subst (λ b. next_in v (row_or_first b) ≡ Some q) p.1 e) }
   search_by z choice a k (leads_nowhere next e y) head x = back_on v g t TryAgain l next (λ f. cc) y
-  search_by z choice a k (walks_before o) head x = record { some = λ y. (l.candidate, refl); fresh = λ p y e. subst (IsFresh g t) (same_Some l.candidate p e) (x.met tt); least = λ p y e. ap (least_in v) (same_Some l.candidate p e); left = λ p y e. inl (subst (λ q. least_in v q < l.lower) (same_Some l.candidate p e) o); met = λ y. absurd y }
+  search_by z choice a k (walks_before o) head x = record { some = λ y. (l.candidate, refl); fresh = λ p y e. subst (IsFresh g t) (same_Some l.candidate p e) (x.saw tt); least = λ p y e. ap (least_in v) (same_Some l.candidate p e); left = λ p y e. inl (subst (λ q. least_in v q < l.lower) (same_Some l.candidate p e) o); saw = λ y. absurd y }
   search_by z choice a k (walks_past next o y) head x = back_on v g t TryAgain l next (λ f. cc) y
   search_by z choice a k (replaces_row e) head x = elsewhere v g t _ _ (λ y. y) (λ y. y) (λ y. y) (λ y. y)
   search_by z choice a k (is_marked_before next e y) head x = moves_on next l.rebalance.before refl e head y x

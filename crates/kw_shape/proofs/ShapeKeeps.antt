@@ -40,7 +40,7 @@ use Rattle.kw_rows.specs.Ledger.{Fate}
 use Rattle.kw_rows.specs.RowState.{IsEngaged}
 use Rattle.kw_shape.specs.Balances.{Balances}
 use Rattle.kw_shape.specs.Infants.{HasLostNone, Infants}
-use Rattle.kw_shape.specs.Passes.{Passes}
+use Rattle.kw_shape.specs.Visits.{Visits}
 use Rattle.kw_shape.specs.Plans.{Plans}
 use Rattle.kw_shape.specs.Search.{Search}
 use Rattle.kw_shape.specs.RowsIn.{rows_in}
@@ -51,17 +51,17 @@ use Rattle.kw_shape.proofs.NoneLost.{none_lost_other, none_lost_own}
 use Rattle.kw_shape.proofs.NursedKeep.{infants_go, infants_other, search_go, search_other}
 use Rattle.kw_shape.proofs.WonKeep.{won_other, won_own}
 use Rattle.kw_shape.specs.Shape.{Walks, Kinds, Shape}
-use Rattle.kw_shape.proofs.PassesKeep.{numbers_keep, passes_other, passes_own}
+use Rattle.kw_shape.proofs.VisitsKeep.{numbers_keep, visits_other, visits_own}
 use Rattle.kw_shape.proofs.BalancesKeep.{balances_other, balances_own}
 use Rattle.kw_core.proofs.Fates.{fate_stays}
 use Rattle.kw_rows.specs.Events.{IsIn}
 use Rattle.kw_shape.proofs.InfantsFit.{taken_below}
-use Rattle.kw_shape.proofs.InfantsRely.{place_of_row}
+use Rattle.kw_shape.proofs.InfantsRely.{index_of_row}
 use Rattle.kw_shape.proofs.InfantsStay.{infant_at}
 use Rattle.kw_shape.proofs.LinkedRows.{infants_at}
 use Rattle.kw_shape.proofs.PlansKeep.{plans_own}
 use Rattle.kw_shape.proofs.RowsKeep.{own_rely, others_kept, rely_rows, structure_keeps}
-use Rattle.kw_shape.proofs.RelyRows.{is_passing, walks_outside, walks_stable}
+use Rattle.kw_shape.proofs.RelyRows.{is_visiting, walks_outside, walks_stable}
 use Rattle.kw_core.proofs.Happens.{Happens, each_seat, knows_next}
 use Rattle.kw_core.proofs.Frame.{WritesPass}
 use Rattle.kw_shape.proofs.Walking.{walks_by}
@@ -79,7 +79,7 @@ use Rattle.kw_world.specs.declared.event.Choice.TheVariants.{Stop}
 use Rattle.kw_world.specs.Calls.{last_key}
 use Rattle.kw_world.specs.ScanTransitions.{answer_or_stopped}
 use Rattle.kw_world.specs.WalkTransitions.{is_stop}
-use Rattle.kw_core.specs.Stages.{IsPassing, is_put, IsBalancing, IsDone}
+use Rattle.kw_core.specs.Stages.{IsVisiting, is_put, IsBalancing, IsDone}
 use Rattle.kw_shape.specs.Shape.{IsSomeCall, IsPutCall, IsReadCall, IsScanCall, IsAnswerOf, IsPairs}
 use Rattle.kw_core.proofs.BuiltNext.{built_goes, built_next}
 use Rattle.kw_core.proofs.InfantFrames.{count_stays, count_written}
@@ -93,8 +93,8 @@ use Rattle.kw_shape.proofs.NewWords.{cells_few}
 use Rattle.kw_shape.proofs.NextCalls.{arrow_tidied}
 use Rattle.kw_shape.proofs.Offered.{offered_own, offered_other}
 use Rattle.kw_world.specs.declared.limits.TheConstants.{TIDY_SHARE}
-use Rattle.kw_shape.proofs.AfterBuilding.{after_kinds, built_kinds, built_pass, built_passes}
-use Rattle.kw_core.proofs.Arrows.{Arrow, begins, enters, enters_scan, is_spent, waits, stores_waiting, draws, settles_empty, settles, starts_at_head, guesses, guess_fails, takes_head, guess_serves, guess_is_above, stops, puts_in_last, reads_last, meets_next, walks_on, puts_before, reads_before, meets_pending, meets_stamped, meets_neither, is_wanted, is_passed, loads_to_help, helps, finds_stamped, finds_other, list_leads, list_ends, key_below, key_within, key_above, loads_version, gathers_listed, rest_wanted, rest_passed, gathers_rest, clears_scan, finds_room, takes_cell, stores_key, stores_value, announces, loads_clock, stamps, is_stamped, stores_version, meets_cell, meets_none, key_before, key_same, key_after, version_before, version_after, stores_after, inserts, loses, clears, leaves, retries, enters_again, clock_is_spent, clock_serves, epoch_is_spent, epoch_serves, finds_infant, finds_normal, finds_leader, finds_other_state, normalises, engages, is_engaged, marks_link, marks_led, decides, decides_not, finds_full, takes_full, announces_full, stamps_full, NextLook, looks, lists, NextRest, rests, answers, ends_scan, scans_on, not_below, freezes_count, meets_idle, meets_unstamped, remembers, remembers_last, meets_frozen, meets_frozen_last, freezes_entry, freezes_last, looks_again, meets_quiet, meets_quiet_last, helps_scan, meets_drawn, meets_drawn_last, draws_for, settles_scan, settles_last, finds_drawn, finds_drawn_last, finds_no_scan, finds_no_scan_last, take_leads, takes_left, takes_no_more, takes_key, takes_version, keeps_taken, takes_left_key, keeps_left, keeps_no_more, builds, ends_at_state, ends_at_clock, ends_at_epoch, ends_undecided, tidies}
+use Rattle.kw_shape.proofs.AfterBuilding.{after_kinds, built_kinds, built_pass, built_visits}
+use Rattle.kw_core.proofs.Arrows.{Arrow, begins, enters, enters_scan, is_spent, waits, stores_waiting, draws, settles_empty, settles, starts_at_head, guesses, guess_fails, takes_head, guess_serves, guess_is_above, stops, puts_in_last, reads_last, reaches_next, walks_on, puts_before, reads_before, sees_pending, sees_stamped, sees_neither, is_wanted, is_gone_by, loads_to_help, helps, finds_stamped, finds_other, list_leads, list_ends, key_below, key_within, key_above, loads_version, gathers_listed, left_over_wanted, left_over_gone_by, gathers_left_over, clears_scan, finds_room, takes_cell, stores_key, stores_value, announces, loads_clock, stamps, is_stamped, stores_version, reaches_cell, sees_none, key_before, key_same, key_after, version_before, version_after, stores_after, inserts, loses, clears, leaves, retries, enters_again, clock_is_spent, clock_serves, epoch_is_spent, epoch_serves, finds_infant, finds_normal, finds_leader, finds_other_state, normalises, engages, is_engaged, marks_link, marks_led, decides, decides_not, finds_full, takes_full, announces_full, stamps_full, NextLook, looks, lists, NextLeftOver, goes_to_left_over, answers, ends_scan, scans_on, not_below, freezes_count, sees_idle, sees_unstamped, remembers, remembers_last, sees_frozen, sees_frozen_last, freezes_entry, freezes_last, looks_again, sees_quiet, sees_quiet_last, helps_scan, sees_drawn, sees_drawn_last, draws_for, settles_scan, settles_last, finds_drawn, finds_drawn_last, finds_no_scan, finds_no_scan_last, take_leads, takes_left, takes_no_more, takes_key, takes_version, keeps_taken, takes_left_key, keeps_left, keeps_no_more, builds, ends_at_state, ends_at_clock, ends_at_epoch, ends_undecided, tidies}
 use Rattle.kw_core.proofs.Building.{IsBuilding}
 
 -- The acting seat.
@@ -307,8 +307,8 @@ kinds_look : (z : Sizes) (j : ℕ) (l : Local) (next : Activity) → NextLook z 
 kinds_look z j l next (looks o) k e = record { kind = k; range = λ x. e }
 kinds_look z j l next (lists o) k e = record { kind = k; range = λ x. e }
 
-kinds_cell : (z : Sizes) (l : Local) (next : Local) → NextRest l next → IsReadCall l.call → first_key l.call ≤ last_key l.call → Kinds next.activity next
-kinds_cell z l next (rests m o) k e = record { kind = k; range = λ x. e }
+kinds_cell : (z : Sizes) (l : Local) (next : Local) → NextLeftOver l next → IsReadCall l.call → first_key l.call ≤ last_key l.call → Kinds next.activity next
+kinds_cell z l next (goes_to_left_over m o) k e = record { kind = k; range = λ x. e }
 kinds_cell z l next (answers o n) k e = record { kind = get_answer l.call _ k n; range = λ x. absurd x }
 kinds_cell z l next (ends_scan o y n) k e = record { kind = (scan_call l.call y, tt); range = λ x. absurd x }
 kinds_cell z l next (scans_on q o y n w) k e = record { kind = some_read l.call k; range = λ x. e }
@@ -337,15 +337,15 @@ kinds_by z v s choice l a l' (stops y) k = record { kind = stopped; range = λ x
     stopped = let t = and_parts (is_stop choice) (is_scan l.call && l.has_read) y in scan_answer l.call Stopped (scan_call l.call (and_parts (is_scan l.call) l.has_read t.1).0) tt
 kinds_by z v s choice l a l' (puts_in_last p y) k = record { kind = put_call l.call p; range = λ x. absurd x }
 kinds_by z v s choice l a l' (reads_last p y) k = record { kind = read_call l.call k.kind p; range = λ x. k.range tt }
-kinds_by z v s choice l a l' (meets_next q y) k = record { kind = k.kind; range = λ x. k.range tt }
+kinds_by z v s choice l a l' (reaches_next q y) k = record { kind = k.kind; range = λ x. k.range tt }
 kinds_by z v s choice l a l' (walks_on y) k = record { kind = k.kind; range = λ x. k.range tt }
 kinds_by z v s choice l a l' (puts_before p y) k = record { kind = put_call l.call p; range = λ x. absurd x }
 kinds_by z v s choice l a l' (reads_before p y) k = record { kind = read_call l.call k.kind p; range = λ x. k.range tt }
-kinds_by z v s choice l a l' (meets_pending j c y) k = record { kind = k.kind; range = λ x. k.range tt }
-kinds_by z v s choice l a l' (meets_stamped j c version next y n) k = kinds_look z _ _ next n k.kind (k.range tt)
-kinds_by z v s choice l a l' (meets_neither j next y n) k = kinds_look z _ _ next n k.kind (k.range tt)
+kinds_by z v s choice l a l' (sees_pending j c y) k = record { kind = k.kind; range = λ x. k.range tt }
+kinds_by z v s choice l a l' (sees_stamped j c version next y n) k = kinds_look z _ _ next n k.kind (k.range tt)
+kinds_by z v s choice l a l' (sees_neither j next y n) k = kinds_look z _ _ next n k.kind (k.range tt)
 kinds_by z v s choice l a l' (is_wanted y) k = record { kind = k.kind; range = λ x. k.range tt }
-kinds_by z v s choice l a l' (is_passed next y n) k = kinds_look z _ _ next n k.kind (k.range tt)
+kinds_by z v s choice l a l' (is_gone_by next y n) k = kinds_look z _ _ next n k.kind (k.range tt)
 kinds_by z v s choice l a l' loads_to_help k = record { kind = k.kind; range = λ x. k.range tt }
 kinds_by z v s choice l a l' (helps next y n) k = kinds_look z _ _ next n k.kind (k.range tt)
 kinds_by z v s choice l a l' (finds_stamped c version next y n) k = kinds_look z _ _ next n k.kind (k.range tt)
@@ -356,10 +356,10 @@ kinds_by z v s choice l a l' (key_below y) k = record { kind = k.kind; range = �
 kinds_by z v s choice l a l' (key_within y w) k = record { kind = k.kind; range = λ x. k.range tt }
 kinds_by z v s choice l a l' loads_version k = record { kind = k.kind; range = λ x. k.range tt }
 kinds_by z v s choice l a l' gathers_listed k = record { kind = k.kind; range = λ x. k.range tt }
-kinds_by z v s choice l a l' (rest_wanted y) k = record { kind = k.kind; range = λ x. k.range tt }
+kinds_by z v s choice l a l' (left_over_wanted y) k = record { kind = k.kind; range = λ x. k.range tt }
 kinds_by z v s choice l a l' (key_above next y n) k = kinds_cell z _ next n k.kind (k.range tt)
-kinds_by z v s choice l a l' (rest_passed next y n) k = kinds_cell z _ next n k.kind (k.range tt)
-kinds_by z v s choice l a l' (gathers_rest next n) k = kinds_cell z _ next n k.kind (k.range tt)
+kinds_by z v s choice l a l' (left_over_gone_by next y n) k = kinds_cell z _ next n k.kind (k.range tt)
+kinds_by z v s choice l a l' (gathers_left_over next n) k = kinds_cell z _ next n k.kind (k.range tt)
 kinds_by z v s choice l a l' (clears_scan answer) k = record { kind = cleared choice answer k.kind.1; range = λ x. absurd x }
   where
     cleared : (c : Choice) (y : Answer) → IsPairs y → IsAnswerOf l.call (answer_or_stopped y c)
@@ -380,8 +380,8 @@ kinds_by z v s choice l a l' (is_stamped version y) k = record { kind = k.kind; 
 kinds_by z v s choice l a l' (stamps_full y) k = record { kind = k.kind; range = λ x. absurd x }
 kinds_by z v s choice l a l' (tidies rows y) k = record { kind = k.kind; range = λ x. absurd x }
 kinds_by z v s choice l a l' stores_version k = record { kind = k.kind; range = λ x. absurd x }
-kinds_by z v s choice l a l' (meets_cell c y) k = record { kind = k.kind; range = λ x. absurd x }
-kinds_by z v s choice l a l' (meets_none y) k = record { kind = k.kind; range = λ x. absurd x }
+kinds_by z v s choice l a l' (reaches_cell c y) k = record { kind = k.kind; range = λ x. absurd x }
+kinds_by z v s choice l a l' (sees_none y) k = record { kind = k.kind; range = λ x. absurd x }
 kinds_by z v s choice l a l' (key_before y) k = record { kind = k.kind; range = λ x. absurd x }
 kinds_by z v s choice l a l' (key_same y) k = record { kind = k.kind; range = λ x. absurd x }
 kinds_by z v s choice l a l' (key_after y) k = record { kind = k.kind; range = λ x. absurd x }
@@ -414,20 +414,20 @@ kinds_by z v s choice l a l' (decides count n e o) k = record { kind = k.kind.0;
 kinds_by z v s choice l a l' (decides_not count nd) k = record { kind = k.kind.0; range = λ x. absurd x }
 kinds_by z v s choice l a l' (ends_undecided count dn) k = record { kind = put_done l.call k.kind.0; range = λ x. absurd x }
 kinds_by z v s choice l a l' freezes_count k = record { kind = k.kind; range = λ x. absurd x }
-kinds_by z v s choice l a l' (meets_idle j e) k = record { kind = k.kind; range = λ x. absurd x }
-kinds_by z v s choice l a l' (meets_unstamped j c e) k = record { kind = k.kind; range = λ x. absurd x }
+kinds_by z v s choice l a l' (sees_idle j e) k = record { kind = k.kind; range = λ x. absurd x }
+kinds_by z v s choice l a l' (sees_unstamped j c e) k = record { kind = k.kind; range = λ x. absurd x }
 kinds_by z v s choice l a l' (remembers j c version e o) k = record { kind = k.kind; range = λ x. absurd x }
 kinds_by z v s choice l a l' (remembers_last j c version e o) k = record { kind = k.kind; range = λ x. absurd x }
-kinds_by z v s choice l a l' (meets_frozen j e o) k = record { kind = k.kind; range = λ x. absurd x }
-kinds_by z v s choice l a l' (meets_frozen_last j e o) k = record { kind = k.kind; range = λ x. absurd x }
+kinds_by z v s choice l a l' (sees_frozen j e o) k = record { kind = k.kind; range = λ x. absurd x }
+kinds_by z v s choice l a l' (sees_frozen_last j e o) k = record { kind = k.kind; range = λ x. absurd x }
 kinds_by z v s choice l a l' (freezes_entry j e o) k = record { kind = k.kind; range = λ x. absurd x }
 kinds_by z v s choice l a l' (freezes_last j e o) k = record { kind = k.kind; range = λ x. absurd x }
 kinds_by z v s choice l a l' (looks_again j e) k = record { kind = k.kind; range = λ x. absurd x }
-kinds_by z v s choice l a l' (meets_quiet j e o) k = record { kind = k.kind; range = λ x. absurd x }
-kinds_by z v s choice l a l' (meets_quiet_last j e o) k = record { kind = k.kind; range = λ x. absurd x }
+kinds_by z v s choice l a l' (sees_quiet j e o) k = record { kind = k.kind; range = λ x. absurd x }
+kinds_by z v s choice l a l' (sees_quiet_last j e o) k = record { kind = k.kind; range = λ x. absurd x }
 kinds_by z v s choice l a l' (helps_scan j clock e) k = record { kind = k.kind; range = λ x. absurd x }
-kinds_by z v s choice l a l' (meets_drawn j version e o) k = record { kind = k.kind; range = λ x. absurd x }
-kinds_by z v s choice l a l' (meets_drawn_last j version e o) k = record { kind = k.kind; range = λ x. absurd x }
+kinds_by z v s choice l a l' (sees_drawn j version e o) k = record { kind = k.kind; range = λ x. absurd x }
+kinds_by z v s choice l a l' (sees_drawn_last j version e o) k = record { kind = k.kind; range = λ x. absurd x }
 kinds_by z v s choice l a l' (draws_for j) k = record { kind = k.kind; range = λ x. absurd x }
 kinds_by z v s choice l a l' (settles_scan j e o) k = record { kind = k.kind; range = λ x. absurd x }
 kinds_by z v s choice l a l' (settles_last j e o) k = record { kind = k.kind; range = λ x. absurd x }
@@ -449,33 +449,33 @@ kinds_by z v s choice l a l' (keeps_no_more n) k = record { kind = k.kind; range
 pub kinds_own : (z : Sizes) (r r' : Run) (s : ℕ) (choice : Choice) (l : Local) (a : Activity) (l' : Local) → Arrow z (word z r.world) s choice l a l' → Happens z r r' s choice l l' a → Shape z r → Kinds l'.activity l'
 kinds_own z r r' s choice l a l' b h i = kinds_by z (word z r.world) s choice l a l' b (subst (λ q. Kinds q l) h.activity (i.kinds s l h.knows))
 
--- a seat that goes on in its pass is where its call has it
-walks_in_pass : (z : Sizes) (r r' : Run) (s : ℕ) (choice : Choice) (l : Local) (a : Activity) (l' : Local) → Arrow z (word z r.world) s choice l a l' → Happens z r r' s choice l l' a → Shape z r → IsPassing a → (WritesPass a → ⊥) → Walks (word z r'.world) r'.ledger.rows s l'.activity l'
-walks_in_pass z r r' s choice l a l' b h i x n =
+-- a seat that goes on in its visit is where its call has it
+walks_in_visit : (z : Sizes) (r r' : Run) (s : ℕ) (choice : Choice) (l : Local) (a : Activity) (l' : Local) → Arrow z (word z r.world) s choice l a l' → Happens z r r' s choice l l' a → Shape z r → IsVisiting a → (WritesPass a → ⊥) → Walks (word z r'.world) r'.ledger.rows s l'.activity l'
+walks_in_visit z r r' s choice l a l' b h i x n =
     walks_stable _ _ _ _ s (own_rely z r r' s choice l a l' h i x n) l'.activity l' (walks_by z (word z r.world) r.ledger.rows s choice l a l' b i.rows (subst (λ q. Walks (word z r.world) r.ledger.rows s q l) h.activity (i.walks s l h.knows)))
 
 -- the acting seat is where its call has it: as it enters and leaves it is nowhere along the rows,
--- and else it goes on in its pass
+-- and else it goes on in its visit
 pub walks_own : (z : Sizes) (r r' : Run) (s : ℕ) (choice : Choice) (l : Local) (a : Activity) (l' : Local) → Arrow z (word z r.world) s choice l a l' → Happens z r r' s choice l l' a → Shape z r → Walks (word z r'.world) r'.ledger.rows s l'.activity l'
-walks_own z r r' s choice l a l' (builds b next y t) h i = walks_in_pass z r r' s choice l b l' (builds b next y t) h i (built_passes b y).0 (built_pass b y)
+walks_own z r r' s choice l a l' (builds b next y t) h i = walks_in_visit z r r' s choice l b l' (builds b next y t) h i (built_visits b y).0 (built_pass b y)
 walks_own z r r' s choice l a l' (begins call e b) h i = walks_outside _ _ s (Activity.Enter Enter.Announce) l' (λ x. x)
 walks_own z r r' s choice l a l' (enters e) h i = record { on = tt; lower = λ q. absurd q; at = λ q. absurd q; begins = λ q. refl; wants = λ q. absurd q }
 walks_own z r r' s choice l a l' (enters_scan e) h i = record { on = tt; lower = λ q. absurd q; at = λ q. absurd q; begins = λ q. absurd q; wants = λ q. absurd q }
 walks_own z r r' s choice l a l' (leaves answer) h i = walks_outside _ _ s Activity.Idle l' (λ x. x)
 walks_own z r r' s choice l a l' retries h i = walks_outside _ _ s (Activity.Enter Enter.LoadEpoch) l' (λ x. x)
 walks_own z r r' s choice l a l' enters_again h i = walks_outside _ _ s (Activity.Enter Enter.Announce) l' (λ x. x)
-walks_own z r r' s choice l a l' b h i = walks_in_pass z r r' s choice l _ l' b h i tt (λ x. x)
+walks_own z r r' s choice l a l' b h i = walks_in_visit z r r' s choice l _ l' b h i tt (λ x. x)
 
 -- Another seat.
 
 -- it is where its call has it
 walks_other : (z : Sizes) (r r' : Run) (s : ℕ) (choice : Choice) (l : Local) (a : Activity) (l' : Local) → Happens z r r' s choice l l' a → Shape z r → (t : ℕ) (k : Local) → t ≢ s → slice_get r.world.locals t ≡ Some k → Walks (word z r'.world) r'.ledger.rows t k.activity k
-walks_other z r r' s choice l a l' h i t k d g = which (is_passing k.activity)
+walks_other z r r' s choice l a l' h i t k d g = which (is_visiting k.activity)
   where
-    which : IsPassing k.activity ⊎ (IsPassing k.activity → ⊥) → Walks (word z r'.world) r'.ledger.rows t k.activity k
+    which : IsVisiting k.activity ⊎ (IsVisiting k.activity → ⊥) → Walks (word z r'.world) r'.ledger.rows t k.activity k
     which (inl x) =
-        let p = (i.passes t k g).in_pass x in
-        walks_stable _ _ _ _ t (rely_rows a h i t p.since p.passes (others_kept a h t d ∙ p.passes)) k.activity k (i.walks t k g)
+        let p = (i.visits t k g).in_visit x in
+        walks_stable _ _ _ _ t (rely_rows a h i t p.since p.visits (others_kept a h t d ∙ p.visits)) k.activity k (i.walks t k g)
     which (inr x) = walks_outside _ _ t k.activity k x
 
 -- The group.
@@ -490,7 +490,7 @@ module _ {z : Sizes} {r r' : Run} {s : ℕ} {choice : Choice} {l l' : Local} whe
     where
       acts : (q ≡ l.row) ⊎ IsIn l.rebalance.taken q → ⊥
       acts (inl c) = absurd (omega (arith, o, c, (i.sane.locals s l h.knows).below.row))
-      acts (inr c) = let p = place_of_row l.rebalance.taken q c in absurd (omega (arith, o, taken_below z r.world s l i.sane h.knows p.0 q p.1))
+      acts (inr c) = let p = index_of_row l.rebalance.taken q c in absurd (omega (arith, o, taken_below z r.world s l i.sane h.knows p.0 q p.1))
   beyond_stays a h i q o = fate_stays a h q (λ x. x)
 
 pub shape_keeps : (z : Sizes) (r r' : Run) (s : ℕ) (choice : Choice) (l : Local) (a : Activity) (l' : Local) → Happens z r r' s choice l l' a → Shape z r → Shape z r'
@@ -507,7 +507,7 @@ shape_keeps z r r' s choice l a l' h i = record {
   tidies = each_seat h (λ t k. k.tidies ≡ true → IsBalancing k.activity ⊎ IsDone k.activity) (λ e. arrow_tidied z (word z r.world) s choice l a l' h.arrow (λ f. subst (λ c. IsBalancing c ⊎ IsDone c) h.activity (i.tidies s l h.knows f)) e) (λ t k d g. i.tidies t k g);
   offered = each_seat h (λ t k. k.tidies ≡ true → r'.world.rows < TIDY_SHARE * k.epoch) (λ e. offered_own a h i e) (λ t k d g e. offered_other a h i t k g e);
   kinds = each_seat h (λ t k. Kinds k.activity k) (kinds_own z r r' s choice l a l' h.arrow h i) (λ t k d g. i.kinds t k g);
-  passes = each_seat h (λ t k. Passes (word z r'.world) r'.ledger.rows t k.activity k) (passes_own z r r' s choice l a l' h.arrow h i) (passes_other z r r' s choice l a l' h i);
+  visits = each_seat h (λ t k. Visits (word z r'.world) r'.ledger.rows t k.activity k) (visits_own z r r' s choice l a l' h.arrow h i) (visits_other z r r' s choice l a l' h i);
   outside = outside_stays a h i;
   walks = each_seat h (λ t k. Walks (word z r'.world) r'.ledger.rows t k.activity k) (walks_own z r r' s choice l a l' h.arrow h i) (walks_other z r r' s choice l a l' h i);
   balances = each_seat h (λ t k. Balances (word z r'.world) r'.ledger.rows t k.activity k) (balances_own z r r' s choice l a l' h.arrow h i) (balances_other z r r' s choice l a l' h i);

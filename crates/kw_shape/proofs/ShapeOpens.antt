@@ -35,8 +35,8 @@ use Rattle.kw_rows.specs.RowState.{IsEngaged}
 use Rattle.kw_rows.specs.Rows.{Chain, bound}
 use Rattle.kw_rows.specs.States.{IsLiveState, Marks, States}
 use Rattle.kw_rows.specs.Structure.{Structure}
-use Rattle.kw_shape.specs.Passes.{Passes}
-use Rattle.kw_shape.specs.RowsIn.{has_frozen, has_mark, rows_in, state_met}
+use Rattle.kw_shape.specs.Visits.{Visits}
+use Rattle.kw_shape.specs.RowsIn.{has_frozen, has_mark, rows_in, state_seen}
 use Rattle.kw_shape.specs.Balances.{Balances}
 use Rattle.kw_shape.specs.Infants.{HasLostNone, Infants}
 use Rattle.kw_shape.specs.Search.{Search}
@@ -127,10 +127,10 @@ module _ (z : Sizes) (o : Opening) (i : IsOpening z o) where
   first-normal = opens (name.State 0) i.sized.some_rows
 
   first-state : (rows_in (word z (opened z o))).state 0 ≡ row.Normal
-  first-state = ap (λ x. state_met (state_of x)) first-normal ∙ ap state_met state_of-Normal
+  first-state = ap (λ x. state_seen (state_of x)) first-normal ∙ ap state_seen state_of-Normal
 
   other-state : (q : ℕ) → (rows_in (word z (opened z o))).state (suc q) ≡ row.Free
-  other-state q = ap (λ x. state_met (state_of x)) (word-none (name.State (suc q)) (suc q) (λ x. x) (omega arith) refl) ∙ ap state_met state_of-Free
+  other-state q = ap (λ x. state_seen (state_of x)) (word-none (name.State (suc q)) (suc q) (λ x. x) (omega arith) refl) ∙ ap state_seen state_of-Free
 
   -- only the first row is in the list, and none was unlinked
   only_first : (q : ℕ) → IsLive (ledger_at_first o).rows q → q ≡ 0
@@ -162,7 +162,7 @@ module _ (z : Sizes) (o : Opening) (i : IsOpening z o) where
     first = 0;
     leads = ap (λ x. row_linked (link_of x)) (opens name.Head tt) ∙ to_first;
     first_live = refl;
-    first_least = ap key_of_word (opens (name.Min 0) i.sized.some_rows) ∙ least_key;
+    first_least = ap key_of_word (opens (name.Least 0) i.sized.some_rows) ∙ least_key;
     linked = λ q n a e. no_next q n e;
     rises = λ q n a e. no_next q n e;
     apart = λ q n a b. inl (only_first q a ∙ sym (only_first n b));
@@ -205,10 +205,10 @@ module _ (z : Sizes) (o : Opening) (i : IsOpening z o) where
   beyond_starts zero w = absurd (omega (arith, w, i.sized.some_rows))
   beyond_starts (suc q) w = refl
 
-  passes_start : (t : ℕ) → t < z.seats → Passes (word z (opened z o)) (ledger_at_first o).rows t Activity.Idle (resting 0)
-  passes_start t w = record {
-    in_pass = λ x. absurd x;
-    in_none = λ x. record { passes = refl; word = opens (name.Pass t) w };
+  visits_start : (t : ℕ) → t < z.seats → Visits (word z (opened z o)) (ledger_at_first o).rows t Activity.Idle (resting 0)
+  visits_start t w = record {
+    in_visit = λ x. absurd x;
+    in_none = λ x. record { visits = refl; word = opens (name.Pass t) w };
     epoch = λ x. absurd x;
     before = λ m at since o e f. let x : None ≡ Some at = e in absurd (cc);
   }
@@ -234,7 +234,7 @@ module _ (z : Sizes) (o : Opening) (i : IsOpening z o) where
     beyond = beyond_starts;
     keyed = λ q k. keyed_starts q;
     epoch = omega (arith, opens name.Epoch tt, no_numberers o.seats, i.epoch);
-    keys = each_rests z o (λ t l. Keys (word z (opened z o)) (ledger_at_first o).rows l.activity l) (λ t. record { own = λ x. absurd x; held = λ x. absurd x; marks = λ x. absurd x; met = λ x. absurd x; key = λ x. absurd x; gathered = λ x. absurd x });
+    keys = each_rests z o (λ t l. Keys (word z (opened z o)) (ledger_at_first o).rows l.activity l) (λ t. record { own = λ x. absurd x; held = λ x. absurd x; marks = λ x. absurd x; saw = λ x. absurd x; key = λ x. absurd x; gathered = λ x. absurd x });
     plans = each_rests z o (λ t l. Plans z l.activity l) (λ t. unplanned z Activity.Idle (resting 0) refl);
     infants = each_rests z o (λ t l. Infants z (word z (opened z o)) (ledger_at_first o).rows t l.activity l) (λ t. nowhere z (word z (opened z o)) (ledger_at_first o).rows t Activity.Idle (resting 0) refl);
     none_lost = each_rests z o (λ t l. HasLostNone (ledger_at_first o).rows t l.activity l) (λ t q x. none_infant q x.status);
@@ -244,7 +244,7 @@ module _ (z : Sizes) (o : Opening) (i : IsOpening z o) where
     tidies = each_rests z o (λ t l. l.tidies ≡ true → IsBalancing l.activity ⊎ IsDone l.activity) (λ t e. let y : false ≡ true = e in cc);
     offered = each_rests z o (λ t l. l.tidies ≡ true → o.rows < TIDY_SHARE * l.epoch) (λ t e. let y : false ≡ true = e in cc);
     kinds = each_rests z o (λ t l. Kinds l.activity l) (λ t. record { kind = tt; range = λ x. absurd x });
-    passes = λ t l g. each_rests z o (λ t l. t < z.seats → Passes (word z (opened z o)) (ledger_at_first o).rows t l.activity l) passes_start t l g (omega (arith, slice_get_within (opened z o).locals t l g, (opened-sane z o i).seats));
+    visits = λ t l g. each_rests z o (λ t l. t < z.seats → Visits (word z (opened z o)) (ledger_at_first o).rows t l.activity l) visits_start t l g (omega (arith, slice_get_within (opened z o).locals t l g, (opened-sane z o i).seats));
     outside = λ t w. refl;
     sought = each_rests z o (λ t l. Sought z (word z (opened z o)) (ledger_at_first o).rows t l.activity l) (λ t. unsought z (word z (opened z o)) (ledger_at_first o).rows t Activity.Idle (resting 0) (λ x. x, λ x. x));
     unretired = each_rests z o (λ t l. HasWon l.activity → IsEngaged ((rows_in (word z (opened z o))).state l.row)) (λ t x. absurd x);

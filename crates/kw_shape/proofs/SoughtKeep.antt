@@ -42,7 +42,7 @@ use Rattle.kw_world.specs.Step.{word}
 use Rattle.kw_world.specs.WriteTransitions.{unmarked_link}
 use Rattle.kw_core.specs.Ledger as ledger
 use Rattle.kw_core.specs.Run.{Run}
-use Rattle.kw_core.specs.Stages.{IsPassing}
+use Rattle.kw_core.specs.Stages.{IsVisiting}
 use Rattle.kw_core.specs.Words.{Words}
 use Rattle.kw_core.proofs.Arrows.{Arrow}
 use Rattle.kw_core.proofs.Building.{Building, IsBuilding, IsYoung, first_is_free, first_is_retired, first_is_taken, sought_is_free, sought_is_retired, sought_is_taken, pass_is_old, pass_is_young, frees_row, takes_row, loses_row, gives_last_back, writes_first, writes_entry, writes_after, begins_before, takes_head_before, leads_on_marked, leads_nowhere, walks_past, is_marked_before, is_replaced}
@@ -54,12 +54,12 @@ use Rattle.kw_shape.proofs.BuildEvents.{dead_by_state, free_by_state, seat_fits,
 use Rattle.kw_shape.proofs.Comings.{Comes, comes, goes_on, seeks, stays_out, won_builds}
 use Rattle.kw_shape.proofs.InfantsRely.{linked_not_infant}
 use Rattle.kw_shape.proofs.LinkedRows.{GoesNow, balance_at, dead_before, full_live, hand_infant, held_dead, linked_keeps, linked_not_free, sought_at}
-use Rattle.kw_shape.proofs.PassesKeep.{old_number, passing_busy}
-use Rattle.kw_shape.proofs.RelyRows.{is_passing}
-use Rattle.kw_shape.proofs.RowsKeep.{others_kept, pass_begins, pass_ends, pass_taken_back, won_at}
+use Rattle.kw_shape.proofs.VisitsKeep.{old_number, visiting_busy}
+use Rattle.kw_shape.proofs.RelyRows.{is_visiting}
+use Rattle.kw_shape.proofs.RowsKeep.{others_kept, visit_begins, visit_ends, visit_taken_back, won_at}
 use Rattle.kw_shape.proofs.WonKeep.{WonBy, has_next, has_number, was_last, wins_now, won_balances, won_by}
 use Rattle.kw_shape.specs.Infants.{IsInfantOf}
-use Rattle.kw_shape.specs.RowsIn.{rows_in, state_met}
+use Rattle.kw_shape.specs.RowsIn.{rows_in, state_seen}
 use Rattle.kw_shape.specs.Shape.{Shape}
 use Rattle.kw_shape.specs.Sought.{HasLooked, IsAsking, IsTaking, Sought}
 use Rattle.kw_shape.specs.Won.{HasWon}
@@ -69,17 +69,17 @@ not_dead_state : {A : Type 0} (w : Rows) (g : Ledger) (q : ℕ) (t : row.State) 
 not_dead_state w g q t states d e n = absurd (n (subst (IsDeadState g q) e (framed.dead_state w g q states d)))
 
 -- a state that is read as retired is so
-retired_met : (x : Option State) (m : ℕ) → state_met x ≡ row.Retired m → x ≡ Some (state.Retired m)
-retired_met (Some state.Free) m e = absurd (cc)
-retired_met (Some (state.Infant seat)) m e = absurd (cc)
-retired_met (Some state.Normal) m e = absurd (cc)
-retired_met (Some (state.Leader count)) m e = absurd (cc)
-retired_met (Some (state.Follower leader)) m e = absurd (cc)
-retired_met (Some (state.Retired number)) m e = ap (λ n. Some (state.Retired n)) (same_number number m e)
+retired_seen : (x : Option State) (m : ℕ) → state_seen x ≡ row.Retired m → x ≡ Some (state.Retired m)
+retired_seen (Some state.Free) m e = absurd (cc)
+retired_seen (Some (state.Infant seat)) m e = absurd (cc)
+retired_seen (Some state.Normal) m e = absurd (cc)
+retired_seen (Some (state.Leader count)) m e = absurd (cc)
+retired_seen (Some (state.Follower leader)) m e = absurd (cc)
+retired_seen (Some (state.Retired number)) m e = ap (λ n. Some (state.Retired n)) (same_number number m e)
   where
     same_number : (n m : ℕ) → row.Retired n ≡ row.Retired m → n ≡ m
     same_number n m e = cc
-retired_met None m e = absurd (cc)
+retired_seen None m e = absurd (cc)
 
 -- Where a seat asks for a row.
 
@@ -89,16 +89,16 @@ looking_asks (Activity.Rebalance (Rebalance.Seek Seek.Reclaim)) j x = tt
 looking_asks (Activity.Look Look.Key) j x = absurd x
 looking_asks _ j x = absurd x
 
-asking_passes : (a : Activity) → IsAsking a → IsPassing a
-asking_passes (Activity.Rebalance (Rebalance.Seek (Seek.Pass i))) x = tt
-asking_passes (Activity.Rebalance (Rebalance.Seek Seek.Reclaim)) x = tt
-asking_passes (Activity.Draw Draw.Clock) x = absurd x
-asking_passes (Activity.Rebalance (Rebalance.Engage Engage.Clock)) x = absurd x
-asking_passes _ x = absurd x
+asking_visits : (a : Activity) → IsAsking a → IsVisiting a
+asking_visits (Activity.Rebalance (Rebalance.Seek (Seek.Pass i))) x = tt
+asking_visits (Activity.Rebalance (Rebalance.Seek Seek.Reclaim)) x = tt
+asking_visits (Activity.Draw Draw.Clock) x = absurd x
+asking_visits (Activity.Rebalance (Rebalance.Engage Engage.Clock)) x = absurd x
+asking_visits _ x = absurd x
 
-taking_passes : (a : Activity) → IsTaking a → IsPassing a
-taking_passes (Activity.Rebalance (Rebalance.Seek Seek.Take)) x = tt
-taking_passes _ x = absurd x
+taking_visits : (a : Activity) → IsTaking a → IsVisiting a
+taking_visits (Activity.Rebalance (Rebalance.Seek Seek.Take)) x = tt
+taking_visits _ x = absurd x
 
 asking_builds : (a : Activity) → IsAsking a → IsBuilding a
 asking_builds (Activity.Rebalance (Rebalance.Seek (Seek.Pass i))) x = tt
@@ -156,16 +156,16 @@ before_elsewhere q k next (is_first e) = (λ x. x, λ x. x)
 before_elsewhere q k next (is_behind d) = (λ x. x, λ x. x)
 
 -- a dead row is not the one whose word says another state
-other_row : (z : Sizes) (r : Run) → Shape z r → (x q : ℕ) (t : State) → IsState t → (IsDeadState r.ledger.rows q (state_met (Some t)) → ⊥) → IsDead r.ledger.rows q → word z r.world (name.State x) ≡ state_word t → q ≡ x → ⊥
-other_row z r i x q t small n d e c = not_dead_state (rows_in (word z r.world)) r.ledger.rows q (state_met (Some t)) i.rows.states d (word_says _ t small (ap (λ y. word z r.world (name.State y)) c ∙ e)) n
+other_row : (z : Sizes) (r : Run) → Shape z r → (x q : ℕ) (t : State) → IsState t → (IsDeadState r.ledger.rows q (state_seen (Some t)) → ⊥) → IsDead r.ledger.rows q → word z r.world (name.State x) ≡ state_word t → q ≡ x → ⊥
+other_row z r i x q t small n d e c = not_dead_state (rows_in (word z r.world)) r.ledger.rows q (state_seen (Some t)) i.rows.states d (word_says _ t small (ap (λ y. word z r.world (name.State y)) c ∙ e)) n
 
--- a row that went in the pass of the seat did so, as long as its fate and the pass stay
-held_still : (g g' : Ledger) (t q : ℕ) → WasHeld g t q → g'.fates q ≡ g.fates q → g'.passes t ≡ g.passes t → WasHeld g' t q
-held_still g g' t q w e p = record { since = w.since; dead = ap (λ (f : Fate). f.status) e ∙ w.dead; passes = p ∙ w.passes; before = omega (arith, w.before, ap (λ (f : Fate). f.gone) e) }
+-- a row that went in the visit of the seat did so, as long as its fate and the visit stay
+held_still : (g g' : Ledger) (t q : ℕ) → WasHeld g t q → g'.fates q ≡ g.fates q → g'.visits t ≡ g.visits t → WasHeld g' t q
+held_still g g' t q w e p = record { since = w.since; dead = ap (λ (f : Fate). f.status) e ∙ w.dead; visits = p ∙ w.visits; before = omega (arith, w.before, ap (λ (f : Fate). f.gone) e) }
 
 module _ {z : Sizes} {r r' : Run} {s : ℕ} {choice : Choice} {l l' : Local} where
   -- an exchange of the state of the row x, which expects one that no dead row has
-  exchange_leaves : (a : Activity) → Happens z r r' s choice l l' a → Shape z r → (x q : ℕ) (t : State) → IsState t → (IsDeadState r.ledger.rows q (state_met (Some t)) → ⊥) → ((y : ℕ) → y ≢ x → ChangesState a s l y → ⊥) → ((y : ℕ) → ChangesState a s l y → y ≡ x) →
+  exchange_leaves : (a : Activity) → Happens z r r' s choice l l' a → Shape z r → (x q : ℕ) (t : State) → IsState t → (IsDeadState r.ledger.rows q (state_seen (Some t)) → ⊥) → ((y : ℕ) → y ≢ x → ChangesState a s l y → ⊥) → ((y : ℕ) → ChangesState a s l y → y ≡ x) →
       (word z r.world (name.State x) ≢ state_word t → word z r'.world (name.State x) ≡ word z r.world (name.State x)) → IsDead r.ledger.rows q → (rows_in (word z r'.world)).state q ≡ (rows_in (word z r.world)).state q
   exchange_leaves a h i x q t small n others here lost d = which (cases_eq (word z r.world (name.State x)) (state_word t))
     where
@@ -248,8 +248,8 @@ module _ {z : Sizes} {r r' : Run} {s : ℕ} {choice : Choice} {l l' : Local} whe
 
   -- A seat that the table does not have.
 
-  -- is in no pass still
-  pub outside_stays : (a : Activity) → Happens z r r' s choice l l' a → Shape z r → (t : ℕ) → length r'.world.locals ≤ t → r'.ledger.rows.passes t ≡ None
+  -- is in no visit still
+  pub outside_stays : (a : Activity) → Happens z r r' s choice l l' a → Shape z r → (t : ℕ) → length r'.world.locals ≤ t → r'.ledger.rows.visits t ≡ None
   outside_stays a h i t o = others_kept a h t (λ e. absurd (omega (arith, e, o, here, seats))) ∙ i.outside t (omega (arith, o, seats))
     where
       seats : length r'.world.locals ≡ length r.world.locals
@@ -258,41 +258,41 @@ module _ {z : Sizes} {r r' : Run} {s : ℕ} {choice : Choice} {l l' : Local} whe
       here : s < length r.world.locals
       here = slice_get_within r.world.locals s l h.knows
 
-  -- The pass of the next seat.
+  -- The visit of the next seat.
 
-  -- a seat that is in no pass, or whose word says an epoch above the number, has none that began
+  -- a seat that is in no visit, or whose word says an epoch above the number, has none that began
   -- before the number was drawn
-  pub looked : (j : ℕ) → Happens z r r' s choice l l' (Activity.Rebalance (Rebalance.Seek (Seek.Pass j))) → Shape z r → IsYoung l.rebalance.number (pass_of_word (word z r.world (name.Pass j))) → (since at : ℕ) → r.ledger.rows.passes j ≡ Some since → r.ledger.rows.numbered l.rebalance.number ≡ Some at → at < since
+  pub looked : (j : ℕ) → Happens z r r' s choice l l' (Activity.Rebalance (Rebalance.Seek (Seek.Pass j))) → Shape z r → IsYoung l.rebalance.number (pass_of_word (word z r.world (name.Pass j))) → (since at : ℕ) → r.ledger.rows.visits j ≡ Some since → r.ledger.rows.numbered l.rebalance.number ≡ Some at → at < since
   looked j h i young since at p n = which (cases_lt j (length r.world.locals))
     where
-      here : (k : Local) → slice_get r.world.locals j ≡ Some k → IsPassing k.activity ⊎ (IsPassing k.activity → ⊥) → at < since
+      here : (k : Local) → slice_get r.world.locals j ≡ Some k → IsVisiting k.activity ⊎ (IsVisiting k.activity → ⊥) → at < since
       here k g (inl x) =
-          let q = i.passes j k g in
-          let e : pass_of_word (word z r.world (name.Pass j)) ≡ Some k.epoch = ap pass_of_word (q.in_pass x).word ∙ number_of_word-number_word (Some k.epoch) (q.epoch (passing_busy k.activity x)).0 in
+          let q = i.visits j k g in
+          let e : pass_of_word (word z r.world (name.Pass j)) ≡ Some k.epoch = ap pass_of_word (q.in_visit x).word ∙ number_of_word-number_word (Some k.epoch) (q.epoch (visiting_busy k.activity x)).0 in
           q.before l.rebalance.number at since (subst (IsYoung l.rebalance.number) e young) n p
-      here k g (inr o) = let x : None ≡ Some since = sym ((i.passes j k g).in_none o).passes ∙ p in absurd (cc)
+      here k g (inr o) = let x : None ≡ Some since = sym ((i.visits j k g).in_none o).visits ∙ p in absurd (cc)
 
       none : length r.world.locals ≤ j → at < since
       none o = let x : None ≡ Some since = sym (i.outside j o) ∙ p in absurd (cc)
 
       which : (j < length r.world.locals) ⊎ (length r.world.locals ≤ j) → at < since
-      which (inl o) = here (get_or r.world.locals j l) (slice_get-get_or r.world.locals j l o) (is_passing (get_or r.world.locals j l).activity)
+      which (inl o) = here (get_or r.world.locals j l) (slice_get-get_or r.world.locals j l o) (is_visiting (get_or r.world.locals j l).activity)
       which (inr o) = none o
 
   -- What a seat knows of the row that it asks for.
 
-  -- a row that goes now went in each pass that is on, and was so before the event
-  goes_held : (t q : ℕ) → (a : Activity) → Happens z r r' s choice l l' a → Shape z r → (since : ℕ) → r.ledger.rows.passes t ≡ Some since → r'.ledger.rows.passes t ≡ Some since → GoesNow r.ledger.rows r'.ledger.rows s (length r.history.log) q → WasHeld r'.ledger.rows t q
+  -- a row that goes now went in each visit that is on, and was so before the event
+  goes_held : (t q : ℕ) → (a : Activity) → Happens z r r' s choice l l' a → Shape z r → (since : ℕ) → r.ledger.rows.visits t ≡ Some since → r'.ledger.rows.visits t ≡ Some since → GoesNow r.ledger.rows r'.ledger.rows s (length r.history.log) q → WasHeld r'.ledger.rows t q
   goes_held t q a h i since p p' y = record {
     since = since;
     dead = ap (λ (f : Fate). f.status) y.fate;
-    passes = p';
+    visits = p';
     before = omega (arith, i.rows.past.begun t since p, ap (λ (f : Fate). f.gone) y.fate);
   }
 
-  -- the row, if it is dead, is retired with the number or went in the pass of the seat: so it is
+  -- the row, if it is dead, is retired with the number or went in the visit of the seat: so it is
   -- after the event
-  asked_after : (a : Activity) → Happens z r r' s choice l l' a → Shape z r → (t q m since : ℕ) → r.ledger.rows.passes t ≡ Some since → r'.ledger.rows.passes t ≡ r.ledger.rows.passes t →
+  asked_after : (a : Activity) → Happens z r r' s choice l l' a → Shape z r → (t q m since : ℕ) → r.ledger.rows.visits t ≡ Some since → r'.ledger.rows.visits t ≡ r.ledger.rows.visits t →
       (IsDead r.ledger.rows q → ((rows_in (word z r.world)).state q ≡ row.Retired m) ⊎ WasHeld r.ledger.rows t q) → IsDead r'.ledger.rows q → ((rows_in (word z r'.world)).state q ≡ row.Retired m) ⊎ WasHeld r'.ledger.rows t q
   asked_after a h i t q m since p same was d = which (dead_before a h i q d)
     where
@@ -308,40 +308,40 @@ module _ {z : Sizes} {r r' : Run} {s : ℕ} {choice : Choice} {l l' : Local} whe
       which (inl x) = stays x.1 (was x.0) x.0
       which (inr y) = inr (goes_held t q a h i since p (same ∙ p) y)
 
-  -- the row, if it is dead, went in the pass of the seat: so it is after the event
-  taken_after : (a : Activity) → Happens z r r' s choice l l' a → Shape z r → (t q since : ℕ) → r.ledger.rows.passes t ≡ Some since → r'.ledger.rows.passes t ≡ r.ledger.rows.passes t → (IsDead r.ledger.rows q → WasHeld r.ledger.rows t q) → IsDead r'.ledger.rows q → WasHeld r'.ledger.rows t q
+  -- the row, if it is dead, went in the visit of the seat: so it is after the event
+  taken_after : (a : Activity) → Happens z r r' s choice l l' a → Shape z r → (t q since : ℕ) → r.ledger.rows.visits t ≡ Some since → r'.ledger.rows.visits t ≡ r.ledger.rows.visits t → (IsDead r.ledger.rows q → WasHeld r.ledger.rows t q) → IsDead r'.ledger.rows q → WasHeld r'.ledger.rows t q
   taken_after a h i t q since p same was d = which (dead_before a h i q d)
     where
       which : IsDead r.ledger.rows q × (r'.ledger.rows.fates q ≡ r.ledger.rows.fates q) ⊎ GoesNow r.ledger.rows r'.ledger.rows s (length r.history.log) q → WasHeld r'.ledger.rows t q
       which (inl x) = held_still r.ledger.rows r'.ledger.rows t q (was x.0) x.1 same
       which (inr y) = goes_held t q a h i since p (same ∙ p) y
 
-  -- a pass that is on after the event was on before, or begins now, after all numbers that were
+  -- a visit that is on after the event was on before, or begins now, after all numbers that were
   -- drawn
-  pass_now : (a : Activity) → Happens z r r' s choice l l' a → Shape z r → (j since m at : ℕ) → r'.ledger.rows.passes j ≡ Some since → r.ledger.rows.numbered m ≡ Some at → (r.ledger.rows.passes j ≡ Some since → at < since) → at < since
-  pass_now (Activity.Enter Enter.Announce) h i j since m at p n f = which (cases_eq j s)
+  visit_now : (a : Activity) → Happens z r r' s choice l l' a → Shape z r → (j since m at : ℕ) → r'.ledger.rows.visits j ≡ Some since → r.ledger.rows.numbered m ≡ Some at → (r.ledger.rows.visits j ≡ Some since → at < since) → at < since
+  visit_now (Activity.Enter Enter.Announce) h i j since m at p n f = which (cases_eq j s)
     where
       which : (j ≡ s) ⊎ (j ≡ s → ⊥) → at < since
-      which (inl c) = omega (arith, i.rows.past.drawn m at n, same_Some (length r.history.log) since (sym (pass_begins h) ∙ ap r'.ledger.rows.passes (sym c) ∙ p))
+      which (inl c) = omega (arith, i.rows.past.drawn m at n, same_Some (length r.history.log) since (sym (visit_begins h) ∙ ap r'.ledger.rows.visits (sym c) ∙ p))
       which (inr d) = f (sym (others_kept (Activity.Enter Enter.Announce) h j d) ∙ p)
-  pass_now (Activity.Leave answer) h i j since m at p n f = which (cases_eq j s)
+  visit_now (Activity.Leave answer) h i j since m at p n f = which (cases_eq j s)
     where
       which : (j ≡ s) ⊎ (j ≡ s → ⊥) → at < since
-      which (inl c) = let x : None ≡ Some since = sym (pass_ends answer h) ∙ ap r'.ledger.rows.passes (sym c) ∙ p in absurd (cc)
+      which (inl c) = let x : None ≡ Some since = sym (visit_ends answer h) ∙ ap r'.ledger.rows.visits (sym c) ∙ p in absurd (cc)
       which (inr d) = f (sym (others_kept (Activity.Leave answer) h j d) ∙ p)
-  pass_now Activity.Retry h i j since m at p n f = which (cases_eq j s)
+  visit_now Activity.Retry h i j since m at p n f = which (cases_eq j s)
     where
       which : (j ≡ s) ⊎ (j ≡ s → ⊥) → at < since
-      which (inl c) = let x : None ≡ Some since = sym (pass_taken_back h) ∙ ap r'.ledger.rows.passes (sym c) ∙ p in absurd (cc)
+      which (inl c) = let x : None ≡ Some since = sym (visit_taken_back h) ∙ ap r'.ledger.rows.visits (sym c) ∙ p in absurd (cc)
       which (inr d) = f (sym (others_kept Activity.Retry h j d) ∙ p)
-  pass_now a h i j since m at p n f = f (sym (others_stay a h j (λ x e. x)) ∙ p)
+  visit_now a h i j since m at p n f = f (sym (others_stay a h j (λ x e. x)) ∙ p)
 
-  -- What a seat knows that is in its pass before and after the event, and whose row and number
+  -- What a seat knows that is in its visit before and after the event, and whose row and number
   -- stay.
-  stays_known : (a : Activity) → Happens z r r' s choice l l' a → Shape z r → (t since : ℕ) (b : Activity) (k : Local) → r.ledger.rows.passes t ≡ Some since → r'.ledger.rows.passes t ≡ r.ledger.rows.passes t → Sought z (word z r.world) r.ledger.rows t b k → Sought z (word z r'.world) r'.ledger.rows t b k
+  stays_known : (a : Activity) → Happens z r r' s choice l l' a → Shape z r → (t since : ℕ) (b : Activity) (k : Local) → r.ledger.rows.visits t ≡ Some since → r'.ledger.rows.visits t ≡ r.ledger.rows.visits t → Sought z (word z r.world) r.ledger.rows t b k → Sought z (word z r'.world) r'.ledger.rows t b k
   stays_known a h i t since b k p same x = record {
     drawn = λ o. let y = x.drawn o in (y.0, kept o ∙ y.1);
-    young = λ j u at o c e n. let m = sym (kept (looking_asks b j c)) ∙ n in pass_now a h i j u k.rebalance.number at e m (λ f. x.young j u at o c f m);
+    young = λ j u at o c e n. let m = sym (kept (looking_asks b j c)) ∙ n in visit_now a h i j u k.rebalance.number at e m (λ f. x.young j u at o c f m);
     asked = λ o. asked_after a h i t k.rebalance.sought k.rebalance.number since p same (x.asked o);
     taken = λ o. taken_after a h i t k.rebalance.sought since p same (x.taken o);
   }
@@ -351,11 +351,11 @@ module _ {z : Sizes} {r r' : Run} {s : ℕ} {choice : Choice} {l l' : Local} whe
 
   -- another seat
   pub sought_other : (a : Activity) → Happens z r r' s choice l l' a → Shape z r → (t : ℕ) (k : Local) → t ≢ s → slice_get r.world.locals t ≡ Some k → Sought z (word z r'.world) r'.ledger.rows t k.activity k
-  sought_other a h i t k d g = which (is_passing k.activity)
+  sought_other a h i t k d g = which (is_visiting k.activity)
     where
-      which : IsPassing k.activity ⊎ (IsPassing k.activity → ⊥) → Sought z (word z r'.world) r'.ledger.rows t k.activity k
-      which (inl x) = let p = (i.passes t k g).in_pass x in stays_known a h i t p.since k.activity k p.passes (others_kept a h t d) (i.sought t k g)
-      which (inr n) = unsought z (word z r'.world) r'.ledger.rows t k.activity k (λ o. n (asking_passes k.activity o), λ o. n (taking_passes k.activity o))
+      which : IsVisiting k.activity ⊎ (IsVisiting k.activity → ⊥) → Sought z (word z r'.world) r'.ledger.rows t k.activity k
+      which (inl x) = let p = (i.visits t k g).in_visit x in stays_known a h i t p.since k.activity k p.visits (others_kept a h t d) (i.sought t k g)
+      which (inr n) = unsought z (word z r'.world) r'.ledger.rows t k.activity k (λ o. n (asking_visits k.activity o), λ o. n (taking_visits k.activity o))
 
   -- The acting seat.
 
@@ -366,7 +366,7 @@ module _ {z : Sizes} {r r' : Run} {s : ℕ} {choice : Choice} {l l' : Local} whe
     young = λ j since at o x. absurd x;
     asked = λ x. absurd x;
     taken = λ x d.
-        let free = free_by_state (rows_in (word z r.world)) r.ledger.rows q i.rows.states (ap state_met e) in
+        let free = free_by_state (rows_in (word z r.world)) r.ledger.rows q i.rows.states (ap state_seen e) in
         linked_not_free r'.ledger.rows q (inr (subst (IsDead r'.ledger.rows) c d)) (ap (λ (f : Fate). f.status) (fate_stays a h q n) ∙ free);
   }
 
@@ -375,16 +375,16 @@ module _ {z : Sizes} {r r' : Run} {s : ℕ} {choice : Choice} {l l' : Local} whe
   finds_retired a q m k h i n o e c f = record {
     drawn = λ x. (number.at, ap r'.ledger.rows.numbered f ∙ numbers_stay a h o m ∙ number.drawn);
     young = λ j since at u x. absurd (omega (arith, x));
-    asked = λ x d. inl (ap (rows_in (word z r'.world)).state c ∙ state_kept a h i.sane q n ∙ ap state_met e ∙ ap row.Retired (sym f));
+    asked = λ x d. inl (ap (rows_in (word z r'.world)).state c ∙ state_kept a h i.sane q n ∙ ap state_seen e ∙ ap row.Retired (sym f));
     taken = λ x. absurd x;
   }
     where
       number : IsNumbered r.ledger.rows q m
       number =
-          let d = dead_by_state (rows_in (word z r.world)) r.ledger.rows q m i.rows.states (ap state_met e) in
-          subst (IsDeadState r.ledger.rows q) (ap state_met e) (framed.dead_state (rows_in (word z r.world)) r.ledger.rows q i.rows.states d)
+          let d = dead_by_state (rows_in (word z r.world)) r.ledger.rows q m i.rows.states (ap state_seen e) in
+          subst (IsDeadState r.ledger.rows q) (ap state_seen e) (framed.dead_state (rows_in (word z r.world)) r.ledger.rows q i.rows.states d)
 
-  -- it has looked at one pass more, which was none, or began after the number was drawn
+  -- it has looked at one visit more, which was none, or began after the number was drawn
   looks_further : (j : ℕ) (b : Activity) → Happens z r r' s choice l l' (Activity.Rebalance (Rebalance.Seek (Seek.Pass j))) → Shape z r → IsYoung l.rebalance.number (pass_of_word (word z r.world (name.Pass j))) → IsAsking b → (IsTaking b → ⊥) → ((u : ℕ) → u < z.seats → HasLooked b u → u < j + 1) → Sought z (word z r'.world) r'.ledger.rows s b (record l { activity = b })
   looks_further j b h i y o n f = record {
     drawn = λ c. known.drawn tt;
@@ -393,8 +393,8 @@ module _ {z : Sizes} {r r' : Run} {s : ℕ} {choice : Choice} {l l' : Local} whe
     taken = λ c. absurd (n c);
   }
     where
-      on : (since : ℕ) × (r.ledger.rows.passes s ≡ Some since)
-      on = let q = (i.passes s l h.knows).in_pass (subst IsPassing (sym h.activity) tt) in (q.since, q.passes)
+      on : (since : ℕ) × (r.ledger.rows.visits s ≡ Some since)
+      on = let q = (i.visits s l h.knows).in_visit (subst IsVisiting (sym h.activity) tt) in (q.since, q.visits)
 
       known : Sought z (word z r'.world) r'.ledger.rows s (Activity.Rebalance (Rebalance.Seek (Seek.Pass j))) l
       known = stays_known (Activity.Rebalance (Rebalance.Seek (Seek.Pass j))) h i s on.0 (Activity.Rebalance (Rebalance.Seek (Seek.Pass j))) l on.1 (others_stay (Activity.Rebalance (Rebalance.Seek (Seek.Pass j))) h s (λ c e. c)) (sought_at (Activity.Rebalance (Rebalance.Seek (Seek.Pass j))) h i)
@@ -402,8 +402,8 @@ module _ {z : Sizes} {r r' : Run} {s : ℕ} {choice : Choice} {l l' : Local} whe
       kept : r'.ledger.rows.numbered l.rebalance.number ≡ r.ledger.rows.numbered l.rebalance.number
       kept = numbers_stay (Activity.Rebalance (Rebalance.Seek (Seek.Pass j))) h (λ c. c) l.rebalance.number
 
-      which : (u since at : ℕ) → u < z.seats → r'.ledger.rows.passes u ≡ Some since → r'.ledger.rows.numbered l.rebalance.number ≡ Some at → u < j + 1 → (u ≡ j) ⊎ (u ≡ j → ⊥) → at < since
-      which u since at w q m c (inl d) = looked j h i y since at (ap r.ledger.rows.passes (sym d) ∙ sym (others_stay (Activity.Rebalance (Rebalance.Seek (Seek.Pass j))) h u (λ c e. c)) ∙ q) (sym kept ∙ m)
+      which : (u since at : ℕ) → u < z.seats → r'.ledger.rows.visits u ≡ Some since → r'.ledger.rows.numbered l.rebalance.number ≡ Some at → u < j + 1 → (u ≡ j) ⊎ (u ≡ j → ⊥) → at < since
+      which u since at w q m c (inl d) = looked j h i y since at (ap r.ledger.rows.visits (sym d) ∙ sym (others_stay (Activity.Rebalance (Rebalance.Seek (Seek.Pass j))) h u (λ c e. c)) ∙ q) (sym kept ∙ m)
       which u since at w q m c (inr d) = known.young u since at w (omega (arith, c, d)) q m
 
   -- it has freed the row, or tried to
@@ -416,8 +416,8 @@ module _ {z : Sizes} {r r' : Run} {s : ℕ} {choice : Choice} {l l' : Local} whe
   }
     where
       lost : r'.ledger ≡ r.ledger → (word z r.world (name.State l.rebalance.sought) ≢ state_word (state.Retired l.rebalance.number)) → ((rows_in (word z r.world)).state l.rebalance.sought ≡ row.Retired l.rebalance.number) ⊎ WasHeld r.ledger.rows s l.rebalance.sought → WasHeld r'.ledger.rows s l.rebalance.sought
-      lost e n (inl f) = absurd (n (sym (state_word_of (word z r.world (name.State l.rebalance.sought)) (state.Retired l.rebalance.number) (retired_met (state_of (word z r.world (name.State l.rebalance.sought))) l.rebalance.number f))))
-      lost e n (inr w) = held_still r.ledger.rows r'.ledger.rows s l.rebalance.sought w (ap (λ (g : ledger.Ledger). g.rows.fates l.rebalance.sought) e) (ap (λ (g : ledger.Ledger). g.rows.passes s) e)
+      lost e n (inl f) = absurd (n (sym (state_word_of (word z r.world (name.State l.rebalance.sought)) (state.Retired l.rebalance.number) (retired_seen (state_of (word z r.world (name.State l.rebalance.sought))) l.rebalance.number f))))
+      lost e n (inr w) = held_still r.ledger.rows r'.ledger.rows s l.rebalance.sought w (ap (λ (g : ledger.Ledger). g.rows.fates l.rebalance.sought) e) (ap (λ (g : ledger.Ledger). g.rows.visits s) e)
 
       which : (word z r.world (name.State l.rebalance.sought) ≡ state_word (state.Retired l.rebalance.number)) ⊎ (word z r.world (name.State l.rebalance.sought) ≡ state_word (state.Retired l.rebalance.number) → ⊥) → IsDead r'.ledger.rows l.rebalance.sought → WasHeld r'.ledger.rows s l.rebalance.sought
       which (inl e) d = linked_not_free r'.ledger.rows l.rebalance.sought (inr d) (ap (λ (f : Fate). f.status) (fate_of_freed h e))
@@ -473,7 +473,7 @@ fresh_late z r i t q n k g f e = which f (cases_lt n k.epoch)
 
     which : IsFresh r.ledger.rows t q → (n < k.epoch) ⊎ (k.epoch ≤ n) → k.epoch ≤ n
     which (inl a) o = let x : Live ≡ Dead = sym a ∙ dead in absurd (cc)
-    which (inr w) (inl o) = absurd (omega (arith, w.before, number.after, (i.passes t k g).before n number.at w.since o number.drawn w.passes))
+    which (inr w) (inl o) = absurd (omega (arith, w.before, number.after, (i.visits t k g).before n number.at w.since o number.drawn w.visits))
     which (inr w) (inr o) = o
 
 -- so is that of a row that a seat tries to take

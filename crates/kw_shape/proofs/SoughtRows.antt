@@ -14,7 +14,7 @@ use Rattle.kw_world.specs.declared.event.Choice.TheVariants.{Begin, Go, Guess, S
 use Rattle.kw_world.specs.declared.local.Local.{Local}
 use Rattle.kw_world.specs.declared.rebalance.Afterwards.{Afterwards}
 use Rattle.kw_world.specs.Sane.{IsOffered, IsTakingRows, IsSane}
-use Rattle.kw_world.specs.SeekTransitions.{row_behind, pass_met, seek_first_transition, seek_met, take_row, to_pass, to_seek, with_row}
+use Rattle.kw_world.specs.SeekTransitions.{row_behind, pass_seen, seek_first_transition, seek_seen, take_row, to_pass, to_seek, with_row}
 use Rattle.kw_world.specs.Sizes.{Sizes}
 use Rattle.kw_world.specs.Step.{word}
 use Rattle.kw_world.specs.Transition.{Outcome}
@@ -103,24 +103,24 @@ module _ (rows : ℕ) (some : 0 < rows) where
   kept_sought z v choice l a k (retires_and_leaves dn) n i = record { sought = some; asked = omega arith }
   kept_sought z v choice l a k _ n i = assumption i
 
-  -- a search that meets a state
-  met_sought : (x : Option State) (l : Local) → IsSoughtIn rows l → IsSoughtIn rows (seek_met rows x l).local
-  met_sought (Some Free) l i = assumption i
-  met_sought (Some (Infant seat)) l i = seek_sought l _ (next_seek rows l) i
-  met_sought (Some Normal) l i = seek_sought l _ (next_seek rows l) i
-  met_sought (Some (Leader count)) l i = seek_sought l _ (next_seek rows l) i
-  met_sought (Some (Follower leader)) l i = seek_sought l _ (next_seek rows l) i
-  met_sought (Some (Retired number)) l i = assumption i
-  met_sought None l i = seek_sought l _ (next_seek rows l) i
+  -- a search that sees a state
+  seen_sought : (x : Option State) (l : Local) → IsSoughtIn rows l → IsSoughtIn rows (seek_seen rows x l).local
+  seen_sought (Some Free) l i = assumption i
+  seen_sought (Some (Infant seat)) l i = seek_sought l _ (next_seek rows l) i
+  seen_sought (Some Normal) l i = seek_sought l _ (next_seek rows l) i
+  seen_sought (Some (Leader count)) l i = seek_sought l _ (next_seek rows l) i
+  seen_sought (Some (Follower leader)) l i = seek_sought l _ (next_seek rows l) i
+  seen_sought (Some (Retired number)) l i = assumption i
+  seen_sought None l i = seek_sought l _ (next_seek rows l) i
 
   first_sought : (choice : Choice) (l : Local) (w : ℕ) → IsOffered rows choice → IsSoughtIn rows l → IsSoughtIn rows ((seek_first_transition choice l).next rows w).local
-  first_sought (Begin call) l w o i = met_sought (state_of w) l i
-  first_sought Go l w o i = met_sought (state_of w) l i
-  first_sought (Guess q) l w o i = met_sought (state_of w) _ (record { sought = o; asked = i.asked })
-  first_sought Stop l w o i = met_sought (state_of w) l i
+  first_sought (Begin call) l w o i = seen_sought (state_of w) l i
+  first_sought Go l w o i = seen_sought (state_of w) l i
+  first_sought (Guess q) l w o i = seen_sought (state_of w) _ (record { sought = o; asked = i.asked })
+  first_sought Stop l w o i = seen_sought (state_of w) l i
 
-  -- one that meets a pass
-  passed_sought : (z : Sizes) (j : ℕ) (x : Option ℕ) (l : Local) → IsSoughtIn rows l → IsSoughtIn rows (pass_met z j rows x l).local
+  -- one that sees a visit
+  passed_sought : (z : Sizes) (j : ℕ) (x : Option ℕ) (l : Local) → IsSoughtIn rows l → IsSoughtIn rows (pass_seen z j rows x l).local
   passed_sought z j (Some epoch) l i = which (nat_le epoch l.rebalance.number)
     where
       which : (b : Bool) → IsSoughtIn rows (let x : Outcome = if b then to_seek rows l else to_pass z (j + 1) l in x).local
@@ -145,7 +145,7 @@ sought_in {z} {r} {r'} {s} {choice} {l} {l'} a b h sane = by a h b
 
     by : (a : Activity) → Happens z r r' s choice l l' a → IsBuilding a → IsSoughtIn r.world.rows l'
     by (Activity.Rebalance (Rebalance.Seek Seek.First)) h b = subst (IsSoughtIn r.world.rows) (sym h.next) (first_sought r.world.rows some choice l _ h.offers now)
-    by (Activity.Rebalance (Rebalance.Seek Seek.Next)) h b = subst (IsSoughtIn r.world.rows) (sym h.next) (met_sought r.world.rows some (state_of (word z r.world (name.State l.rebalance.sought))) l now)
+    by (Activity.Rebalance (Rebalance.Seek Seek.Next)) h b = subst (IsSoughtIn r.world.rows) (sym h.next) (seen_sought r.world.rows some (state_of (word z r.world (name.State l.rebalance.sought))) l now)
     by (Activity.Rebalance (Rebalance.Seek (Seek.Pass i))) h b = subst (IsSoughtIn r.world.rows) (sym h.next) (passed_sought r.world.rows some z i (pass_of_word (word z r.world (name.Pass i))) l now)
     by (Activity.Rebalance (Rebalance.Seek Seek.Reclaim)) h b = subst (IsSoughtIn r.world.rows) (sym h.next) (assumption now)
     by (Activity.Rebalance (Rebalance.Seek Seek.Take)) h b = subst (IsSoughtIn r.world.rows) (sym h.next) (take_sought r.world.rows some (word z r.world (name.State l.rebalance.sought) == state_word Free) l now)

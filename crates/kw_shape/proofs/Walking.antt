@@ -21,9 +21,9 @@ use Rattle.kw_core.specs.Words.{Words, next_in, least_in}
 use Rattle.kw_rows.specs.Ledger.{Ledger, IsFresh, IsLive}
 use Rattle.kw_rows.specs.Structure.{Structure}
 use Rattle.kw_rows.proofs.Named.{above_least, ends_at, ends_nowhere, fresh_next, held_by, normal_live}
-use Rattle.kw_shape.specs.RowsIn.{rows_in, state_met}
+use Rattle.kw_shape.specs.RowsIn.{rows_in, state_seen}
 use Rattle.kw_shape.specs.Shape.{IsAtItsRow, IsOnWalk, Walks}
-use Rattle.kw_core.proofs.Arrows.{Arrow, enters, settles, starts_at_head, guesses, guess_fails, takes_head, guess_serves, guess_is_above, puts_in_last, reads_last, meets_next, walks_on, puts_before, reads_before, meets_pending, meets_stamped, meets_neither, is_wanted, is_passed, loads_to_help, helps, finds_stamped, finds_other, list_leads, list_ends, key_below, key_within, key_above, loads_version, gathers_listed, rest_wanted, rest_passed, gathers_rest, finds_room, takes_cell, stores_key, stores_value, announces, loads_clock, stamps, is_stamped, stores_version, meets_cell, meets_none, key_before, key_same, key_after, version_before, version_after, stores_after, inserts, loses, NextLook, looks, lists, NextRest, rests, answers, ends_scan, scans_on, builds}
+use Rattle.kw_core.proofs.Arrows.{Arrow, enters, settles, starts_at_head, guesses, guess_fails, takes_head, guess_serves, guess_is_above, puts_in_last, reads_last, reaches_next, walks_on, puts_before, reads_before, sees_pending, sees_stamped, sees_neither, is_wanted, is_gone_by, loads_to_help, helps, finds_stamped, finds_other, list_leads, list_ends, key_below, key_within, key_above, loads_version, gathers_listed, left_over_wanted, left_over_gone_by, gathers_left_over, finds_room, takes_cell, stores_key, stores_value, announces, loads_clock, stamps, is_stamped, stores_version, reaches_cell, sees_none, key_before, key_same, key_after, version_before, version_after, stores_after, inserts, loses, NextLook, looks, lists, NextLeftOver, goes_to_left_over, answers, ends_scan, scans_on, builds}
 use Rattle.kw_core.proofs.BuiltNext.{built_next}
 use Rattle.kw_shape.proofs.AfterBuilding.{after_walks}
 
@@ -83,8 +83,8 @@ module _ (v : Words) (g : Ledger) (t : ℕ) where
   look_stays z j a l next k (lists o) x row lower want after upper call w = stays a l (Activity.Read Read.Link) k x tt row lower want after upper call w
 
   -- the next cell of a reader, or the next row of a scan
-  cell_goes : (a : Activity) (l : Local) (k next : Local) → NextRest k next → IsAtRow a → k.row ≡ l.row → k.lower ≡ l.lower → k.want ≡ l.want → k.next ≡ l.next → k.upper ≡ l.upper → k.call ≡ l.call → Walks v g t a l → Walks v g t next.activity next
-  cell_goes a l k next (rests m o) x row lower want after upper call w = stays a l (Activity.Read Read.LeftOverKey) next x tt row lower want after upper call w
+  cell_goes : (a : Activity) (l : Local) (k next : Local) → NextLeftOver k next → IsAtRow a → k.row ≡ l.row → k.lower ≡ l.lower → k.want ≡ l.want → k.next ≡ l.next → k.upper ≡ l.upper → k.call ≡ l.call → Walks v g t a l → Walks v g t next.activity next
+  cell_goes a l k next (goes_to_left_over m o) x row lower want after upper call w = stays a l (Activity.Read Read.LeftOverKey) next x tt row lower want after upper call w
   cell_goes a l k next (answers o n) x row lower want after upper call w = nowhere _ next (λ u. u) (λ u. u) (λ u. u) tt
   cell_goes a l k next (ends_scan o y n) x row lower want after upper call w = nowhere _ next (λ u. u) (λ u. u) (λ u. u) tt
   cell_goes a l k next (scans_on q o y n u) x row lower want after upper call w =
@@ -145,8 +145,8 @@ module _ (v : Words) (g : Ledger) (t : ℕ) {now : ℕ} (rows : Structure (rows_
       }
 
   -- at the row after one, which begins where the range of that one ends
-  meets : (l : Local) (q : ℕ) → next_in v l.row ≡ Some q → Walks v g t (Activity.Walk Walk.Next) l → Walks v g t (Activity.Walk Walk.NextLeast) (record l { candidate = q; activity = Activity.Walk Walk.NextLeast })
-  meets l q n w = record {
+  reaches : (l : Local) (q : ℕ) → next_in v l.row ≡ Some q → Walks v g t (Activity.Walk Walk.Next) l → Walks v g t (Activity.Walk Walk.NextLeast) (record l { candidate = q; activity = Activity.Walk Walk.NextLeast })
+  reaches l q n w = record {
     on = (w.on.0, w.on.1, fresh_next (rows_in v) g rows.closed t l.row q w.on.0 n, ends_at (rows_in v) g rows.closed l.row q (held_by g t l.row w.on.0) n);
     lower = λ u. w.lower tt;
     at = λ u. absurd u;
@@ -154,7 +154,7 @@ module _ (v : Words) (g : Ledger) (t : ℕ) {now : ℕ} (rows : Structure (rows_
     wants = λ u. w.wants tt;
   }
 
-  -- a scan that wants the minimum of its row does not walk on from there
+  -- a scan that wants the least key of its row does not walk on from there
   goes_beyond : (l : Local) → Walks v g t (Activity.Walk Walk.NextLeast) l → least_in v l.candidate ≤ l.want → l.want ≡ first_key l.call
   goes_beyond l w o = which (w.wants tt)
     where
@@ -168,22 +168,22 @@ walks_by z v g s choice l a l' (builds b next y t) c w = after_walks v g s next.
 walks_by z v g s choice l a l' (enters y) c w = record { on = tt; lower = λ q. absurd q; at = λ q. absurd q; begins = λ q. refl; wants = λ q. absurd q }
 walks_by z v g s choice l a l' (settles y) c w = record { on = tt; lower = λ q. absurd q; at = λ q. absurd q; begins = λ q. refl; wants = λ q. absurd q }
 walks_by z v g s choice l a l' starts_at_head c w = at_first v g s c _ refl refl (w.begins tt)
-walks_by z v g s choice l a l' (guesses q y n) c w = record { on = inl (normal_live (rows_in v) g q c.states (ap state_met n)); lower = λ u. absurd u; at = λ u. absurd u; begins = λ u. w.begins tt; wants = λ u. absurd u }
+walks_by z v g s choice l a l' (guesses q y n) c w = record { on = inl (normal_live (rows_in v) g q c.states (ap state_seen n)); lower = λ u. absurd u; at = λ u. absurd u; begins = λ u. w.begins tt; wants = λ u. absurd u }
 walks_by z v g s choice l a l' guess_fails c w = record { on = tt; lower = λ q. absurd q; at = λ u. absurd u; begins = λ u. w.begins tt; wants = λ u. absurd u }
 walks_by z v g s choice l a l' takes_head c w = at_first v g s c _ refl refl (w.begins tt)
 walks_by z v g s choice l a l' (guess_serves o) c w = record { on = (w.on, o); lower = λ u. refl; at = λ u. absurd u; begins = λ u. absurd u; wants = λ u. inl (w.begins tt) }
 walks_by z v g s choice l a l' (guess_is_above o) c w = record { on = tt; lower = λ q. absurd q; at = λ u. absurd u; begins = λ u. w.begins tt; wants = λ u. absurd u }
 walks_by z v g s choice l a l' (puts_in_last y n) c w = arrives_last v g s c (Activity.Put Put.Count) l _ tt n refl refl refl refl refl w
 walks_by z v g s choice l a l' (reads_last y n) c w = arrives_last v g s c (Activity.Look (Look.Entry 0)) l _ tt n refl refl refl refl refl w
-walks_by z v g s choice l a l' (meets_next q n) c w = meets v g s c l q n w
+walks_by z v g s choice l a l' (reaches_next q n) c w = reaches v g s c l q n w
 walks_by z v g s choice l a l' (walks_on o) c w = record { on = (w.on.2, o); lower = λ u. refl; at = λ u. absurd u; begins = λ u. absurd u; wants = λ u. inl (goes_beyond v g s c l w o) }
 walks_by z v g s choice l a l' (puts_before y o) c w = arrives_before v g s (Activity.Put Put.Count) l _ tt o refl refl refl refl refl refl w
 walks_by z v g s choice l a l' (reads_before y o) c w = arrives_before v g s (Activity.Look (Look.Entry 0)) l _ tt o refl refl refl refl refl refl w
-walks_by z v g s choice l a l' (meets_pending k x y) c w = stays v g s (Activity.Look (Look.Entry k)) l (Activity.Look Look.Key) _ tt tt refl refl refl refl refl refl w
-walks_by z v g s choice l a l' (meets_stamped k x version next y n) c w = look_stays v g s z _ (Activity.Look (Look.Entry k)) l next _ n tt refl refl refl refl refl refl w
-walks_by z v g s choice l a l' (meets_neither k next y n) c w = look_stays v g s z _ (Activity.Look (Look.Entry k)) l next _ n tt refl refl refl refl refl refl w
+walks_by z v g s choice l a l' (sees_pending k x y) c w = stays v g s (Activity.Look (Look.Entry k)) l (Activity.Look Look.Key) _ tt tt refl refl refl refl refl refl w
+walks_by z v g s choice l a l' (sees_stamped k x version next y n) c w = look_stays v g s z _ (Activity.Look (Look.Entry k)) l next _ n tt refl refl refl refl refl refl w
+walks_by z v g s choice l a l' (sees_neither k next y n) c w = look_stays v g s z _ (Activity.Look (Look.Entry k)) l next _ n tt refl refl refl refl refl refl w
 walks_by z v g s choice l a l' (is_wanted y) c w = stays v g s (Activity.Look Look.Key) l (Activity.Look Look.Clock) _ tt tt refl refl refl refl refl refl w
-walks_by z v g s choice l a l' (is_passed next y n) c w = look_stays v g s z _ (Activity.Look Look.Key) l next _ n tt refl refl refl refl refl refl w
+walks_by z v g s choice l a l' (is_gone_by next y n) c w = look_stays v g s z _ (Activity.Look Look.Key) l next _ n tt refl refl refl refl refl refl w
 walks_by z v g s choice l a l' loads_to_help c w = stays v g s (Activity.Look Look.Clock) l (Activity.Look Look.Help) _ tt tt refl refl refl refl refl refl w
 walks_by z v g s choice l a l' (helps next y n) c w = look_stays v g s z _ (Activity.Look Look.Help) l next _ n tt refl refl refl refl refl refl w
 walks_by z v g s choice l a l' (finds_stamped x version next y n) c w = look_stays v g s z _ (Activity.Look Look.Help) l next _ n tt refl refl refl refl refl refl w
@@ -194,10 +194,10 @@ walks_by z v g s choice l a l' (key_below y) c w = stays v g s (Activity.Read Re
 walks_by z v g s choice l a l' (key_within y u) c w = stays v g s (Activity.Read Read.Key) l (Activity.Read Read.Version) _ tt tt refl refl refl refl refl refl w
 walks_by z v g s choice l a l' loads_version c w = stays v g s (Activity.Read Read.Version) l (Activity.Read Read.Value) _ tt tt refl refl refl refl refl refl w
 walks_by z v g s choice l a l' gathers_listed c w = stays v g s (Activity.Read Read.Value) l (Activity.Read Read.Link) _ tt tt refl refl refl refl refl refl w
-walks_by z v g s choice l a l' (rest_wanted y) c w = stays v g s (Activity.Read Read.LeftOverKey) l (Activity.Read Read.LeftOverValue) _ tt tt refl refl refl refl refl refl w
+walks_by z v g s choice l a l' (left_over_wanted y) c w = stays v g s (Activity.Read Read.LeftOverKey) l (Activity.Read Read.LeftOverValue) _ tt tt refl refl refl refl refl refl w
 walks_by z v g s choice l a l' (key_above next y n) c w = cell_goes v g s (Activity.Read Read.Key) l _ next n tt refl refl refl refl refl refl w
-walks_by z v g s choice l a l' (rest_passed next y n) c w = cell_goes v g s (Activity.Read Read.LeftOverKey) l _ next n tt refl refl refl refl refl refl w
-walks_by z v g s choice l a l' (gathers_rest next n) c w = cell_goes v g s (Activity.Read Read.LeftOverValue) l _ next n tt refl refl refl refl refl refl w
+walks_by z v g s choice l a l' (left_over_gone_by next y n) c w = cell_goes v g s (Activity.Read Read.LeftOverKey) l _ next n tt refl refl refl refl refl refl w
+walks_by z v g s choice l a l' (gathers_left_over next n) c w = cell_goes v g s (Activity.Read Read.LeftOverValue) l _ next n tt refl refl refl refl refl refl w
 walks_by z v g s choice l a l' (finds_room y) c w = stays v g s (Activity.Put Put.Count) l (Activity.Put Put.Add) _ tt tt refl refl refl refl refl refl w
 walks_by z v g s choice l a l' (takes_cell y) c w = stays v g s (Activity.Put Put.Add) l (Activity.Put Put.Key) _ tt tt refl refl refl refl refl refl w
 walks_by z v g s choice l a l' stores_key c w = stays v g s (Activity.Put Put.Key) l (Activity.Put Put.Value) _ tt tt refl refl refl refl refl refl w
@@ -207,8 +207,8 @@ walks_by z v g s choice l a l' loads_clock c w = stays v g s (Activity.Put Put.C
 walks_by z v g s choice l a l' (stamps y) c w = stays v g s (Activity.Put Put.Stamp) l (Activity.Put Put.Version) _ tt tt refl refl refl refl refl refl w
 walks_by z v g s choice l a l' (is_stamped version y) c w = stays v g s (Activity.Put Put.Stamp) l (Activity.Put Put.Version) _ tt tt refl refl refl refl refl refl w
 walks_by z v g s choice l a l' stores_version c w = stays v g s (Activity.Put Put.Version) l (Activity.Insert Insert.Link) _ tt tt refl refl refl refl refl refl w
-walks_by z v g s choice l a l' (meets_cell x y) c w = stays v g s (Activity.Insert Insert.Link) l (Activity.Insert Insert.Key) _ tt tt refl refl refl refl refl refl w
-walks_by z v g s choice l a l' (meets_none y) c w = stays v g s (Activity.Insert Insert.Link) l (Activity.Insert Insert.Set) _ tt tt refl refl refl refl refl refl w
+walks_by z v g s choice l a l' (reaches_cell x y) c w = stays v g s (Activity.Insert Insert.Link) l (Activity.Insert Insert.Key) _ tt tt refl refl refl refl refl refl w
+walks_by z v g s choice l a l' (sees_none y) c w = stays v g s (Activity.Insert Insert.Link) l (Activity.Insert Insert.Set) _ tt tt refl refl refl refl refl refl w
 walks_by z v g s choice l a l' (key_before y) c w = stays v g s (Activity.Insert Insert.Key) l (Activity.Insert Insert.Link) _ tt tt refl refl refl refl refl refl w
 walks_by z v g s choice l a l' (key_same y) c w = stays v g s (Activity.Insert Insert.Key) l (Activity.Insert Insert.Version) _ tt tt refl refl refl refl refl refl w
 walks_by z v g s choice l a l' (key_after y) c w = stays v g s (Activity.Insert Insert.Key) l (Activity.Insert Insert.Set) _ tt tt refl refl refl refl refl refl w

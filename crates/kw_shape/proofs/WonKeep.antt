@@ -27,7 +27,7 @@ use Rattle.kw_world.specs.Step.{word}
 use Rattle.kw_world.specs.Transition.{row_or_first}
 use Rattle.kw_world.specs.WriteTransitions.{unmarked_link}
 use Rattle.kw_core.specs.Run.{Run}
-use Rattle.kw_core.specs.Stages.{IsBalancing, IsPassing}
+use Rattle.kw_core.specs.Stages.{IsBalancing, IsVisiting}
 use Rattle.kw_core.specs.Words.{Words, least_in}
 use Rattle.kw_core.proofs.Arrows.{Arrow}
 use Rattle.kw_core.proofs.Building.{Building, first_is_taken, sought_is_taken, pass_is_old, pass_is_young, takes_row, loses_row, gives_last_back, writes_first, writes_entry, writes_after, begins_before, takes_head_before, leads_on_marked, leads_nowhere, walks_past, replaces_row, is_marked_before, is_replaced, makes_normal, makes_last_normal, draws_number, marked_link}
@@ -38,7 +38,7 @@ use Rattle.kw_shape.proofs.Comings.{Comes, comes, goes_on, seeks, stays_out, won
 use Rattle.kw_shape.proofs.InfantsRely.{linked_not_infant}
 use Rattle.kw_shape.proofs.LinkedRows.{balance_at, fresh_linked, held_dead, infants_at, linked_keeps}
 use Rattle.kw_shape.proofs.RowsKeep.{own_rely, others_kept, rely_rows, won_at}
-use Rattle.kw_shape.proofs.PassesKeep.{old_number}
+use Rattle.kw_shape.proofs.VisitsKeep.{old_number}
 use Rattle.kw_shape.specs.Infants.{Infants}
 use Rattle.kw_shape.specs.RowsIn.{has_mark}
 use Rattle.kw_shape.specs.Search.{Search}
@@ -131,7 +131,7 @@ module _ (v : Words) (g : Ledger) (t : ℕ) (l : Local) where
   given_moves c e next (was_served dn) x f = absurd x
   given_moves c e next moves_left x f = f refl
 
-  -- a mark in the link of the head is met nowhere
+  -- a mark in the link of the head is seen nowhere
   marked_moves : (b : Option ℕ) → l.rebalance.before ≡ b → link_of (v (replaced_link b)) ≡ Some (marked_link (Some l.row)) → (link_of (v name.Head) ≡ Some (marked_link (Some l.row)) → ⊥) → Search v g t (Activity.Rebalance (Rebalance.Replace Replace.Exchange)) l → (next : Local) → NextBack MoveLeft l next → IsClock next.activity → Moves v g t next
   marked_moves (Some p) e k head s next y x = back_moves p e (s.fresh p tt e) (s.least p tt e) next y x
   marked_moves None e k head s next y x = absurd (head k)
@@ -177,11 +177,11 @@ retire_won : (a : Activity) → IsRetiring a → HasWon a
 retire_won (Activity.Rebalance (Rebalance.Replace Replace.Retire)) x = tt
 retire_won _ x = absurd x
 
-won_passes : (a : Activity) → HasWon a → IsPassing a
-won_passes (Activity.Rebalance (Rebalance.Replace Replace.Normalise)) x = tt
-won_passes (Activity.Rebalance (Rebalance.Replace Replace.Number)) x = tt
-won_passes (Activity.Rebalance (Rebalance.Replace Replace.Retire)) x = tt
-won_passes _ x = absurd x
+won_visits : (a : Activity) → HasWon a → IsVisiting a
+won_visits (Activity.Rebalance (Rebalance.Replace Replace.Normalise)) x = tt
+won_visits (Activity.Rebalance (Rebalance.Replace Replace.Number)) x = tt
+won_visits (Activity.Rebalance (Rebalance.Replace Replace.Retire)) x = tt
+won_visits _ x = absurd x
 
 -- it rebalances its row
 pub won_balances : (a : Activity) → HasWon a → IsBalancing a
@@ -320,7 +320,7 @@ module _ {z : Sizes} {r r' : Run} {s : ℕ} {choice : Choice} {l l' : Local} whe
   pub won_other : (a : Activity) → Happens z r r' s choice l l' a → Shape z r → (t : ℕ) (k : Local) → t ≢ s → slice_get r.world.locals t ≡ Some k → Won r'.ledger.rows t k.activity k
   won_other a h i t k d g = record {
     hand = w.hand;
-    fresh = λ x j q f. let p = (i.passes t k g).in_pass (won_passes k.activity (normal_won k.activity x)) in (rely_rows a h i t p.since p.passes (others_kept a h t d ∙ p.passes)).fresh q (w.fresh x j q f);
+    fresh = λ x j q f. let p = (i.visits t k g).in_visit (won_visits k.activity (normal_won k.activity x)) in (rely_rows a h i t p.since p.visits (others_kept a h t d ∙ p.visits)).fresh q (w.fresh x j q f);
     dead = λ x. still_dead a h i k.row (held x) (w.dead x);
     owner = λ x. still_owner a h i t k.row (held x) (w.dead x) (w.owner x);
     number = λ x. let y = retire_won k.activity x in still_numbered a h i k.row k.rebalance.number (held y) (w.dead y) (w.number x);

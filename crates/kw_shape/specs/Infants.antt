@@ -155,7 +155,7 @@ HasAfter _ j = Unit {0}
 -- do this
 pub record Written (z : Sizes) (v : Words) (a : Activity) (l : Local) (q : ℕ) : Type 0 where
   pub count : HasCount a → v (name.Count q) ≡ count_word (infant_count l)
-  pub least : HasLeast a → v (name.Min q) ≡ key_word (infant_least l)
+  pub least : HasLeast a → v (name.Least q) ≡ key_word (infant_least l)
   pub next : HasNext a → v (name.Next q) ≡ link_word (infant_link l)
   pub first : HasFirst a → v (name.First q) ≡ cell_link_word (first_listed (infant_cells l))
   pub entries : (i : ℕ) → i < z.seats → HasEntry a i → v (name.Pend q i) ≡ pend_word pend.Idle

@@ -68,11 +68,11 @@ HasMarks (Activity.Rebalance (Rebalance.Freeze (Freeze.Settle i))) = Unit {0}
 HasMarks (Activity.Rebalance (Rebalance.Gather _)) = Unit {0}
 HasMarks _ = ⊥
 
--- it has met the cell at hand, and has not loaded its key
-abbrev pub HasMetCell : Activity → Type 0
-HasMetCell (Activity.Rebalance (Rebalance.Gather Gather.Key)) = Unit {0}
-HasMetCell (Activity.Rebalance (Rebalance.Gather Gather.LeftOverKey)) = Unit {0}
-HasMetCell _ = ⊥
+-- it has reached the cell at hand, and has not loaded its key
+abbrev pub HasReachedCell : Activity → Type 0
+HasReachedCell (Activity.Rebalance (Rebalance.Gather Gather.Key)) = Unit {0}
+HasReachedCell (Activity.Rebalance (Rebalance.Gather Gather.LeftOverKey)) = Unit {0}
+HasReachedCell _ = ⊥
 
 -- it has
 abbrev pub HasKeyInHand : Activity → Type 0
@@ -95,6 +95,6 @@ pub record Keys (v : Words) (g : Ledger) (a : Activity) (l : Local) : Type 0 whe
   pub own : HasOwnKey a → HoldsCell v g l.row l.cell
   pub held : HasHeldCell a → (c : ℕ) → l.held ≡ Some c → HoldsCell v g l.row c
   pub marks : HasMarks a → All (λ m. HoldsCell v g l.row m.cell) l.rebalance.marks
-  pub met : HasMetCell a → HoldsCell v g l.row l.place
+  pub saw : HasReachedCell a → HoldsCell v g l.row l.place
   pub key : HasKeyInHand a → rows.HoldsKey (rows_in v) g l.row l.place_key
   pub gathered : HasGathered a → All (λ c. rows.HoldsKey (rows_in v) g l.row c.key) l.rebalance.gathered

@@ -1,10 +1,10 @@
 pub mod Rooms
 pub mod RowsIn
-pub mod Passes
+pub mod Visits
 pub mod Sought
 pub mod Balances
 pub mod Shape
-pub mod MetRows
+pub mod ReachedRows
 pub mod Infants
 pub mod Search
 pub mod Epochs

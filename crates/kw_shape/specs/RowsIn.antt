@@ -27,14 +27,14 @@ has_frozen (Some count) = count.frozen
 has_frozen None = false
 
 -- the state that stands in a word of a row
-abbrev pub state_met : Option State → row.State
-state_met (Some Free) = row.Free
-state_met (Some (Infant seat)) = row.Infant seat
-state_met (Some Normal) = row.Normal
-state_met (Some (Leader count)) = row.Leader count
-state_met (Some (Follower leader)) = row.Follower leader
-state_met (Some (Retired number)) = row.Retired number
-state_met None = row.Free
+abbrev pub state_seen : Option State → row.State
+state_seen (Some Free) = row.Free
+state_seen (Some (Infant seat)) = row.Infant seat
+state_seen (Some Normal) = row.Normal
+state_seen (Some (Leader count)) = row.Leader count
+state_seen (Some (Follower leader)) = row.Follower leader
+state_seen (Some (Retired number)) = row.Retired number
+state_seen None = row.Free
 
 -- the rows of a world
 abbrev pub rows_in : Words → Rows
@@ -44,5 +44,5 @@ rows_in v = record {
   marked = λ q. has_mark (link_of (v (name.Next q)));
   frozen = λ q. has_frozen (count_of (v (name.Count q)));
   least = least_in v;
-  state = λ q. state_met (state_of (v (name.State q)));
+  state = λ q. state_seen (state_of (v (name.State q)));
 }

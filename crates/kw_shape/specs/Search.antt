@@ -41,10 +41,10 @@ HasBefore (Activity.Rebalance (Rebalance.Replace Replace.NextLeast)) l = Unit {0
 HasBefore (Activity.Rebalance (Rebalance.Seek Seek.GiveBack)) l = l.rebalance.afterwards ≡ MoveLeft
 HasBefore _ l = ⊥
 
--- it has met a row behind that one
-abbrev pub HasMetNext : Activity → Type 0
-HasMetNext (Activity.Rebalance (Rebalance.Replace Replace.NextLeast)) = Unit {0}
-HasMetNext _ = ⊥
+-- it has reached a row behind that one
+abbrev pub HasReachedNext : Activity → Type 0
+HasReachedNext (Activity.Rebalance (Rebalance.Replace Replace.NextLeast)) = Unit {0}
+HasReachedNext _ = ⊥
 
 -- the row is before the full one: its least key is below that one's, or the full row is dead and
 -- its least key is 0
@@ -52,10 +52,10 @@ abbrev pub IsLeft : Words → Ledger → Local → ℕ → Type 0
 IsLeft v g l p = (least_in v p < l.lower) ⊎ IsDead g l.row × (l.lower ≡ 0)
 
 -- the seat may name the row, knows its least key, and it is before the full one; the seat may name
--- the row that it has met behind it
+-- the row that it has reached behind it
 pub record Search (v : Words) (g : Ledger) (t : ℕ) (a : Activity) (l : Local) : Type 0 where
   pub some : HasBefore a l → (p : ℕ) × (l.rebalance.before ≡ Some p)
   pub fresh : (p : ℕ) → IsSearching a l → l.rebalance.before ≡ Some p → IsFresh g t p
   pub least : (p : ℕ) → IsMeasured a l → l.rebalance.before ≡ Some p → l.rebalance.least ≡ least_in v p
   pub left : (p : ℕ) → IsMeasured a l → l.rebalance.before ≡ Some p → IsLeft v g l p
-  pub met : HasMetNext a → IsFresh g t l.candidate
+  pub saw : HasReachedNext a → IsFresh g t l.candidate

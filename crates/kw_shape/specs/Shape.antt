@@ -1,6 +1,6 @@
 -- What holds of the rows and of where each seat is: the rows as a list, the room in the counts,
 -- which activities a call has, and at which row a seat walks. A seat names rows that are in the
--- list, or were so in its pass (`IsFresh`, of `kw_rows`).
+-- list, or were so in its visit (`IsFresh`, of `kw_rows`).
 --
 -- The words are a function of names here, so that a fact says what it reads.
 use Rattle.std.specs.Prelude.{ℕ, ◌≡◌, ◌⊎◌, ◌+◌, ◌*◌, ◌<◌, ◌≤◌, true, Option, Some, None, length, slice_get}
@@ -33,7 +33,7 @@ use Rattle.kw_rows.specs.Rows.{WasLinked}
 use Rattle.kw_rows.specs.Structure.{Structure}
 use Rattle.kw_shape.specs.Rooms.{adders, drawers}
 use Rattle.kw_shape.specs.RowsIn.{rows_in}
-use Rattle.kw_shape.specs.Passes.{Passes, Numbers}
+use Rattle.kw_shape.specs.Visits.{Visits, Numbers}
 use Rattle.kw_shape.specs.Balances.{Balances}
 use Rattle.kw_shape.specs.Epochs.{numberers}
 use Rattle.kw_shape.specs.Keyed.{Keyed, Keys}
@@ -45,13 +45,13 @@ use Rattle.kw_shape.specs.Won.{HasWon, Won}
 
 -- The rows.
 
--- the key is one that the row may hold: not below its minimum, and below the end of its range
+-- the key is one that the row may hold: not below its least key, and below the end of its range
 abbrev pub HoldsKey : Words → Ledger → ℕ → ℕ → Type 0
 HoldsKey v g q key = rows.HoldsKey (rows_in v) g q key
 
 -- Where a seat is.
 
--- the row n stands after the one of the seat, which knows its minimum: the range of its row ends
+-- the row n stands after the one of the seat, which knows its least key: the range of its row ends
 -- there, above the wanted key
 pub record IsAfterRow (v : Words) (g : Ledger) (t : ℕ) (l : Local) (n : ℕ) : Type 0 where
   pub fresh : IsFresh g t n
@@ -66,7 +66,7 @@ pub record IsAtItsRow (v : Words) (g : Ledger) (t : ℕ) (l : Local) : Type 0 wh
   pub last : l.next ≡ None → (g.fates l.row).upper ≡ None
   pub next : (n : ℕ) → l.next ≡ Some n → IsAfterRow v g t l n
 
--- the seat may name the row that its walk is on, whose minimum is at most the wanted key, and the
+-- the seat may name the row that its walk is on, whose least key is at most the wanted key, and the
 -- candidate, where the row's range ends
 abbrev pub IsOnWalk : Activity → Words → Ledger → ℕ → Local → Type 0
 IsOnWalk (Activity.Walk Walk.GuessedLeast) v g t l = IsFresh g t l.row
@@ -75,9 +75,9 @@ IsOnWalk (Activity.Walk Walk.NextLeast) v g t l = IsFresh g t l.row × (least_in
 IsOnWalk _ v g t l = Unit {0}
 
 -- what a seat's walk is at. A put, a delete or a get wants its key throughout; a scan wants its
--- first key, or the minimum of the row to which it went on. From the first row on the seat knows
--- the minimum of the row that it is at; as minima rise along the links, so does what it knows from
--- row to row, and the walk ends
+-- first key, or the least key of the row to which it went on. From the first row on the seat knows
+-- the least key of the row that it is at; as least keys rise along the links, so does what it knows
+-- from row to row, and the walk ends
 pub record Walks (v : Words) (g : Ledger) (t : ℕ) (a : Activity) (l : Local) : Type 0 where
   pub on : IsOnWalk a v g t l
   pub lower : IsPastStart a → l.lower ≡ least_in v l.row
@@ -181,11 +181,11 @@ pub record Shape (z : Sizes) (r : Run) : Type 0 where
   -- a seat that tidies, since its put was done before, rebalances its row, or is about to leave
   pub tidies : (t : ℕ) (l : Local) → slice_get r.world.locals t ≡ Some l → l.tidies ≡ true → IsBalancing l.activity ⊎ IsDone l.activity
   -- no seat tidies before so many rows were retired that the table has few for each number of the
-  -- seat's pass
+  -- seat's visit
   pub offered : (t : ℕ) (l : Local) → slice_get r.world.locals t ≡ Some l → l.tidies ≡ true → r.world.rows < TIDY_SHARE * l.epoch
-  pub passes : (t : ℕ) (l : Local) → slice_get r.world.locals t ≡ Some l → Passes (word z r.world) r.ledger.rows t l.activity l
-  -- a seat that the table does not have is in no pass
-  pub outside : (t : ℕ) → length r.world.locals ≤ t → r.ledger.rows.passes t ≡ None
+  pub visits : (t : ℕ) (l : Local) → slice_get r.world.locals t ≡ Some l → Visits (word z r.world) r.ledger.rows t l.activity l
+  -- a seat that the table does not have is in no visit
+  pub outside : (t : ℕ) → length r.world.locals ≤ t → r.ledger.rows.visits t ≡ None
   pub walks : (t : ℕ) (l : Local) → slice_get r.world.locals t ≡ Some l → Walks (word z r.world) r.ledger.rows t l.activity l
   pub balances : (t : ℕ) (l : Local) → slice_get r.world.locals t ≡ Some l → Balances (word z r.world) r.ledger.rows t l.activity l
   -- each seat knows keys of its row, what it has planned, the rows that it took, of which none is

@@ -13,7 +13,7 @@ ghost use Rattle.kw_shape.specs.Shape.{Shape};
 
 /// After every valid list of events from an opening the run has its shape: words and locals are in
 /// range, counts and the clock have room for what is asked of them, the rows have the structure of
-/// a list whose rows come and go, passes are on as the words say, and each seat is where its call
+/// a list whose rows come and go, visits are on as the words say, and each seat is where its call
 /// has it.
 pub fn shape_laws()
     ensures { (z : Sizes) (o : Opening) (events : List Event) → IsOpening z o → is_valid z o events ≡ true → Shape z (history z o events) }

@@ -103,9 +103,9 @@ go_still (suc n) s st h = ap (go n s) (still s st h) ∙ go_still n s st h
 
 -- Steps until one of a kind.
 
-pub until_met : (n : ℕ) (kind : Kind) (s : ℕ) (st next last : State) → next ≡ seat_step s st → is_kind kind (kind_at (next_event s st) st) ≡ true → until (suc n) kind s st ≡ last → next ≡ last
+pub until_seen : (n : ℕ) (kind : Kind) (s : ℕ) (st next last : State) → next ≡ seat_step s st → is_kind kind (kind_at (next_event s st) st) ≡ true → until (suc n) kind s st ≡ last → next ≡ last
 unfolding until
-until_met n kind s st next last is m h = is ∙ (sym (rw m refl) ∙ h)
+until_seen n kind s st next last is m h = is ∙ (sym (rw m refl) ∙ h)
 
 pub until_more : (n : ℕ) (kind : Kind) (s : ℕ) (st next last : State) → next ≡ seat_step s st → is_kind kind (kind_at (next_event s st) st) ≡ false → until (suc n) kind s st ≡ last → until n kind s next ≡ last
 unfolding until

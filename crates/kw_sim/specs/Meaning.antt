@@ -4,7 +4,7 @@ use Rattle.kw_model.specs.declared.call.Call.{Call}
 use Rattle.kw_model.specs.declared.call.Call.TheVariants.{Put, Get}
 use Rattle.kw_words.specs.declared.kind.Kind.{Kind}
 use Rattle.kw_words.specs.declared.sizes.TheConstants.{SEATS}
-use Rattle.kw_words.specs.Kind.{place_in_kinds}
+use Rattle.kw_words.specs.Kind.{index_in_kinds}
 use Rattle.kw_world.specs.declared.event.Event.{Event}
 use Rattle.kw_world.specs.declared.event.Choice.{Choice}
 use Rattle.kw_world.specs.declared.event.Choice.TheVariants.{Begin, Go, Guess, Stop}
@@ -103,7 +103,7 @@ go (suc n) s st = go n s (seat_step s st)
 
 -- an event of a kind was made
 abbrev pub is_kind : Kind → Option Kind → Bool
-is_kind kind (Some k) = place_in_kinds k == place_in_kinds kind
+is_kind kind (Some k) = index_in_kinds k == index_in_kinds kind
 is_kind kind None = false
 
 -- no event of the kind was made

@@ -143,18 +143,18 @@ impl Simulator {
         requires room { length self.old.trace.events + MOST_STEPS ≤ MOST_CALLS }
         ensures { OnOk result (self.new ≡ until MOST_STEPS kind seat self.old) }
     {
-        if self.meets(seat, kind)? {
+        if self.sees(seat, kind)? {
             return Ok(());
         }
         push_missed(&mut self.text)
     }
 
     /// Makes steps of a seat until one was of the kind, and tells whether one was.
-    fn meets(&mut self, seat: u32, kind: Kind) -> Result<bool, Memory>
+    fn sees(&mut self, seat: u32, kind: Kind) -> Result<bool, Memory>
         requires seat { seat < SEATS }
         requires room { length self.old.trace.events + MOST_STEPS ≤ MOST_CALLS }
-        ensures { IfOk result (λ met. until MOST_STEPS kind seat self.old
-            ≡ (if met then self.new else missed self.new)) }
+        ensures { IfOk result (λ saw. until MOST_STEPS kind seat self.old
+            ≡ (if saw then self.new else missed self.new)) }
     {
         for _step in 0..MOST_STEPS {
             let made = self.step(seat)?;

@@ -6,7 +6,7 @@ use Rattle.kw_world.specs.declared.activity.Activity.{Activity}
 use Rattle.kw_world.specs.declared.local.Local.{Local}
 use Rattle.kw_world.specs.declared.marks.Mark.{Mark}
 use Rattle.kw_world.specs.Marks.{least_mark}
-use Rattle.kw_world.specs.ReadTransitions.{row_read, scan_on, rest_of, to_rest}
+use Rattle.kw_world.specs.ReadTransitions.{row_read, scan_on, left_over_of, to_left_over}
 
 -- how a scan goes on
 scan_on-any : (o : Option ℕ) (upto : ℕ) (a : Activity) (l : Local) → scan_on o upto (record l { activity = a }) ≡ scan_on o upto l
@@ -22,10 +22,10 @@ row_read-any (Some (Scan from upto)) a l = scan_on-any l.next upto a _
 row_read-any None a l = refl
 
 -- the next remembered cell
-rest_of-any : (m : Option Mark) (a : Activity) (l : Local) → rest_of m (record l { activity = a }) ≡ rest_of m l
-rest_of-any (Some m) a l = refl
-rest_of-any None a l = row_read-any l.call a l
+left_over_of-any : (m : Option Mark) (a : Activity) (l : Local) → left_over_of m (record l { activity = a }) ≡ left_over_of m l
+left_over_of-any (Some m) a l = refl
+left_over_of-any None a l = row_read-any l.call a l
 
 -- what is left once the walk is over
-pub to_rest-any : (a : Activity) (l : Local) → to_rest (record l { activity = a }) ≡ to_rest l
-to_rest-any a l = rest_of-any (least_mark l.remembered) a l
+pub to_left_over-any : (a : Activity) (l : Local) → to_left_over (record l { activity = a }) ≡ to_left_over l
+to_left_over-any a l = left_over_of-any (least_mark l.remembered) a l

@@ -55,11 +55,11 @@ pub fn put_operation(seat: u32, local: &Local, choice: Choice) -> Operation
         Activity::Draw(Draw::Settle) => settle(seat, local.waiting, local.drawn),
         Activity::Walk(Walk::Next) => clear_scan(seat),
         Activity::Look(Look::Entry(entry)) => load(Kind::LoadPend, Name::Pend(row, entry)),
-        Activity::Look(Look::Key) => load(Kind::LoadKey, Name::Key(row, local.met)),
+        Activity::Look(Look::Key) => load(Kind::LoadKey, Name::Key(row, local.saw)),
         Activity::Look(Look::Clock) => load(Kind::LoadClock, Name::Clock),
         Activity::Look(Look::Help) => {
             let entry = Name::Pend(row, local.looked);
-            stamp(Kind::HelpStamp, entry, local.met, local.helping)
+            stamp(Kind::HelpStamp, entry, local.saw, local.helping)
         }
         Activity::Read(Read::Link) => load(Kind::LoadAfter, link_name(row, local.link)),
         Activity::Read(Read::Key) => load(Kind::LoadKey, Name::Key(row, local.place)),

@@ -10,16 +10,16 @@ ghost use Rattle.kw_world.specs.declared.activity.read.Read.{Read};
 ghost use Rattle.kw_world.specs.Sizes.{product};
 ghost use Rattle.kw_world.specs.Marks.{least_mark};
 ghost use Rattle.kw_world.specs.ListTransitions.{past_cell};
-ghost use Rattle.kw_world.specs.ReadTransitions.{reaching, gathering, to_rest};
+ghost use Rattle.kw_world.specs.ReadTransitions.{reaching, gathering, to_left_over};
 
 use crate::resume_insert::one_more;
 use kw_cells::cell::Cell;
 use kw_words::plain::{unpack_value, unpack_version};
 use kw_world::local::Local;
 
-/// The reader has met this cell behind its link, and need not remember it any more.
+/// The reader has reached this cell behind its link, and need not remember it any more.
 #[inline(always)]
-pub fn meet(local: &mut Local, cell: u32)
+pub fn reach(local: &mut Local, cell: u32)
     requires { local.old.walked ≤ CELLS }
     ensures { local.new ≡ reaching product cell local.old }
 {
@@ -28,15 +28,15 @@ pub fn meet(local: &mut Local, cell: u32)
     local.remembered.forget(cell);
 }
 
-/// The walk stands at the link after the cell that it met.
+/// The walk stands at the link after the cell that it reached.
 #[inline(always)]
-pub fn pass_cell(local: &mut Local)
+pub fn go_by_cell(local: &mut Local)
     ensures { local.new ≡ past_cell local.old }
 {
     local.link = Some(local.place);
 }
 
-/// The reader was told the version of the cell that it met. A cell without one counts as one of
+/// The reader was told the version of the cell that it reached. A cell without one counts as one of
 /// version 1; no list has such a cell.
 #[inline(always)]
 pub fn hold_version(local: &mut Local, found: u64)
@@ -66,7 +66,7 @@ pub fn gather(local: &mut Local, found: u64) -> Option<usize>
 /// there is one.
 pub fn take_remembered(local: &mut Local) -> bool
     ensures taken { result ≡ true → record local.new { activity = (Activity.Read Read.LeftOverKey) }
-        ≡ (to_rest local.old).local }
+        ≡ (to_left_over local.old).local }
     ensures same { result ≡ true → local.new.activity ≡ local.old.activity }
     ensures none { result ≡ false → (local.new ≡ local.old)
         × (least_mark local.old.remembered ≡ None) }

@@ -13,7 +13,9 @@ ghost use Rattle.kw_world.specs.Sane.{IsLocal, HasRoom, CanBegin};
 ghost use Rattle.kw_world.specs.Step.{next_of};
 ghost use Rattle.kw_world.specs.RowEnd.{MayEndRow};
 
-use crate::resume_cells::{list_from, list_key, list_value, list_version, rest_key, rest_value};
+use crate::resume_cells::{
+    left_over_key, left_over_value, list_from, list_key, list_value, list_version,
+};
 use crate::resume_entries::{help, look, look_key};
 use crate::resume_insert::{insert, insert_from, insert_key, insert_version, start_insert};
 use crate::resume_put::{add, announce, clear, count, stamp};
@@ -75,8 +77,8 @@ pub fn put_resume(
         Activity::Read(Read::Key) => list_key(local, told),
         Activity::Read(Read::Version) => Ok(list_version(local, told)),
         Activity::Read(Read::Value) => Ok(list_value(local, told)),
-        Activity::Read(Read::LeftOverKey) => rest_key(local, told),
-        Activity::Read(Read::LeftOverValue) => rest_value(local, told),
+        Activity::Read(Read::LeftOverKey) => left_over_key(local, told),
+        Activity::Read(Read::LeftOverValue) => left_over_value(local, told),
         Activity::EndScan(answer) => Ok(end_scan(local, answer, choice)),
         Activity::Put(Put::Count) => Ok(count(local, told)),
         Activity::Put(Put::Add) => Ok(add(local, told)),

@@ -2,8 +2,8 @@
 //!
 //! `reading` has what the events themselves tell. The end of a row's cells has no event of its own:
 //! it follows from the event that ends the walk, or from that on the last remembered cell that was
-//! not met. A get has its answer then. A scan adds the pairs of the row to its own, the one place
-//! of a step that takes memory, and goes on to the next row or ends.
+//! not reached. A get has its answer then. A scan adds the pairs of the row to its own, the one
+//! place of a step that takes memory, and goes on to the next row or ends.
 ghost use Rattle.std.specs.Prelude.{◌≡◌, ◌+◌, ◌<◌, ◌≤◌, ◌++◌, true, length, remove, IfOk, IfSome, IfNone, OnOk, OnErr};
 ghost use Rattle.kw_words.specs.Plain.{key_of_word, value_of_word, version_of_word, cell_of_link_word};
 ghost use Rattle.kw_words.specs.declared.sizes.TheConstants.{CELLS};
@@ -13,9 +13,9 @@ ghost use Rattle.kw_world.specs.Answers.{answer_found};
 ghost use Rattle.kw_world.specs.Sizes.{product};
 ghost use Rattle.kw_world.specs.Calls.{is_in_range, is_scan};
 ghost use Rattle.kw_world.specs.Transition.{outcome, to, leave};
-ghost use Rattle.kw_world.specs.ReadTransitions.{list_met, list_key, list_version, list_past, rest_key, to_rest, row_read, row_scanned, scan_on, scan_ended, get_answered, gathering};
+ghost use Rattle.kw_world.specs.ReadTransitions.{list_reached, list_key, list_version, list_past, left_over_key, to_left_over, row_read, row_scanned, scan_on, scan_ended, get_answered, gathering};
 
-use crate::reading::{gather, hold_version, meet, pass_cell, take_remembered};
+use crate::reading::{gather, go_by_cell, hold_version, reach, take_remembered};
 use crate::resume::{leave, to};
 use kw_cells::cell::Cell;
 use kw_cells::in_order::{first_fit, next_in_order};
@@ -36,20 +36,20 @@ use kw_world::local::Local;
 pub(crate) fn list_from(local: &mut Local, found: u64) -> Result<StepDone, Memory>
     requires { local.old.walked ≤ CELLS }
     ensures ok { IfOk result (λ done. outcome local.new done
-        ≡ list_met product (cell_of_link_word found) local.old) }
+        ≡ list_reached product (cell_of_link_word found) local.old) }
     ensures err { OnErr result (local.new ≡ local.old) }
     ensures scan { OnErr result (is_scan local.old.call ≡ true) }
 {
     match unpack_cell_link(found) {
         Some(cell) => {
-            meet(local, cell);
+            reach(local, cell);
             Ok(to(local, Activity::Read(Read::Key)))
         }
-        None => to_rest(local),
+        None => to_left_over(local),
     }
 }
 
-// The seat was told the key of the cell that it met.
+// The seat was told the key of the cell that it reached.
 pub(crate) fn list_key(local: &mut Local, found: u64) -> Result<StepDone, Memory>
     ensures ok { IfOk result (λ done. outcome local.new done ≡ list_key (key_of_word found)
         local.old) }
@@ -63,7 +63,7 @@ pub(crate) fn list_key(local: &mut Local, found: u64) -> Result<StepDone, Memory
         local.place_key = key;
         Ok(to(local, Activity::Read(Read::Version)))
     } else {
-        to_rest(local)
+        to_left_over(local)
     }
 }
 
@@ -84,17 +84,17 @@ pub(crate) fn list_value(local: &mut Local, found: u64) -> StepDone
     go_on_past(local)
 }
 
-// The walk passes the cell that it met.
+// The walk goes by the cell that it reached.
 fn go_on_past(local: &mut Local) -> StepDone
     ensures { outcome local.new result ≡ list_past local.old }
 {
-    pass_cell(local);
+    go_by_cell(local);
     to(local, Activity::Read(Read::Link))
 }
 
 // The seat was told the key of a remembered cell.
-pub(crate) fn rest_key(local: &mut Local, found: u64) -> Result<StepDone, Memory>
-    ensures ok { IfOk result (λ done. outcome local.new done ≡ rest_key (key_of_word found)
+pub(crate) fn left_over_key(local: &mut Local, found: u64) -> Result<StepDone, Memory>
+    ensures ok { IfOk result (λ done. outcome local.new done ≡ left_over_key (key_of_word found)
         local.old) }
     ensures err { OnErr result (local.new ≡ local.old) }
     ensures scan { OnErr result (is_scan local.old.call ≡ true) }
@@ -104,19 +104,19 @@ pub(crate) fn rest_key(local: &mut Local, found: u64) -> Result<StepDone, Memory
         local.place_key = key;
         Ok(to(local, Activity::Read(Read::LeftOverValue)))
     } else {
-        to_rest(local)
+        to_left_over(local)
     }
 }
 
 // The seat was told the value of that cell, and gathers it.
-pub(crate) fn rest_value(local: &mut Local, found: u64) -> Result<StepDone, Memory>
+pub(crate) fn left_over_value(local: &mut Local, found: u64) -> Result<StepDone, Memory>
     ensures ok { IfOk result (λ done. outcome local.new done
-        ≡ to_rest (gathering product (value_of_word found) local.old)) }
+        ≡ to_left_over (gathering product (value_of_word found) local.old)) }
     ensures err { OnErr result (local.new ≡ local.old) }
     ensures scan { OnErr result (is_scan local.old.call ≡ true) }
 {
     let put = gather(local, found);
-    match to_rest(local) {
+    match to_left_over(local) {
         Ok(done) => Ok(done),
         Err(memory) => {
             take_back(local, put);
@@ -139,9 +139,9 @@ fn take_back(local: &mut Local, put: Option<usize>)
     }
 }
 
-// The seat goes on to a remembered cell that it did not meet, or the row is read.
-fn to_rest(local: &mut Local) -> Result<StepDone, Memory>
-    ensures ok { IfOk result (λ done. outcome local.new done ≡ to_rest local.old) }
+// The seat goes on to a remembered cell that it did not reach, or the row is read.
+fn to_left_over(local: &mut Local) -> Result<StepDone, Memory>
+    ensures ok { IfOk result (λ done. outcome local.new done ≡ to_left_over local.old) }
     ensures err { OnErr result (local.new ≡ local.old) }
     ensures scan { OnErr result (is_scan local.old.call ≡ true) }
 {

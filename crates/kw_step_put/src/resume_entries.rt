@@ -1,7 +1,7 @@
 //! What a reader knows after its looks at the entries of a row.
 //!
 //! The running map makes a look by a step of its own, and calls `look` for what follows; a pending
-//! entry that it meets is rare.
+//! entry that it sees is rare.
 ghost use Rattle.std.specs.Prelude.{◌≡◌, ◌+◌, ◌<◌, length, if◌then◌else◌};
 ghost use Rattle.kw_words.specs.Pend.{pend_of};
 ghost use Rattle.kw_words.specs.Plain.{key_of_word};
@@ -9,7 +9,7 @@ ghost use Rattle.kw_words.specs.declared.sizes.TheConstants.{SEATS};
 ghost use Rattle.kw_world.specs.Sizes.{product};
 ghost use Rattle.kw_world.specs.Calls.{is_in_range};
 ghost use Rattle.kw_world.specs.Transition.{outcome, to};
-ghost use Rattle.kw_world.specs.ReadTransitions.{to_look, look_met, help_met, remembering};
+ghost use Rattle.kw_world.specs.ReadTransitions.{to_look, look_seen, help_seen, remembering};
 
 use crate::resume::to;
 use kw_words::pend::Pend;
@@ -48,12 +48,12 @@ fn remember(local: &mut Local, cell: u32, version: u64)
 pub fn look(local: &mut Local, entry: u32, found: u64) -> StepDone
     requires entry { entry < SEATS }
     requires room { length local.old.remembered < SEATS }
-    ensures { outcome local.new result ≡ look_met product entry (pend_of found) local.old }
+    ensures { outcome local.new result ≡ look_seen product entry (pend_of found) local.old }
 {
     match Pend::unpack(found) {
         Some(Pend::Pending(cell)) => {
             local.looked = entry;
-            local.met = cell;
+            local.saw = cell;
             to(local, Activity::Look(Look::Key))
         }
         Some(Pend::Stamped(cell, version)) => {
@@ -82,12 +82,12 @@ pub(crate) fn look_key(local: &mut Local, found: u64) -> StepDone
 pub(crate) fn help(local: &mut Local, found: u64) -> StepDone
     requires looked { local.old.looked < SEATS }
     requires room { length local.old.remembered < SEATS }
-    ensures { outcome local.new result ≡ help_met product (pend_of found) local.old }
+    ensures { outcome local.new result ≡ help_seen product (pend_of found) local.old }
 {
     let next = local.looked + 1;
     let helping = local.helping;
     match Pend::unpack(found) {
-        Some(Pend::Pending(cell)) if cell == local.met => {
+        Some(Pend::Pending(cell)) if cell == local.saw => {
             remember(local, cell, helping);
             to_look(local, next)
         }

@@ -65,7 +65,7 @@ pub fn insert_from(local: &mut Local, found: u64) -> StepDone
     }
 }
 
-// The walk passes the cell that it met.
+// The walk goes by the cell that it reached.
 fn pass(local: &mut Local) -> StepDone
     ensures { outcome local.new result ≡ insert_past local.old }
 {
@@ -80,7 +80,7 @@ fn end_walk(local: &mut Local) -> StepDone
     to(local, Activity::Insert(Insert::Set))
 }
 
-/// The seat was told the key of the cell that it met.
+/// The seat was told the key of the cell that it reached.
 pub fn insert_key(local: &mut Local, found: u64) -> StepDone
     ensures { outcome local.new result ≡ insert_key (key_of_word found) local.old }
 {
@@ -102,7 +102,7 @@ fn is_newer(local: &Local, version: u64, place: u32) -> bool
     local.version < version || version == local.version && local.cell < place
 }
 
-/// The seat was told the version of the cell that it met, which has its own key.
+/// The seat was told the version of the cell that it reached, which has its own key.
 pub fn insert_version(local: &mut Local, found: u64) -> StepDone
     ensures { outcome local.new result ≡ insert_version (version_of_word found) local.old }
 {

@@ -6,7 +6,7 @@ ghost use Rattle.kw_world.specs.Sizes.{product};
 ghost use Rattle.kw_world.specs.Local.{resting};
 ghost use Rattle.kw_world.specs.Transition.{outcome, to};
 ghost use Rattle.kw_world.specs.EngageTransitions.{to_rebalance};
-ghost use Rattle.kw_world.specs.PutTransitions.{cleared, has_room, given_of, stamp_met, tidies_row};
+ghost use Rattle.kw_world.specs.PutTransitions.{cleared, has_room, given_of, stamp_seen, tidies_row};
 ghost use Rattle.kw_world.specs.Sane.{IsNumber};
 ghost use Rattle.kw_world.specs.declared.limits.TheConstants.{TIDY_SHARE};
 
@@ -83,7 +83,7 @@ pub fn announce(local: &mut Local, found: u64) -> StepDone
 
 /// The seat has tried to stamp its cell, and was told the entry found.
 pub fn stamp(local: &mut Local, found: u64) -> StepDone
-    ensures { outcome local.new result ≡ stamp_met (pend_of found) local.old }
+    ensures { outcome local.new result ≡ stamp_seen (pend_of found) local.old }
 {
     match Pend::unpack(found) {
         Some(Pend::Pending(cell)) if cell == local.cell => to(local, Activity::Put(Put::Version)),

@@ -5,7 +5,7 @@
 ghost use Rattle.std.specs.Prelude.{◌≡◌};
 ghost use Rattle.kw_words.specs.Scan.{scan_of};
 ghost use Rattle.kw_world.specs.Transition.{outcome};
-ghost use Rattle.kw_world.specs.ScanTransitions.{begun, entered, to_start, clock_met, version_settled, settled};
+ghost use Rattle.kw_world.specs.ScanTransitions.{begun, entered, to_start, clock_seen, version_settled, settled};
 ghost use Rattle.kw_world.specs.Sane.{CanBeginAt};
 
 use crate::resume::{leave, to};
@@ -60,7 +60,7 @@ fn start(local: &mut Local) -> StepDone
 /// A scan was told the clock.
 #[inline(always)]
 pub fn clock(local: &mut Local, clock: u64) -> StepDone
-    ensures { outcome local.new result ≡ clock_met clock local.old }
+    ensures { outcome local.new result ≡ clock_seen clock local.old }
 {
     if clock >= SPENT {
         return leave(local, Answer::Spent);

@@ -201,8 +201,8 @@ fn link_operation(seat: u32, local: &Local, choice: Choice) -> Operation
             _ => load(Kind::LoadHead, Name::Head),
         },
         Activity::Rebalance(Rebalance::Replace(Replace::GuessedLeast)) => load(
-            Kind::LoadMin,
-            Name::Min(row_before(local)),
+            Kind::LoadLeast,
+            Name::Least(row_before(local)),
         ),
         Activity::Rebalance(Rebalance::Replace(Replace::First)) => load(Kind::LoadHead, Name::Head),
         Activity::Rebalance(Rebalance::Replace(Replace::Next)) => load(
@@ -210,8 +210,8 @@ fn link_operation(seat: u32, local: &Local, choice: Choice) -> Operation
             Name::Next(row_before(local)),
         ),
         Activity::Rebalance(Rebalance::Replace(Replace::NextLeast)) => load(
-            Kind::LoadMin,
-            Name::Min(local.candidate),
+            Kind::LoadLeast,
+            Name::Least(local.candidate),
         ),
         Activity::Rebalance(Rebalance::Replace(Replace::Exchange)) => replace(local),
         Activity::Rebalance(Rebalance::Replace(Replace::Normalise)) => normalise(

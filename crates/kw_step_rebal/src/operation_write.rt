@@ -35,12 +35,12 @@ pub(crate) fn write_least(local: &Local, row: u32) -> Operation
     requires { IsLocal product local.now }
     ensures { result ≡ record {
       kind = Kind.StoreInfant;
-      name = Name.Min row;
+      name = Name.Least row;
       action = Action.Store
           (key_word (infant_least local.now));
     } }
 {
-    store(Kind::StoreInfant, Name::Min(row), least_word(local))
+    store(Kind::StoreInfant, Name::Least(row), least_word(local))
 }
 
 // The link after it.

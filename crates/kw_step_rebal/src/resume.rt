@@ -19,7 +19,7 @@ use crate::resume_replace::{
 };
 use crate::resume_seek::{gave_back, pass, seek, seek_first, take_row};
 use crate::resume_take::{
-    rest_value, take_from, take_key, take_rest_key, take_value, take_version,
+    left_over_value, take_from, take_key, take_left_over_key, take_value, take_version,
 };
 use crate::resume_write::{to_write_cell, to_write_entry};
 use kw_world::activity::Activity;
@@ -83,8 +83,12 @@ pub fn rebalance_resume(local: &mut Local, rows: u32, choice: Choice, told: u64)
         Activity::Rebalance(Rebalance::Gather(Gather::Key)) => take_key(local, told),
         Activity::Rebalance(Rebalance::Gather(Gather::Version)) => take_version(local, told),
         Activity::Rebalance(Rebalance::Gather(Gather::Value)) => take_value(local, told),
-        Activity::Rebalance(Rebalance::Gather(Gather::LeftOverKey)) => take_rest_key(local, told),
-        Activity::Rebalance(Rebalance::Gather(Gather::LeftOverValue)) => rest_value(local, told),
+        Activity::Rebalance(Rebalance::Gather(Gather::LeftOverKey)) => take_left_over_key(
+            local, told,
+        ),
+        Activity::Rebalance(Rebalance::Gather(Gather::LeftOverValue)) => left_over_value(
+            local, told,
+        ),
         _ => build_resume(local, rows, choice, told),
     }
 }

@@ -3,7 +3,7 @@ ghost use Rattle.std.specs.Prelude.{◌≡◌, ◌==◌};
 ghost use Rattle.kw_words.specs.Link.{link_of};
 ghost use Rattle.kw_words.specs.State.{state_of, state_word};
 ghost use Rattle.kw_words.specs.declared.state.State.{State};
-ghost use Rattle.kw_world.specs.EngageTransitions.{to_rebalance, retrying, refusal, again, refuse, balance_clock, balance_epoch, is_alone, state_met, engaged, link_marked, decided};
+ghost use Rattle.kw_world.specs.EngageTransitions.{to_rebalance, retrying, refusal, again, refuse, balance_clock, balance_epoch, is_alone, state_seen, engaged, link_marked, decided};
 ghost use Rattle.kw_world.specs.Transition.{outcome, row_linked};
 
 use crate::resume::to;
@@ -96,7 +96,7 @@ fn is_alone(count: u32) -> bool
 
 // The seat was told the state of the full row.
 pub(crate) fn state(local: &mut Local, found: u64) -> StepDone
-    ensures { outcome local.new result ≡ state_met (state_of found) local.old }
+    ensures { outcome local.new result ≡ state_seen (state_of found) local.old }
 {
     match State::unpack(found) {
         Some(State::Infant(seat)) => to(

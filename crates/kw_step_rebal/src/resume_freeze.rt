@@ -4,7 +4,7 @@ ghost use Rattle.kw_cells.specs.declared.limits.TheConstants.{MOST_NEEDED};
 ghost use Rattle.kw_words.specs.Pend.{pend_of, pend_word};
 ghost use Rattle.kw_words.specs.Scan.{scan_of};
 ghost use Rattle.kw_words.specs.declared.sizes.TheConstants.{SEATS};
-ghost use Rattle.kw_world.specs.FreezeTransitions.{count_frozen, to_freeze_look, marking, freezing, freeze_met, entry_tried, to_scan_look, needing, scan_met, scan_helped};
+ghost use Rattle.kw_world.specs.FreezeTransitions.{count_frozen, to_freeze_look, marking, freezing, freeze_seen, entry_tried, to_scan_look, needing, scan_seen, scan_helped};
 ghost use Rattle.kw_world.specs.Sane.{IsEntry};
 ghost use Rattle.kw_world.specs.Sizes.{product};
 ghost use Rattle.kw_world.specs.Transition.{outcome};
@@ -78,7 +78,7 @@ fn freeze(local: &mut Local, entry: u32, found: Pend) -> StepDone
 pub fn look(local: &mut Local, entry: u32, found: u64) -> StepDone
     requires entry { entry < SEATS }
     requires room { length local.old.rebalance.marks < SEATS }
-    ensures { outcome local.new result ≡ freeze_met product entry (pend_of found) local.old }
+    ensures { outcome local.new result ≡ freeze_seen product entry (pend_of found) local.old }
 {
     match Pend::unpack(found) {
         Some(Pend::Idle) => freeze(local, entry, Pend::Idle),
@@ -140,7 +140,7 @@ fn need(local: &mut Local, version: u64)
 pub fn scan(local: &mut Local, seat: u32, found: u64) -> StepDone
     requires seat { seat < SEATS }
     requires room { length local.old.rebalance.needed < MOST_NEEDED }
-    ensures { outcome local.new result ≡ scan_met product seat (scan_of found) local.old }
+    ensures { outcome local.new result ≡ scan_seen product seat (scan_of found) local.old }
 {
     match ScanWord::unpack(found) {
         Some(ScanWord::Waiting(clock)) => {

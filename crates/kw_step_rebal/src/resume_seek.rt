@@ -4,7 +4,7 @@ ghost use Rattle.kw_words.specs.Plain.{pass_of_word};
 ghost use Rattle.kw_words.specs.State.{state_of, state_word};
 ghost use Rattle.kw_words.specs.declared.sizes.TheConstants.{SEATS};
 ghost use Rattle.kw_words.specs.declared.state.State.{State};
-ghost use Rattle.kw_world.specs.SeekTransitions.{gave_back, give_back, given_back, has_more, pass_met, row_behind, seek_first_transition, seek_met, seeking, take_row, to_pass, to_seek};
+ghost use Rattle.kw_world.specs.SeekTransitions.{gave_back, give_back, given_back, has_more, pass_seen, row_behind, seek_first_transition, seek_seen, seeking, take_row, to_pass, to_seek};
 ghost use Rattle.kw_world.specs.Sizes.{product};
 ghost use Rattle.kw_world.specs.Transition.{outcome};
 
@@ -95,7 +95,7 @@ fn to_seek(local: &mut Local, rows: u32) -> StepDone
 
 // The seat was told the state of the row that it asks.
 pub(crate) fn seek(local: &mut Local, rows: u32, found: u64) -> StepDone
-    ensures { outcome local.new result ≡ seek_met rows (state_of found)
+    ensures { outcome local.new result ≡ seek_seen rows (state_of found)
         (seeking local.old.rebalance.sought local.old) }
 {
     match State::unpack(found) {
@@ -119,7 +119,7 @@ pub(crate) fn seek_first(local: &mut Local, rows: u32, choice: Choice, found: u6
     seek(local, rows, found)
 }
 
-// The seat goes on to the pass of this seat, or frees the row once it has looked at all passes.
+// The seat goes on to the visit of this seat, or frees the row once it has looked at all visits.
 fn to_pass(local: &mut Local, seat: u32) -> StepDone
     ensures { outcome local.new result ≡ to_pass product seat local.old }
 {
@@ -135,7 +135,7 @@ fn to_pass(local: &mut Local, seat: u32) -> StepDone
 // The seat was told the epoch that this seat has announced, while it asks for a retired row.
 pub(crate) fn pass(local: &mut Local, rows: u32, seat: u32, found: u64) -> StepDone
     requires { seat < SEATS }
-    ensures { outcome local.new result ≡ pass_met product seat rows (pass_of_word found)
+    ensures { outcome local.new result ≡ pass_seen product seat rows (pass_of_word found)
         local.old }
 {
     match unpack_pass(found) {

@@ -2,13 +2,13 @@
 //! them.
 //!
 //! The end of the row's cells has no event of its own: it follows from the event that ends the
-//! walk, or from that on the last remembered cell that was not met. The seat plans the new rows
+//! walk, or from that on the last remembered cell that was not reached. The seat plans the new rows
 //! then, which takes no memory.
 ghost use Rattle.std.specs.Prelude.{◌≡◌, ◌≤◌, length};
 ghost use Rattle.kw_words.specs.Plain.{cell_of_link_word, key_of_word, value_of_word, version_of_word};
 ghost use Rattle.kw_words.specs.declared.sizes.TheConstants.{CELLS, SEATS};
 ghost use Rattle.kw_world.specs.Sizes.{product};
-ghost use Rattle.kw_world.specs.TakeTransitions.{keeping, planned, take_met, take_past, take_version, taking, to_left, to_take};
+ghost use Rattle.kw_world.specs.TakeTransitions.{keeping, planned, take_reached, take_past, take_version, taking, to_left, to_take};
 ghost use Rattle.kw_world.specs.Transition.{outcome, to};
 
 use crate::resume::to;
@@ -35,9 +35,9 @@ pub(crate) fn to_take(local: &mut Local) -> StepDone
     to(local, Activity::Rebalance(Rebalance::Gather(Gather::Link)))
 }
 
-// The seat has met this cell behind its link, and need not remember it any more.
+// The seat has reached this cell behind its link, and need not remember it any more.
 #[inline(always)]
-fn meet(local: &mut Local, cell: u32)
+fn reach(local: &mut Local, cell: u32)
     requires { local.old.walked ≤ CELLS }
     ensures { local.new ≡ taking product cell local.old }
 {
@@ -52,18 +52,18 @@ pub fn take_from(local: &mut Local, found: u64) -> StepDone
     requires walked { local.old.walked ≤ CELLS }
     requires gathered { length local.old.rebalance.gathered ≤ CELLS }
     requires needed { length local.old.rebalance.needed ≤ SEATS }
-    ensures { outcome local.new result ≡ take_met product (cell_of_link_word found) local.old }
+    ensures { outcome local.new result ≡ take_reached product (cell_of_link_word found) local.old }
 {
     match unpack_cell_link(found) {
         Some(cell) => {
-            meet(local, cell);
+            reach(local, cell);
             to(local, Activity::Rebalance(Rebalance::Gather(Gather::Key)))
         }
         None => to_left(local),
     }
 }
 
-/// The seat was told the key of the cell that it met.
+/// The seat was told the key of the cell that it reached.
 #[inline(always)]
 pub fn take_key(local: &mut Local, found: u64) -> StepDone
     ensures { outcome local.new result ≡ to (Activity.Rebalance (Rebalance.Gather Gather.Version))
@@ -99,7 +99,7 @@ fn gather(local: &mut Local, found: u64)
     });
 }
 
-/// The seat was told the value of the cell that it met, and goes on past it.
+/// The seat was told the value of the cell that it reached, and goes on past it.
 #[inline(always)]
 pub fn take_value(local: &mut Local, found: u64) -> StepDone
     ensures { outcome local.new result
@@ -110,9 +110,9 @@ pub fn take_value(local: &mut Local, found: u64) -> StepDone
     to(local, Activity::Rebalance(Rebalance::Gather(Gather::Link)))
 }
 
-/// The seat was told the key of a remembered cell that it did not meet.
+/// The seat was told the key of a remembered cell that it did not reach.
 #[inline(always)]
-pub fn take_rest_key(local: &mut Local, found: u64) -> StepDone
+pub fn take_left_over_key(local: &mut Local, found: u64) -> StepDone
     ensures { outcome local.new result ≡ to (Activity.Rebalance (Rebalance.Gather Gather.LeftOverValue))
         (record local.old { place_key = key_of_word found }) }
 {
@@ -125,7 +125,7 @@ pub fn take_rest_key(local: &mut Local, found: u64) -> StepDone
 
 /// The seat was told the value of that cell.
 #[inline(always)]
-pub fn rest_value(local: &mut Local, found: u64) -> StepDone
+pub fn left_over_value(local: &mut Local, found: u64) -> StepDone
     requires gathered { length local.old.rebalance.gathered ≤ CELLS }
     requires needed { length local.old.rebalance.needed ≤ SEATS }
     ensures { outcome local.new result
@@ -135,7 +135,7 @@ pub fn rest_value(local: &mut Local, found: u64) -> StepDone
     to_left(local)
 }
 
-// The seat goes on to a remembered cell that it did not meet, or plans the new rows and begins to
+// The seat goes on to a remembered cell that it did not reach, or plans the new rows and begins to
 // seek free ones.
 fn to_left(local: &mut Local) -> StepDone
     requires gathered { length local.old.rebalance.gathered ≤ CELLS }

@@ -25,9 +25,9 @@ pub fn rows_operation(seat: u32, local: &Local, choice: Choice) -> Operation
             _ => load(Kind::LoadHead, Name::Head),
         },
         Activity::Walk(Walk::First) => load(Kind::LoadHead, Name::Head),
-        Activity::Walk(Walk::GuessedLeast) => load(Kind::LoadMin, Name::Min(local.row)),
+        Activity::Walk(Walk::GuessedLeast) => load(Kind::LoadLeast, Name::Least(local.row)),
         Activity::Walk(Walk::Next) => load(Kind::LoadLink, Name::Next(local.row)),
-        Activity::Walk(Walk::NextLeast) => load(Kind::LoadMin, Name::Min(local.candidate)),
+        Activity::Walk(Walk::NextLeast) => load(Kind::LoadLeast, Name::Least(local.candidate)),
         _ => unreachable!(),
     }
 }

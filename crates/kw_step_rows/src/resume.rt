@@ -1,7 +1,7 @@
 //! What a seat knows after an event of its walk.
 //!
 //! The running map makes the events of a walk by steps of their own, and calls `first`, `guess`,
-//! `guess_min`, `link` and `walk_min` for what follows.
+//! `guessed_least`, `link` and `walk_least` for what follows.
 ghost use Rattle.std.specs.Prelude.{◌≡◌, if◌then◌else◌};
 ghost use Rattle.kw_words.specs.Link.{link_of};
 ghost use Rattle.kw_words.specs.State.{state_of};
@@ -10,7 +10,7 @@ ghost use Rattle.kw_world.specs.Sizes.{product};
 ghost use Rattle.kw_world.specs.Parts.{part_of};
 ghost use Rattle.kw_world.specs.declared.part.Part.{Part};
 ghost use Rattle.kw_world.specs.Transition.{outcome, to, row_linked, row_or_first};
-ghost use Rattle.kw_world.specs.WalkTransitions.{guess_met, guess_min, arrive, link_met, walk_min};
+ghost use Rattle.kw_world.specs.WalkTransitions.{guess_seen, guessed_least, arrive, link_reached, walk_least};
 ghost use Rattle.kw_world.specs.Step.{next_of};
 
 use kw_model::call::Call;
@@ -40,9 +40,9 @@ pub fn rows_resume(local: &mut Local, rows: u32, choice: Choice, told: u64) -> S
             _ => first(local, told),
         },
         Activity::Walk(Walk::First) => first(local, told),
-        Activity::Walk(Walk::GuessedLeast) => guess_min(local, told),
+        Activity::Walk(Walk::GuessedLeast) => guessed_least(local, told),
         Activity::Walk(Walk::Next) => link(local, told),
-        Activity::Walk(Walk::NextLeast) => walk_min(local, told),
+        Activity::Walk(Walk::NextLeast) => walk_least(local, told),
         _ => unreachable!(),
     }
 }
@@ -80,7 +80,7 @@ pub fn first(local: &mut Local, found: u64) -> StepDone
 
 /// The seat was told the state of the guessed row.
 pub fn guess(local: &mut Local, row: u32, found: u64) -> StepDone
-    ensures { outcome local.new result ≡ guess_met row (state_of found) local.old }
+    ensures { outcome local.new result ≡ guess_seen row (state_of found) local.old }
 {
     match State::unpack(found) {
         Some(State::Normal) => {
@@ -92,8 +92,8 @@ pub fn guess(local: &mut Local, row: u32, found: u64) -> StepDone
 }
 
 /// The seat was told the least key of the guessed row.
-pub fn guess_min(local: &mut Local, found: u64) -> StepDone
-    ensures { outcome local.new result ≡ guess_min (key_of_word found) local.old }
+pub fn guessed_least(local: &mut Local, found: u64) -> StepDone
+    ensures { outcome local.new result ≡ guessed_least (key_of_word found) local.old }
 {
     let least = unpack_key(found);
     if least > local.want {
@@ -105,7 +105,7 @@ pub fn guess_min(local: &mut Local, found: u64) -> StepDone
 
 /// The seat was told the link after its row.
 pub fn link(local: &mut Local, found: u64) -> StepDone
-    ensures { outcome local.new result ≡ link_met (row_linked (link_of found)) local.old }
+    ensures { outcome local.new result ≡ link_reached (row_linked (link_of found)) local.old }
 {
     match linked(found) {
         Some(row) => {
@@ -121,8 +121,8 @@ pub fn link(local: &mut Local, found: u64) -> StepDone
 }
 
 /// The seat was told the least key of the row after its row.
-pub fn walk_min(local: &mut Local, found: u64) -> StepDone
-    ensures { outcome local.new result ≡ walk_min (key_of_word found) local.old }
+pub fn walk_least(local: &mut Local, found: u64) -> StepDone
+    ensures { outcome local.new result ≡ walk_least (key_of_word found) local.old }
 {
     let least = unpack_key(found);
     if least <= local.want {

@@ -7,7 +7,7 @@ use Rattle.std.proofs.lemmas.Bool.Decides.{nat_tests}
 use Rattle.std.proofs.lemmas.List.{get_or-replicate, length-replicate, length-set}
 use mathlib.Core.Logic.{⊎_elim}
 use Rattle.kw_words.specs.declared.layout.Name.{Name}
-use Rattle.kw_words.specs.declared.layout.Name.TheVariants.{Clock, Epoch, Head, Turn, Pass, Scan, Pin, State, Count, Min, Next, First, Pend, Key, Value, Version, After}
+use Rattle.kw_words.specs.declared.layout.Name.TheVariants.{Clock, Epoch, Head, Turn, Pass, Scan, Pin, State, Count, Least, Next, First, Pend, Key, Value, Version, After}
 use Rattle.kw_words.specs.declared.sizes.TheConstants.{SEATS, CELLS}
 use Rattle.kw_words.specs.Layout.{IsWithin, row_start, place_of, words_of}
 use Rattle.kw_words.proofs.Places.{same_name, place_below, different_places}
@@ -57,7 +57,7 @@ told_place rows (Scan seat) within = at_line rows (place_of SEATS CELLS (Scan se
 told_place rows (Pin seat) within = at_line rows (place_of SEATS CELLS (Pin seat)) (omega arith)
 told_place rows (State row) within = at_state rows row within
 told_place rows (Count row) within = at_head rows row 0 _ _ within (omega arith) (omega arith) (omega arith)
-told_place rows (Min row) within = at_head rows row 1 _ _ within (omega arith) (omega arith) (omega arith)
+told_place rows (Least row) within = at_head rows row 1 _ _ within (omega arith) (omega arith) (omega arith)
 told_place rows (Next row) within = at_head rows row 2 _ _ within (omega arith) (omega arith) (omega arith)
 told_place rows (First row) within = at_head rows row 3 _ _ within (omega arith) (omega arith) (omega arith)
 told_place rows (Pend row seat) within = at_head rows row (4 + seat) _ _ within.0 (omega (arith, within.1)) (omega arith) (omega arith)
@@ -82,7 +82,7 @@ slot_below rows (Scan seat) some within = omega (arith, within)
 slot_below rows (Pin seat) some within = omega (arith, within)
 slot_below rows (State row) some within = omega (arith, within)
 slot_below rows (Count row) some within = omega (arith, within)
-slot_below rows (Min row) some within = omega (arith, within)
+slot_below rows (Least row) some within = omega (arith, within)
 slot_below rows (Next row) some within = omega (arith, within)
 slot_below rows (First row) some within = omega (arith, within)
 slot_below rows (Pend row seat) some within = omega (arith, within.0, within.1)
@@ -102,7 +102,7 @@ at_line_start rows (Scan seat) within is = (refl, omega arith)
 at_line_start rows (Pin seat) within is = (refl, omega arith)
 at_line_start rows (State row) within is = absurd cc
 at_line_start rows (Count row) within is = absurd cc
-at_line_start rows (Min row) within is = absurd cc
+at_line_start rows (Least row) within is = absurd cc
 at_line_start rows (Next row) within is = absurd cc
 at_line_start rows (First row) within is = absurd cc
 at_line_start rows (Pend row seat) within is = absurd cc
@@ -122,7 +122,7 @@ behind_lines rows (Scan seat) is = absurd cc
 behind_lines rows (Pin seat) is = absurd cc
 behind_lines rows (State row) is = omega arith
 behind_lines rows (Count row) is = omega arith
-behind_lines rows (Min row) is = omega arith
+behind_lines rows (Least row) is = omega arith
 behind_lines rows (Next row) is = omega arith
 behind_lines rows (First row) is = omega arith
 behind_lines rows (Pend row seat) is = omega arith

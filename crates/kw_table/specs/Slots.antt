@@ -3,7 +3,7 @@
 -- by side.
 use Rattle.std.specs.Prelude.{ℕ, Bool, true, false, ◌≡◌, ◌+◌, ◌-◌, ◌*◌, ◌/◌, List, length, slice_index}
 use Rattle.kw_words.specs.declared.layout.Name.{Name}
-use Rattle.kw_words.specs.declared.layout.Name.TheVariants.{Clock, Epoch, Head, Turn, Pass, Scan, Pin, State, Count, Min, Next, First, Pend, Key, Value, Version, After}
+use Rattle.kw_words.specs.declared.layout.Name.TheVariants.{Clock, Epoch, Head, Turn, Pass, Scan, Pin, State, Count, Least, Next, First, Pend, Key, Value, Version, After}
 use Rattle.kw_words.specs.declared.sizes.TheConstants.{SEATS, CELLS}
 use Rattle.kw_words.specs.Layout.{IsWithin, row_start, place_of, words_of}
 use Rattle.kw_table.specs.declared.slot.TheConstants.{WORDS_A_LINE, LEFT_OUT}
@@ -19,7 +19,7 @@ is_rowless (Scan seat) = true
 is_rowless (Pin seat) = true
 is_rowless (State row) = false
 is_rowless (Count row) = false
-is_rowless (Min row) = false
+is_rowless (Least row) = false
 is_rowless (Next row) = false
 is_rowless (First row) = false
 is_rowless (Pend row seat) = false
@@ -67,7 +67,7 @@ slot rows (Scan seat) = line_slot (place_of SEATS CELLS (Scan seat))
 slot rows (Pin seat) = line_slot (place_of SEATS CELLS (Pin seat))
 slot rows (State row) = row_slot rows + row
 slot rows (Count row) = row_slot row
-slot rows (Min row) = row_slot row + 1
+slot rows (Least row) = row_slot row + 1
 slot rows (Next row) = row_slot row + 2
 slot rows (First row) = row_slot row + 3
 slot rows (Pend row seat) = row_slot row + 4 + seat

@@ -486,11 +486,11 @@ pub fn load_link(shared: &Shared, pass: &mut Pass, choice: Choice, word: Name) -
 
 /// Loads the least key of a row.
 #[inline(always)]
-pub fn load_min(shared: &Shared, pass: &mut Pass, choice: Choice, word: Name) -> u64
-    requires { Asks shared.now pass.old choice (operation Kind.LoadMin word Action.Load) }
+pub fn load_least(shared: &Shared, pass: &mut Pass, choice: Choice, word: Name) -> u64
+    requires { Asks shared.now pass.old choice (operation Kind.LoadLeast word Action.Load) }
     ensures { Makes shared.now pass.old choice result pass.new }
 {
-    step!(load, LoadMin, Action::Load, shared, pass, choice, word)
+    step!(load, LoadLeast, Action::Load, shared, pass, choice, word)
 }
 
 /// Loads the state of a row.

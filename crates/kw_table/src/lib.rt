@@ -28,7 +28,7 @@ mod warming;
 
 pub use kinds::{
     add_count, announce, clear_pass, clear_pend, clear_scan, draw, help_stamp, insert, load_after,
-    load_clock, load_count, load_epoch, load_head, load_key, load_link, load_min, load_pend,
+    load_clock, load_count, load_epoch, load_head, load_key, load_least, load_link, load_pend,
     load_state, load_value, load_version, settle, stamp, store_after, store_key, store_pass,
     store_value, store_version, store_waiting,
 };

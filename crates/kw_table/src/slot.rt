@@ -101,7 +101,7 @@ fn slotted(rows: u32, word: Name) -> usize
     match word {
         Name::State(row) => row_slot(rows) + row as usize,
         Name::Count(row) => row_slot(row),
-        Name::Min(row) => row_slot(row) + 1,
+        Name::Least(row) => row_slot(row) + 1,
         Name::Next(row) => row_slot(row) + 2,
         Name::First(row) => row_slot(row) + 3,
         Name::Pend(row, seat) => row_slot(row) + OWN_WORDS + seat as usize,

@@ -62,13 +62,13 @@ impl Shared {
     pub fn serves(&self, row: u32, key: u32) -> bool {
         row < self.opening.rows
             && State::unpack(self.peek(Name::State(row))) == Some(State::Normal)
-            && self.peek(Name::Min(row)) <= u64::from(key)
+            && self.peek(Name::Least(row)) <= u64::from(key)
     }
 
     /// The least key that the row may hold just now; none where the table has no such row.
     pub fn least(&self, row: u32) -> Option<u32> {
         if row < self.opening.rows {
-            u32::try_from(self.peek(Name::Min(row))).ok()
+            u32::try_from(self.peek(Name::Least(row))).ok()
         } else {
             None
         }
@@ -92,7 +92,7 @@ impl Shared {
     // Loads the least key of the row to which a link leads, if it leads to one.
     fn peek_least(&self, link: u64) {
         if let Some(row) = self.row_at(link) {
-            let _least = self.peek(Name::Min(row));
+            let _least = self.peek(Name::Least(row));
         }
     }
 

@@ -20,7 +20,7 @@ at_a_first_link = 1
 abbrev at_a_cell : ℕ
 at_a_cell = 4
 
--- at a cell that is remembered and was not met
+-- at a cell that is remembered and was not reached
 abbrev at_a_remembered_cell : ℕ
 at_a_remembered_cell = 3
 
@@ -34,7 +34,7 @@ events_of_a_row = at_an_entry * SEATS + at_a_first_link + at_a_cell * CELLS + at
 abbrev beside_a_list : ℕ
 beside_a_list = 17
 
--- the whole put, which meets each cell of the list once at most
+-- the whole put, which reaches each cell of the list once at most
 abbrev events_of_a_put : ℕ
 events_of_a_put = beside_a_list + at_a_cell * CELLS
 

@@ -2,8 +2,8 @@
 use Rattle.std.proofs.Common.{ℕ, ◌≡◌, ◌≢◌, ◌<◌, ◌+◌, ◌⊎◌, inl, inr, List, Some, get_or, refl, subst, ap, ◌∙◌, arith, Option}
 use Rattle.kw_words.specs.declared.kind.TheConstants.Kind.{ALL}
 use Rattle.kw_words.specs.declared.kind.Kind.{Kind}
-use Rattle.kw_words.specs.declared.kind.Kind.TheVariants.{LoadEpoch, StorePass, ClearPass, LoadCount, AddCount, StoreKey, StoreValue, Announce, LoadClock, Stamp, StoreVersion, ClearPend, LoadPend, LoadKey, LoadValue, LoadVersion, HelpStamp, StoreWaiting, Draw, Settle, ClearScan, LoadHead, LoadLink, LoadMin, LoadState, Engage, FreezeCount, FreezePend, LoadScan, HelpDraw, HelpSettle, TakeRow, StoreInfant, Replace, Normalise, GiveBack, Number, StoreRetired, LoadPass, Reclaim, MarkLink, LoadNextCount, Decide, EngageNext, LoadAfter, StoreAfter, Insert}
-use Rattle.kw_words.specs.Kind.{name_of, place_in_kinds}
+use Rattle.kw_words.specs.declared.kind.Kind.TheVariants.{LoadEpoch, StorePass, ClearPass, LoadCount, AddCount, StoreKey, StoreValue, Announce, LoadClock, Stamp, StoreVersion, ClearPend, LoadPend, LoadKey, LoadValue, LoadVersion, HelpStamp, StoreWaiting, Draw, Settle, ClearScan, LoadHead, LoadLink, LoadLeast, LoadState, Engage, FreezeCount, FreezePend, LoadScan, HelpDraw, HelpSettle, TakeRow, StoreInfant, Replace, Normalise, GiveBack, Number, StoreRetired, LoadPass, Reclaim, MarkLink, LoadNextCount, Decide, EngageNext, LoadAfter, StoreAfter, Insert}
+use Rattle.kw_words.specs.Kind.{name_of, index_in_kinds}
 use Rattle.std.specs.List.{find}
 use Rattle.std.specs.Str.{bytes_eq}
 
@@ -41,7 +41,7 @@ kind_named-name_of Settle = refl
 kind_named-name_of ClearScan = refl
 kind_named-name_of LoadHead = refl
 kind_named-name_of LoadLink = refl
-kind_named-name_of LoadMin = refl
+kind_named-name_of LoadLeast = refl
 kind_named-name_of LoadState = refl
 kind_named-name_of Engage = refl
 kind_named-name_of FreezeCount = refl
@@ -67,7 +67,7 @@ kind_named-name_of StoreAfter = refl
 kind_named-name_of Insert = refl
 
 -- a kind stands at its place
-pub kind_at : (kind : Kind) → get_or ALL (place_in_kinds kind) LoadEpoch ≡ kind
+pub kind_at : (kind : Kind) → get_or ALL (index_in_kinds kind) LoadEpoch ≡ kind
 kind_at LoadEpoch = refl
 kind_at StorePass = refl
 kind_at ClearPass = refl
@@ -91,7 +91,7 @@ kind_at Settle = refl
 kind_at ClearScan = refl
 kind_at LoadHead = refl
 kind_at LoadLink = refl
-kind_at LoadMin = refl
+kind_at LoadLeast = refl
 kind_at LoadState = refl
 kind_at Engage = refl
 kind_at FreezeCount = refl
@@ -117,10 +117,10 @@ kind_at StoreAfter = refl
 kind_at Insert = refl
 
 -- one more kind that has not the name
-pub one_more : (name : List ℕ) (i : ℕ) → ((k : Kind) → place_in_kinds k < i → name_of k ≢ name) → name_of (get_or ALL i LoadEpoch) ≢ name → (k : Kind) → place_in_kinds k < i + 1 → name_of k ≢ name
-one_more name i before here k h e = which (place_in_kinds k) refl (split (place_in_kinds k) i h)
+pub one_more : (name : List ℕ) (i : ℕ) → ((k : Kind) → index_in_kinds k < i → name_of k ≢ name) → name_of (get_or ALL i LoadEpoch) ≢ name → (k : Kind) → index_in_kinds k < i + 1 → name_of k ≢ name
+one_more name i before here k h e = which (index_in_kinds k) refl (split (index_in_kinds k) i h)
   where
-    which : (p : ℕ) → place_in_kinds k ≡ p → (p < i) ⊎ (p ≡ i) → ⊥
+    which : (p : ℕ) → index_in_kinds k ≡ p → (p < i) ⊎ (p ≡ i) → ⊥
     which p q (inl l) = before k (rw q l) e
     which p q (inr r) = here (subst (λ j. name_of (get_or ALL j LoadEpoch) ≡ name) (q ∙ r) (rw (kind_at k) e))
 

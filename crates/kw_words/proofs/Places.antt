@@ -2,7 +2,7 @@
 use Rattle.std.proofs.Common.{ℕ, ◌≡◌, ◌≢◌, ◌+◌, ◌-◌, ◌*◌, ◌/◌, ◌%◌, ◌<◌, ◌≤◌, ◌==◌, nat_lt, if◌then◌else◌, refl, sym, ◌∙◌, ap, subst, arith}
 use Rattle.std.proofs.lemmas.Bool.Decides.{nat_tests}
 use Rattle.kw_words.specs.declared.layout.Name.{Name}
-use Rattle.kw_words.specs.declared.layout.Name.TheVariants.{Clock, Epoch, Head, Turn, Pass, Scan, Pin, State, Count, Min, Next, First, Pend, Key, Value, Version, After}
+use Rattle.kw_words.specs.declared.layout.Name.TheVariants.{Clock, Epoch, Head, Turn, Pass, Scan, Pin, State, Count, Least, Next, First, Pend, Key, Value, Version, After}
 use Rattle.kw_words.specs.Layout.{IsWithin, place_of, row_start, row_len}
 
 -- a multiple of a smaller number, and one more, is no greater
@@ -22,7 +22,7 @@ row_name : ℕ → ℕ → ℕ → Name
 row_name seats r x =
     if x == 0 then State r
     else if x == 1 then Count r
-    else if x == 2 then Min r
+    else if x == 2 then Least r
     else if x == 3 then Next r
     else if x == 4 then First r
     else if nat_lt x (5 + seats) then Pend r (x - 5)
@@ -81,7 +81,7 @@ named seats cells rows r x (Scan i) p w e = absurd (omega arith)
 named seats cells rows r x (Pin i) p w e = absurd (omega arith)
 named seats cells rows r x (State q) p w e = at_name seats cells r q x 0 (State q) (omega arith) p (omega arith) refl
 named seats cells rows r x (Count q) p w e = at_name seats cells r q x 1 (Count q) (omega arith) p (omega arith) refl
-named seats cells rows r x (Min q) p w e = at_name seats cells r q x 2 (Min q) (omega arith) p (omega arith) refl
+named seats cells rows r x (Least q) p w e = at_name seats cells r q x 2 (Least q) (omega arith) p (omega arith) refl
 named seats cells rows r x (Next q) p w e = at_name seats cells r q x 3 (Next q) (omega arith) p (omega arith) refl
 named seats cells rows r x (First q) p w e = at_name seats cells r q x 4 (First q) (omega arith) p (omega arith) refl
 named seats cells rows r x (Pend q i) p w e = at_name seats cells r q x (5 + i) (Pend q i) (omega arith) p (omega arith) (sym (row_name-Pend seats q i w.1))
@@ -132,7 +132,7 @@ first_named seats cells rows (Scan i) p w = sym (first_name-Scan seats i w)
 first_named seats cells rows (Pin i) p w = sym (first_name-Pin seats i w)
 first_named seats cells rows (State q) p w = absurd (omega arith)
 first_named seats cells rows (Count q) p w = absurd (omega arith)
-first_named seats cells rows (Min q) p w = absurd (omega arith)
+first_named seats cells rows (Least q) p w = absurd (omega arith)
 first_named seats cells rows (Next q) p w = absurd (omega arith)
 first_named seats cells rows (First q) p w = absurd (omega arith)
 first_named seats cells rows (Pend q j) p w = absurd (omega arith)
@@ -157,7 +157,7 @@ same_name seats cells rows (Scan i) b v w e = head_name seats cells rows (Scan i
 same_name seats cells rows (Pin i) b v w e = head_name seats cells rows (Pin i) b (omega arith) v w e
 same_name seats cells rows (State q) b v w e = both_named seats cells rows q 0 (State q) b (omega arith) v w (omega arith) e
 same_name seats cells rows (Count q) b v w e = both_named seats cells rows q 1 (Count q) b (omega arith) v w (omega arith) e
-same_name seats cells rows (Min q) b v w e = both_named seats cells rows q 2 (Min q) b (omega arith) v w (omega arith) e
+same_name seats cells rows (Least q) b v w e = both_named seats cells rows q 2 (Least q) b (omega arith) v w (omega arith) e
 same_name seats cells rows (Next q) b v w e = both_named seats cells rows q 3 (Next q) b (omega arith) v w (omega arith) e
 same_name seats cells rows (First q) b v w e = both_named seats cells rows q 4 (First q) b (omega arith) v w (omega arith) e
 same_name seats cells rows (Pend q i) b v w e = both_named seats cells rows q (5 + i) (Pend q i) b (omega arith) v w (omega arith) e
@@ -177,7 +177,7 @@ place_below seats cells rows (Scan i) o w = omega arith
 place_below seats cells rows (Pin i) o w = omega arith
 place_below seats cells rows (State q) o w = omega (arith, rows_apart seats cells q rows w)
 place_below seats cells rows (Count q) o w = omega (arith, rows_apart seats cells q rows w)
-place_below seats cells rows (Min q) o w = omega (arith, rows_apart seats cells q rows w)
+place_below seats cells rows (Least q) o w = omega (arith, rows_apart seats cells q rows w)
 place_below seats cells rows (Next q) o w = omega (arith, rows_apart seats cells q rows w)
 place_below seats cells rows (First q) o w = omega (arith, rows_apart seats cells q rows w)
 place_below seats cells rows (Pend q j) o w = omega (arith, rows_apart seats cells q rows w.0, w.1)

@@ -14,11 +14,11 @@ value_of_word-value_word None = refl
 -- a word that holds a value is the word of what is read from it
 pub value_word-value_of_word : (word : ℕ) → VALUE_END ≤ word → value_word (value_of_word word) ≡ word
 unfolding value_of_word
-value_word-value_of_word word h = met (nat_lt word VALUE_END) refl
+value_word-value_of_word word h = saw (nat_lt word VALUE_END) refl
   where
-    met : (b : Bool) → nat_lt word VALUE_END ≡ b → value_word (if b then None else Some (word - VALUE_END)) ≡ word
-    met true e = absurd (grind (arith, nat_tests))
-    met false e = omega arith
+    saw : (b : Bool) → nat_lt word VALUE_END ≡ b → value_word (if b then None else Some (word - VALUE_END)) ≡ word
+    saw true e = absurd (grind (arith, nat_tests))
+    saw false e = omega arith
 
 -- values of one word are one value
 pub value_word-same : (p q : Option ℕ) → value_word p ≡ value_word q → p ≡ q
@@ -38,20 +38,20 @@ number_of_word-number_word None h = refl
 -- what is read from a word has that word
 pub number_word-number_of_word : (word : ℕ) → number_word (number_of_word word) ≡ word
 unfolding number_of_word
-number_word-number_of_word word = met (word == 0) refl
+number_word-number_of_word word = saw (word == 0) refl
   where
-    met : (b : Bool) → (word == 0) ≡ b → number_word (if b then None else Some word) ≡ word
-    met true e = grind (arith, nat_tests)
-    met false e = refl
+    saw : (b : Bool) → (word == 0) ≡ b → number_word (if b then None else Some word) ≡ word
+    saw true e = grind (arith, nat_tests)
+    saw false e = refl
 
 -- what is read from a word is no 0
 pub IsCounted-number_of_word : (word : ℕ) → IsCounted (number_of_word word)
 unfolding number_of_word
-IsCounted-number_of_word word = met (word == 0) refl
+IsCounted-number_of_word word = saw (word == 0) refl
   where
-    met : (b : Bool) → (word == 0) ≡ b → IsCounted (if b then None else Some word)
-    met true e = tt
-    met false e = grind (arith, nat_tests)
+    saw : (b : Bool) → (word == 0) ≡ b → IsCounted (if b then None else Some word)
+    saw true e = tt
+    saw false e = grind (arith, nat_tests)
 
 -- numbers of one word are one number
 pub number_word-same : (p q : Option ℕ) → IsCounted p → IsCounted q → number_word p ≡ number_word q → p ≡ q
@@ -66,12 +66,12 @@ cell_of_link_word-cell_link_word None h = refl
 -- what a link leads to is in range
 pub IsCell-cell_of_link_word : (word : ℕ) → IsCell (cell_of_link_word word)
 unfolding cell_of_link_word
-IsCell-cell_of_link_word word = met (word == 0) (nat_le word MOST_CELLS) refl refl
+IsCell-cell_of_link_word word = saw (word == 0) (nat_le word MOST_CELLS) refl refl
   where
-    met : (b c : Bool) → (word == 0) ≡ b → nat_le word MOST_CELLS ≡ c → IsCell (if b then None else if c then Some (word - 1) else None)
-    met true c e f = tt
-    met false true e f = grind (arith, nat_tests)
-    met false false e f = tt
+    saw : (b c : Bool) → (word == 0) ≡ b → nat_le word MOST_CELLS ≡ c → IsCell (if b then None else if c then Some (word - 1) else None)
+    saw true c e f = tt
+    saw false true e f = grind (arith, nat_tests)
+    saw false false e f = tt
 
 -- cells in range of one word are one cell
 pub cell_link_word-same : (p q : Option ℕ) → IsCell p → IsCell q → cell_link_word p ≡ cell_link_word q → p ≡ q

@@ -1,7 +1,7 @@
 -- The names of the kinds of event.
 use Rattle.std.specs.Prelude.{ℕ, List, codes}
 use Rattle.kw_words.specs.declared.kind.Kind.{Kind}
-use Rattle.kw_words.specs.declared.kind.Kind.TheVariants.{LoadEpoch, StorePass, ClearPass, LoadCount, AddCount, StoreKey, StoreValue, Announce, LoadClock, Stamp, StoreVersion, ClearPend, LoadPend, LoadKey, LoadValue, LoadVersion, HelpStamp, StoreWaiting, Draw, Settle, ClearScan, LoadHead, LoadLink, LoadMin, LoadState, Engage, FreezeCount, FreezePend, LoadScan, HelpDraw, HelpSettle, TakeRow, StoreInfant, Replace, Normalise, GiveBack, Number, StoreRetired, LoadPass, Reclaim, MarkLink, LoadNextCount, Decide, EngageNext, LoadAfter, StoreAfter, Insert}
+use Rattle.kw_words.specs.declared.kind.Kind.TheVariants.{LoadEpoch, StorePass, ClearPass, LoadCount, AddCount, StoreKey, StoreValue, Announce, LoadClock, Stamp, StoreVersion, ClearPend, LoadPend, LoadKey, LoadValue, LoadVersion, HelpStamp, StoreWaiting, Draw, Settle, ClearScan, LoadHead, LoadLink, LoadLeast, LoadState, Engage, FreezeCount, FreezePend, LoadScan, HelpDraw, HelpSettle, TakeRow, StoreInfant, Replace, Normalise, GiveBack, Number, StoreRetired, LoadPass, Reclaim, MarkLink, LoadNextCount, Decide, EngageNext, LoadAfter, StoreAfter, Insert}
 
 -- the name of a kind, as its characters
 abbrev pub name_of : Kind → List ℕ
@@ -28,7 +28,7 @@ name_of Settle = codes "settle"
 name_of ClearScan = codes "clear_scan"
 name_of LoadHead = codes "load_head"
 name_of LoadLink = codes "load_link"
-name_of LoadMin = codes "load_min"
+name_of LoadLeast = codes "load_min"
 name_of LoadState = codes "load_state"
 name_of Engage = codes "engage"
 name_of FreezeCount = codes "freeze_count"
@@ -54,51 +54,51 @@ name_of StoreAfter = codes "store_after"
 name_of Insert = codes "insert"
 
 -- the place of a kind among all kinds, in the order in which they are declared
-abbrev pub place_in_kinds : Kind → ℕ
-place_in_kinds LoadEpoch = 0
-place_in_kinds StorePass = 1
-place_in_kinds ClearPass = 2
-place_in_kinds LoadCount = 3
-place_in_kinds AddCount = 4
-place_in_kinds StoreKey = 5
-place_in_kinds StoreValue = 6
-place_in_kinds Announce = 7
-place_in_kinds LoadClock = 8
-place_in_kinds Stamp = 9
-place_in_kinds StoreVersion = 10
-place_in_kinds ClearPend = 11
-place_in_kinds LoadPend = 12
-place_in_kinds LoadKey = 13
-place_in_kinds LoadValue = 14
-place_in_kinds LoadVersion = 15
-place_in_kinds HelpStamp = 16
-place_in_kinds StoreWaiting = 17
-place_in_kinds Draw = 18
-place_in_kinds Settle = 19
-place_in_kinds ClearScan = 20
-place_in_kinds LoadHead = 21
-place_in_kinds LoadLink = 22
-place_in_kinds LoadMin = 23
-place_in_kinds LoadState = 24
-place_in_kinds Engage = 25
-place_in_kinds FreezeCount = 26
-place_in_kinds FreezePend = 27
-place_in_kinds LoadScan = 28
-place_in_kinds HelpDraw = 29
-place_in_kinds HelpSettle = 30
-place_in_kinds TakeRow = 31
-place_in_kinds StoreInfant = 32
-place_in_kinds Replace = 33
-place_in_kinds Normalise = 34
-place_in_kinds GiveBack = 35
-place_in_kinds Number = 36
-place_in_kinds StoreRetired = 37
-place_in_kinds LoadPass = 38
-place_in_kinds Reclaim = 39
-place_in_kinds MarkLink = 40
-place_in_kinds LoadNextCount = 41
-place_in_kinds Decide = 42
-place_in_kinds EngageNext = 43
-place_in_kinds LoadAfter = 44
-place_in_kinds StoreAfter = 45
-place_in_kinds Insert = 46
+abbrev pub index_in_kinds : Kind → ℕ
+index_in_kinds LoadEpoch = 0
+index_in_kinds StorePass = 1
+index_in_kinds ClearPass = 2
+index_in_kinds LoadCount = 3
+index_in_kinds AddCount = 4
+index_in_kinds StoreKey = 5
+index_in_kinds StoreValue = 6
+index_in_kinds Announce = 7
+index_in_kinds LoadClock = 8
+index_in_kinds Stamp = 9
+index_in_kinds StoreVersion = 10
+index_in_kinds ClearPend = 11
+index_in_kinds LoadPend = 12
+index_in_kinds LoadKey = 13
+index_in_kinds LoadValue = 14
+index_in_kinds LoadVersion = 15
+index_in_kinds HelpStamp = 16
+index_in_kinds StoreWaiting = 17
+index_in_kinds Draw = 18
+index_in_kinds Settle = 19
+index_in_kinds ClearScan = 20
+index_in_kinds LoadHead = 21
+index_in_kinds LoadLink = 22
+index_in_kinds LoadLeast = 23
+index_in_kinds LoadState = 24
+index_in_kinds Engage = 25
+index_in_kinds FreezeCount = 26
+index_in_kinds FreezePend = 27
+index_in_kinds LoadScan = 28
+index_in_kinds HelpDraw = 29
+index_in_kinds HelpSettle = 30
+index_in_kinds TakeRow = 31
+index_in_kinds StoreInfant = 32
+index_in_kinds Replace = 33
+index_in_kinds Normalise = 34
+index_in_kinds GiveBack = 35
+index_in_kinds Number = 36
+index_in_kinds StoreRetired = 37
+index_in_kinds LoadPass = 38
+index_in_kinds Reclaim = 39
+index_in_kinds MarkLink = 40
+index_in_kinds LoadNextCount = 41
+index_in_kinds Decide = 42
+index_in_kinds EngageNext = 43
+index_in_kinds LoadAfter = 44
+index_in_kinds StoreAfter = 45
+index_in_kinds Insert = 46

@@ -1,7 +1,7 @@
 -- The places of the words, for any number of seats and of cells in a row.
 use Rattle.std.specs.Prelude.{ℕ, ◌+◌, ◌*◌, ◌<◌, ◌≤◌}
 use Rattle.kw_words.specs.declared.layout.Name.{Name}
-use Rattle.kw_words.specs.declared.layout.Name.TheVariants.{Clock, Epoch, Head, Turn, Pass, Scan, Pin, State, Count, Min, Next, First, Pend, Key, Value, Version, After}
+use Rattle.kw_words.specs.declared.layout.Name.TheVariants.{Clock, Epoch, Head, Turn, Pass, Scan, Pin, State, Count, Least, Next, First, Pend, Key, Value, Version, After}
 use Rattle.kw_words.specs.declared.sizes.TheConstants.{MOST_SEATS, MOST_CELLS, MOST_ROWS}
 
 -- the sizes that a table may have
@@ -40,7 +40,7 @@ place_of seats cells (Scan seat) = 4 + seats + seat
 place_of seats cells (Pin seat) = 4 + 2 * seats + seat
 place_of seats cells (State row) = row_start seats cells row
 place_of seats cells (Count row) = row_start seats cells row + 1
-place_of seats cells (Min row) = row_start seats cells row + 2
+place_of seats cells (Least row) = row_start seats cells row + 2
 place_of seats cells (Next row) = row_start seats cells row + 3
 place_of seats cells (First row) = row_start seats cells row + 4
 place_of seats cells (Pend row seat) = row_start seats cells row + 5 + seat
@@ -60,7 +60,7 @@ IsWithin seats cells rows (Scan seat) = seat < seats
 IsWithin seats cells rows (Pin seat) = seat < seats
 IsWithin seats cells rows (State row) = row < rows
 IsWithin seats cells rows (Count row) = row < rows
-IsWithin seats cells rows (Min row) = row < rows
+IsWithin seats cells rows (Least row) = row < rows
 IsWithin seats cells rows (Next row) = row < rows
 IsWithin seats cells rows (First row) = row < rows
 IsWithin seats cells rows (Pend row seat) = (row < rows) × (seat < seats)

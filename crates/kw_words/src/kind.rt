@@ -4,7 +4,7 @@
 //! is for. Scripts name the kinds as `KINDS` lists them, in the order in which they are declared
 //! here.
 ghost use Rattle.std.specs.Prelude.{◌≡◌, ◌↔◌, Some, length, slice_get, IsTrue};
-ghost use Rattle.kw_words.specs.Kind.{name_of, place_in_kinds};
+ghost use Rattle.kw_words.specs.Kind.{name_of, index_in_kinds};
 ghost use Rattle.kw_words.specs.declared.kind.Kind.{Kind};
 ghost use Rattle.kw_words.specs.declared.kind.TheConstants.Kind.{ALL};
 
@@ -58,7 +58,7 @@ pub enum Kind {
     /// Loads a link between rows.
     LoadLink,
     /// Loads the least key of a row.
-    LoadMin,
+    LoadLeast,
     /// Loads the state of a row.
     LoadState,
     /// Exchanges the normal state of a full row for that of a leader.
@@ -184,7 +184,7 @@ impl Kind {
         Kind::ClearScan,
         Kind::LoadHead,
         Kind::LoadLink,
-        Kind::LoadMin,
+        Kind::LoadLeast,
         Kind::LoadState,
         Kind::Engage,
         Kind::FreezeCount,
@@ -232,7 +232,7 @@ impl Kind {
 
     /// The place of this kind in `KINDS` and in `ALL`, counted from 0. Both list each kind once.
     pub fn place(self) -> usize
-        ensures place { result ≡ place_in_kinds self }
+        ensures place { result ≡ index_in_kinds self }
         ensures own { slice_get ALL result ≡ Some self }
         ensures named { slice_get KINDS.now result ≡ Some (record { now = name_of self }) }
         ensures many { length KINDS.now ≡ length ALL }
@@ -243,7 +243,7 @@ impl Kind {
     /// The name of this kind in `KINDS`.
     pub fn name(self) -> &'static str
         ensures value { result.now ≡ name_of self }
-        ensures listed { slice_get KINDS.now (place_in_kinds self)
+        ensures listed { slice_get KINDS.now (index_in_kinds self)
             ≡ Some (record { now = name_of self }) }
     {
         KINDS[self as usize]

@@ -31,7 +31,7 @@ pub enum Name {
     /// How many cells of a row were asked for, and whether it is frozen.
     Count(u32),
     /// The least key that a row may hold.
-    Min(u32),
+    Least(u32),
     /// The link to the row after this one.
     Next(u32),
     /// The link to the first listed cell of a row.
@@ -90,7 +90,7 @@ impl<const SEATS: usize, const CELLS: usize> Layout<SEATS, CELLS> {
             Name::Pin(seat) => 4 + 2 * SEATS + seat as usize,
             Name::State(row) => Self::row(row),
             Name::Count(row) => Self::row(row) + 1,
-            Name::Min(row) => Self::row(row) + 2,
+            Name::Least(row) => Self::row(row) + 2,
             Name::Next(row) => Self::row(row) + 3,
             Name::First(row) => Self::row(row) + 4,
             Name::Pend(row, seat) => Self::row(row) + 5 + seat as usize,

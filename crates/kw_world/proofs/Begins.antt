@@ -2,7 +2,7 @@
 use Rattle.std.proofs.Common.{ℕ, zero, suc, ◌≡◌, ◌≢◌, ◌<◌, length, List, slice_index, slice_set, replicate, arith, ◌∙◌, get_or-set_same, get_or-set_other}
 use Rattle.std.proofs.lemmas.List.{get_or-replicate, length-replicate, length-set}
 use Rattle.kw_words.specs.declared.layout.Name.{Name}
-use Rattle.kw_words.specs.declared.layout.Name.TheVariants.{Clock, Epoch, Head, Turn, Pass, Scan, Pin, State, Count, Min, Next, First, Pend, Key, Value, Version, After}
+use Rattle.kw_words.specs.declared.layout.Name.TheVariants.{Clock, Epoch, Head, Turn, Pass, Scan, Pin, State, Count, Least, Next, First, Pend, Key, Value, Version, After}
 use Rattle.kw_words.specs.declared.state.State.TheVariants.{Normal}
 use Rattle.kw_words.specs.Layout.{IsSized, IsWithin, place_of, words_of}
 use Rattle.kw_words.specs.Link.{link_word}
@@ -88,7 +88,7 @@ opened-word z o (Pass s) sized i = others z o (Pass s) sized i (λ d. cc) (λ d.
 opened-word z o (Scan s) sized i = others z o (Scan s) sized i (λ d. cc) (λ d. cc) (λ d. cc) (λ d. cc)
 opened-word z o (Pin s) sized i = others z o (Pin s) sized i (λ d. cc) (λ d. cc) (λ d. cc) (λ d. cc)
 opened-word z o (Count r) sized i = others z o (Count r) sized i (λ d. cc) (λ d. cc) (λ d. cc) (λ d. cc)
-opened-word z o (Min r) sized i = others z o (Min r) sized i (λ d. cc) (λ d. cc) (λ d. cc) (λ d. cc)
+opened-word z o (Least r) sized i = others z o (Least r) sized i (λ d. cc) (λ d. cc) (λ d. cc) (λ d. cc)
 opened-word z o (Next r) sized i = others z o (Next r) sized i (λ d. cc) (λ d. cc) (λ d. cc) (λ d. cc)
 opened-word z o (First r) sized i = others z o (First r) sized i (λ d. cc) (λ d. cc) (λ d. cc) (λ d. cc)
 opened-word z o (Pend r s) sized i = others z o (Pend r s) sized i (λ d. cc) (λ d. cc) (λ d. cc) (λ d. cc)

@@ -41,23 +41,23 @@ use Rattle.kw_world.specs.declared.event.Choice.{Choice}
 use Rattle.kw_world.specs.declared.event.Choice.TheVariants.{Begin, Go, Guess, Stop}
 use Rattle.kw_world.specs.Sizes.{Sizes}
 use Rattle.kw_world.specs.Transition.{Outcome, row_linked, row_or_first, to, leave}
-use Rattle.kw_world.specs.PutTransitions.{stamp_met, has_room, given_of, tidies_row}
+use Rattle.kw_world.specs.PutTransitions.{stamp_seen, has_room, given_of, tidies_row}
 use Rattle.kw_world.specs.ListTransitions.{insert_from, insert_key, insert_past, insert_tried, is_newer}
 use Rattle.kw_world.specs.declared.marks.Mark.{Mark}
 use Rattle.kw_world.specs.Marks.{least_mark}
-use Rattle.kw_world.specs.ReadTransitions.{to_look, look_met, help_met, scan_on, row_read, rest_of, to_rest, list_met, list_key, list_past, with_pairs, remembering, gathering}
+use Rattle.kw_world.specs.ReadTransitions.{to_look, look_seen, help_seen, scan_on, row_read, left_over_of, to_left_over, list_reached, list_key, list_past, with_pairs, remembering, gathering}
 use Rattle.kw_world.specs.ScanTransitions.{begun, entered, settled, to_start, version_settled}
-use Rattle.kw_world.specs.WalkTransitions.{guess_met, start_transition, walk_transition, is_stopped, link_met, walk_min, arrive}
+use Rattle.kw_world.specs.WalkTransitions.{guess_seen, start_transition, walk_transition, is_stopped, link_reached, walk_least, arrive}
 use Rattle.kw_words.specs.declared.scan.ScanWord.{ScanWord}
 use Rattle.kw_words.specs.declared.scan.ScanWord.TheVariants as scan
 use Rattle.kw_words.specs.declared.link.Link.{Link}
 use Rattle.kw_words.specs.State.{state_word}
 use Rattle.kw_world.specs.declared.rebalance.Afterwards.{Afterwards}
 use Rattle.kw_world.specs.declared.rebalance.Afterwards.TheVariants.{TryAgain, Refuse, MoveLeft}
-use Rattle.kw_world.specs.EngageTransitions.{again, refuse, to_rebalance, is_alone, state_met, engaged, followed_by, link_marked, decided}
-use Rattle.kw_world.specs.FreezeTransitions.{to_scans, to_freeze_look, marking, freeze_met, entry_tried, to_scan_look, needing, scan_met, scan_helped}
-use Rattle.kw_world.specs.TakeTransitions.{to_take, left_of, take_met, keeping}
-use Rattle.kw_world.specs.SeekTransitions.{given_back, give_back, gave_back, at_infant, has_more, row_behind, to_seek, to_pass, seek_met, pass_met, seeking, seek_first_transition, with_row, take_row}
+use Rattle.kw_world.specs.EngageTransitions.{again, refuse, to_rebalance, is_alone, state_seen, engaged, followed_by, link_marked, decided}
+use Rattle.kw_world.specs.FreezeTransitions.{to_scans, to_freeze_look, marking, freeze_seen, entry_tried, to_scan_look, needing, scan_seen, scan_helped}
+use Rattle.kw_world.specs.TakeTransitions.{to_take, left_of, take_reached, keeping}
+use Rattle.kw_world.specs.SeekTransitions.{given_back, give_back, gave_back, at_infant, has_more, row_behind, to_seek, to_pass, seek_seen, pass_seen, seeking, seek_first_transition, with_row, take_row}
 use Rattle.kw_world.specs.WriteTransitions.{infant_cells, row_written, to_write_cell, to_write_entry}
 use Rattle.kw_world.specs.ReplaceTransitions.{at_before, first_before, guess_before, before_transition, row_before, link_before, row_replaced, replaced}
 use Rattle.kw_world.specs.Table.{transition}
@@ -86,16 +86,16 @@ remembers : (b : Bool) (cell version : ℕ) (l : Local) → (if b then rememberi
 remembers true cell version l = refl
 remembers false cell version l = refl
 
-look_goes : (z : Sizes) (i : ℕ) (e : Option Pend) (l : Local) → Goes l.number (look_met z i e l)
+look_goes : (z : Sizes) (i : ℕ) (e : Option Pend) (l : Local) → Goes l.number (look_seen z i e l)
 look_goes z i (Some pend.Idle) l = looks z (i + 1) l
 look_goes z i (Some (pend.Pending cell)) l = record { moved = refl; number = refl }
 look_goes z i (Some (pend.Stamped cell version)) l = looks z (i + 1) (remembering cell version l)
 look_goes z i (Some pend.Frozen) l = looks z (i + 1) l
 look_goes z i None l = looks z (i + 1) l
 
-help_goes : (z : Sizes) (e : Option Pend) (l : Local) → Goes l.number (help_met z e l)
+help_goes : (z : Sizes) (e : Option Pend) (l : Local) → Goes l.number (help_seen z e l)
 help_goes z (Some pend.Idle) l = looks z (l.looked + 1) l
-help_goes z (Some (pend.Pending cell)) l = looks_then z (l.looked + 1) (if cell == l.met then remembering cell l.helping l else l) (remembers (cell == l.met) cell l.helping l)
+help_goes z (Some (pend.Pending cell)) l = looks_then z (l.looked + 1) (if cell == l.saw then remembering cell l.helping l else l) (remembers (cell == l.saw) cell l.helping l)
 help_goes z (Some (pend.Stamped cell version)) l = looks z (l.looked + 1) (remembering cell version l)
 help_goes z (Some pend.Frozen) l = looks z (l.looked + 1) l
 help_goes z None l = looks z (l.looked + 1) l
@@ -111,21 +111,21 @@ read_goes (Some (Get key)) l = record { moved = refl; number = refl }
 read_goes (Some (Scan from upto)) l = scan_goes l.next upto (with_pairs upto l)
 read_goes None l = record { moved = refl; number = refl }
 
-rest_goes : (m : Option Mark) (l : Local) → Goes l.number (rest_of m l)
-rest_goes (Some m) l = record { moved = refl; number = refl }
-rest_goes None l = read_goes l.call l
+left_over_goes : (m : Option Mark) (l : Local) → Goes l.number (left_over_of m l)
+left_over_goes (Some m) l = record { moved = refl; number = refl }
+left_over_goes None l = read_goes l.call l
 
-rests : (l : Local) → Goes l.number (to_rest l)
-rests l = rest_goes (least_mark l.remembered) l
+rests : (l : Local) → Goes l.number (to_left_over l)
+rests l = left_over_goes (least_mark l.remembered) l
 
-list_goes : (z : Sizes) (cell : Option ℕ) (l : Local) → Goes l.number (list_met z cell l)
+list_goes : (z : Sizes) (cell : Option ℕ) (l : Local) → Goes l.number (list_reached z cell l)
 list_goes z (Some cell) l = record { moved = refl; number = refl }
 list_goes z None l = rests l
 
 list_key_goes : (key : ℕ) (l : Local) → Goes l.number (list_key key l)
-list_key_goes key l = either (nat_lt key (first_key l.call)) (list_past l) _ (record { moved = refl; number = refl }) (either (nat_le key (last_key l.call)) (to (Activity.Read Read.Version) (record l { place_key = key })) (to_rest l) (record { moved = refl; number = refl }) (rests l))
+list_key_goes key l = either (nat_lt key (first_key l.call)) (list_past l) _ (record { moved = refl; number = refl }) (either (nat_le key (last_key l.call)) (to (Activity.Read Read.Version) (record l { place_key = key })) (to_left_over l) (record { moved = refl; number = refl }) (rests l))
 
-stamp_goes : (e : Option Pend) (l : Local) → Goes l.number (stamp_met e l)
+stamp_goes : (e : Option Pend) (l : Local) → Goes l.number (stamp_seen e l)
 stamp_goes (Some pend.Idle) l = record { moved = refl; number = refl }
 stamp_goes (Some (pend.Pending cell)) l = either (cell == l.cell) (to (Activity.Put Put.Version) l) (to_rebalance l) (record { moved = refl; number = refl }) (record { moved = refl; number = refl })
 stamp_goes (Some (pend.Stamped cell version)) l = either (cell == l.cell) (to (Activity.Put Put.Version) (record l { version = version })) (to_rebalance l) (record { moved = refl; number = refl }) (record { moved = refl; number = refl })
@@ -150,11 +150,11 @@ arrive_goes (Some (Get key)) l = record { moved = refl; number = refl }
 arrive_goes (Some (Scan from upto)) l = record { moved = refl; number = refl }
 arrive_goes None l = record { moved = refl; number = refl }
 
-link_goes : (r : Option ℕ) (l : Local) → Goes l.number (link_met r l)
+link_goes : (r : Option ℕ) (l : Local) → Goes l.number (link_reached r l)
 link_goes None l = arrive_goes l.call (record l { next = None; upper = 0 })
 link_goes (Some r) l = record { moved = refl; number = refl }
 
-guess_goes : (r : ℕ) (state : Option State) (l : Local) → Goes l.number (guess_met r state l)
+guess_goes : (r : ℕ) (state : Option State) (l : Local) → Goes l.number (guess_seen r state l)
 guess_goes r (Some Free) l = record { moved = refl; number = refl }
 guess_goes r (Some (Infant seat)) l = record { moved = refl; number = refl }
 guess_goes r (Some Normal) l = record { moved = refl; number = refl }
@@ -189,10 +189,10 @@ enter_goes None l = record { moved = refl; number = refl }
 settle_goes : (version : ℕ) (l : Local) → Goes l.number (settled version l)
 settle_goes version l = either (is_range_empty l.call) (to (Activity.EndScan Pairs) (record l { version = version })) (to_start (record l { version = version })) (record { moved = refl; number = refl }) (record { moved = refl; number = refl })
 
-walk_min_goes : (least : ℕ) (l : Local) → Goes l.number (walk_min least l)
-walk_min_goes least l = either (nat_le least l.want) (to (Activity.Walk Walk.Next) (record l { row = l.candidate; lower = least })) (arrive l.call (record l { next = Some l.candidate; upper = least })) (record { moved = refl; number = refl }) (arrive_goes l.call (record l { next = Some l.candidate; upper = least }))
+walk_least_goes : (least : ℕ) (l : Local) → Goes l.number (walk_least least l)
+walk_least_goes least l = either (nat_le least l.want) (to (Activity.Walk Walk.Next) (record l { row = l.candidate; lower = least })) (arrive l.call (record l { next = Some l.candidate; upper = least })) (record { moved = refl; number = refl }) (arrive_goes l.call (record l { next = Some l.candidate; upper = least }))
 
-state_goes : (state : Option State) (l : Local) → Goes l.number (state_met state l)
+state_goes : (state : Option State) (l : Local) → Goes l.number (state_seen state l)
 state_goes (Some Free) l = record { moved = refl; number = refl }
 state_goes (Some (Infant seat)) l = record { moved = refl; number = refl }
 state_goes (Some Normal) l = record { moved = refl; number = refl }
@@ -220,7 +220,7 @@ decided_goes None l = record { moved = refl; number = refl }
 freeze_looks : (z : Sizes) (i : ℕ) (l : Local) → Goes l.number (to_freeze_look z i l)
 freeze_looks z i l = either (nat_lt i z.seats) (to (Activity.Rebalance (Rebalance.Freeze (Freeze.Look i))) l) (to_scans l) (record { moved = refl; number = refl }) (record { moved = refl; number = refl })
 
-freeze_goes : (z : Sizes) (i : ℕ) (e : Option Pend) (l : Local) → Goes l.number (freeze_met z i e l)
+freeze_goes : (z : Sizes) (i : ℕ) (e : Option Pend) (l : Local) → Goes l.number (freeze_seen z i e l)
 freeze_goes z i (Some pend.Idle) l = record { moved = refl; number = refl }
 freeze_goes z i (Some (pend.Pending cell)) l = record { moved = refl; number = refl }
 freeze_goes z i (Some (pend.Stamped cell version)) l = freeze_looks z (i + 1) (marking cell version l)
@@ -234,11 +234,11 @@ entry_goes z i false l = record { moved = refl; number = refl }
 scan_looks_then : {n : ℕ} (z : Sizes) (i : ℕ) (l : Local) → l.number ≡ n → Goes n (to_scan_look z i l)
 scan_looks_then z i l e = either (nat_lt i z.seats) (to (Activity.Rebalance (Rebalance.Freeze (Freeze.Scan i))) l) (to_take l) (record { moved = refl; number = e }) (record { moved = refl; number = e })
 
-scan_met_goes : (z : Sizes) (i : ℕ) (w : Option ScanWord) (l : Local) → Goes l.number (scan_met z i w l)
-scan_met_goes z i (Some scan.Quiet) l = scan_looks_then z (i + 1) l refl
-scan_met_goes z i (Some (scan.Waiting clock)) l = record { moved = refl; number = refl }
-scan_met_goes z i (Some (scan.Drawn version)) l = scan_looks_then z (i + 1) (needing version l) refl
-scan_met_goes z i None l = scan_looks_then z (i + 1) l refl
+scan_seen_goes : (z : Sizes) (i : ℕ) (w : Option ScanWord) (l : Local) → Goes l.number (scan_seen z i w l)
+scan_seen_goes z i (Some scan.Quiet) l = scan_looks_then z (i + 1) l refl
+scan_seen_goes z i (Some (scan.Waiting clock)) l = record { moved = refl; number = refl }
+scan_seen_goes z i (Some (scan.Drawn version)) l = scan_looks_then z (i + 1) (needing version l) refl
+scan_seen_goes z i None l = scan_looks_then z (i + 1) l refl
 
 -- what is needed changes no number
 needs : (b : Bool) (version : ℕ) (l : Local) → (if b then needing version l else l).number ≡ l.number
@@ -255,7 +255,7 @@ left_goes : (z : Sizes) (m : Option Mark) (l : Local) → Goes l.number (left_of
 left_goes z (Some m) l = record { moved = refl; number = refl }
 left_goes z None l = record { moved = refl; number = refl }
 
-take_goes : (z : Sizes) (cell : Option ℕ) (l : Local) → Goes l.number (take_met z cell l)
+take_goes : (z : Sizes) (cell : Option ℕ) (l : Local) → Goes l.number (take_reached z cell l)
 take_goes z (Some cell) l = record { moved = refl; number = refl }
 take_goes z None l = left_goes z (least_mark l.rebalance.marks) l
 
@@ -276,7 +276,7 @@ seeks rows l = either (nat_lt l.rebalance.asked rows) (to (Activity.Rebalance (R
 passes_then : (z : Sizes) (i : ℕ) (l : Local) → Goes l.number (to_pass z i l)
 passes_then z i l = either (nat_lt i z.seats) (to (Activity.Rebalance (Rebalance.Seek (Seek.Pass i))) l) (to (Activity.Rebalance (Rebalance.Seek Seek.Reclaim)) l) (record { moved = refl; number = refl }) (record { moved = refl; number = refl })
 
-seek_goes : (rows : ℕ) (state : Option State) (l : Local) → Goes l.number (seek_met rows state l)
+seek_goes : (rows : ℕ) (state : Option State) (l : Local) → Goes l.number (seek_seen rows state l)
 seek_goes rows (Some Free) l = record { moved = refl; number = refl }
 seek_goes rows (Some (Infant seat)) l = seeks rows l
 seek_goes rows (Some Normal) l = seeks rows l
@@ -291,7 +291,7 @@ seek_first_goes Go l rows told = seek_goes rows (state_of told) (seeking l.rebal
 seek_first_goes (Guess r) l rows told = seek_goes rows (state_of told) (seeking r l)
 seek_first_goes Stop l rows told = seek_goes rows (state_of told) (seeking l.rebalance.sought l)
 
-pass_goes : (z : Sizes) (i rows : ℕ) (epoch : Option ℕ) (l : Local) → Goes l.number (pass_met z i rows epoch l)
+pass_goes : (z : Sizes) (i rows : ℕ) (epoch : Option ℕ) (l : Local) → Goes l.number (pass_seen z i rows epoch l)
 pass_goes z i rows (Some epoch) l = either (nat_le epoch l.rebalance.number) (to_seek rows l) (to_pass z (i + 1) l) (seeks rows l) (passes_then z (i + 1) l)
 pass_goes z i rows None l = passes_then z (i + 1) l
 
@@ -364,7 +364,7 @@ goes_on z (Activity.Walk Walk.Start) s choice l rows told e n = start_goes choic
 goes_on z (Activity.Walk Walk.First) s choice l rows told e n = record { moved = refl; number = refl }
 goes_on z (Activity.Walk Walk.GuessedLeast) s choice l rows told e n = either (nat_le (key_of_word told) l.want) (to (Activity.Walk Walk.Next) (record l { lower = key_of_word told })) (to (Activity.Walk Walk.First) l) (record { moved = refl; number = refl }) (record { moved = refl; number = refl })
 goes_on z (Activity.Walk Walk.Next) s choice l rows told e n = walk_goes (is_stopped choice l) s l rows told
-goes_on z (Activity.Walk Walk.NextLeast) s choice l rows told e n = walk_min_goes (key_of_word told) l
+goes_on z (Activity.Walk Walk.NextLeast) s choice l rows told e n = walk_least_goes (key_of_word told) l
 goes_on z (Activity.Look (Look.Entry i)) s choice l rows told e n = look_goes z i (pend_of told) l
 goes_on z (Activity.Look Look.Key) s choice l rows told e n = either (is_in_range l.call (key_of_word told)) (to (Activity.Look Look.Clock) l) (to_look z (l.looked + 1) l) (record { moved = refl; number = refl }) (looks z (l.looked + 1) l)
 goes_on z (Activity.Look Look.Clock) s choice l rows told e n = record { moved = refl; number = refl }
@@ -373,7 +373,7 @@ goes_on z (Activity.Read Read.Link) s choice l rows told e n = list_goes z (cell
 goes_on z (Activity.Read Read.Key) s choice l rows told e n = list_key_goes (key_of_word told) l
 goes_on z (Activity.Read Read.Version) s choice l rows told e n = record { moved = refl; number = refl }
 goes_on z (Activity.Read Read.Value) s choice l rows told e n = record { moved = refl; number = refl }
-goes_on z (Activity.Read Read.LeftOverKey) s choice l rows told e n = either (is_in_range l.call (key_of_word told)) (to (Activity.Read Read.LeftOverValue) (record l { place_key = key_of_word told })) (to_rest l) (record { moved = refl; number = refl }) (rests l)
+goes_on z (Activity.Read Read.LeftOverKey) s choice l rows told e n = either (is_in_range l.call (key_of_word told)) (to (Activity.Read Read.LeftOverValue) (record l { place_key = key_of_word told })) (to_left_over l) (record { moved = refl; number = refl }) (rests l)
 goes_on z (Activity.Read Read.LeftOverValue) s choice l rows told e n = rests (gathering z (value_of_word told) l)
 goes_on z (Activity.EndScan answer) s choice l rows told e n = record { moved = refl; number = refl }
 goes_on z (Activity.Put Put.Count) s choice l rows told e n = either (has_room z (count_of told)) (to (Activity.Put Put.Add) l) (to_rebalance l) (record { moved = refl; number = refl }) (record { moved = refl; number = refl })
@@ -400,7 +400,7 @@ goes_on z (Activity.Rebalance (Rebalance.Engage (Engage.Decide count))) s choice
 goes_on z (Activity.Rebalance (Rebalance.Freeze Freeze.Count)) s choice l rows told e n = record { moved = refl; number = refl }
 goes_on z (Activity.Rebalance (Rebalance.Freeze (Freeze.Look i))) s choice l rows told e n = freeze_goes z i (pend_of told) l
 goes_on z (Activity.Rebalance (Rebalance.Freeze (Freeze.Entry i))) s choice l rows told e n = entry_goes z i (told == pend_word l.rebalance.entry) l
-goes_on z (Activity.Rebalance (Rebalance.Freeze (Freeze.Scan i))) s choice l rows told e n = scan_met_goes z i (scan_of told) l
+goes_on z (Activity.Rebalance (Rebalance.Freeze (Freeze.Scan i))) s choice l rows told e n = scan_seen_goes z i (scan_of told) l
 goes_on z (Activity.Rebalance (Rebalance.Freeze (Freeze.Draw i))) s choice l rows told e n = record { moved = refl; number = refl }
 goes_on z (Activity.Rebalance (Rebalance.Freeze (Freeze.Settle i))) s choice l rows told e n = helped_goes z i (scan_of told) l
 goes_on z (Activity.Rebalance (Rebalance.Gather Gather.Link)) s choice l rows told e n = take_goes z (cell_of_link_word told) l

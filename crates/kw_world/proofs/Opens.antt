@@ -67,7 +67,7 @@ rests_known z rows n sized = record {
     version = (omega arith, omega arith);
     pairs = All-nil IsPair;
     looked = omega (arith, sized.some_seats);
-    met = omega (arith, sized.some_cells);
+    saw = omega (arith, sized.some_cells);
     helping = (omega arith, omega arith);
     marks = All-nil (IsMark z);
     place = omega (arith, sized.some_cells);
@@ -120,7 +120,7 @@ module _ (z : Sizes) (o : Opening) (i : IsOpening z o) where
   opening_sane (name.State zero) w = subst (IsRowState z) (sym state_of-Normal) tt
   opening_sane (name.State (suc q)) w = subst (IsRowState z) (sym state_of-Free) tt
   opening_sane (name.Count q) w = subst IsGiven (sym none_counted) (omega arith)
-  opening_sane (name.Min q) w = omega arith
+  opening_sane (name.Least q) w = omega arith
   opening_sane (name.Next q) w = subst IsKnownWord (sym last_link) tt
   opening_sane (name.First q) w = omega arith
   opening_sane (name.Pend q seat) w = subst (IsEntry z) (sym pend_of-Idle) tt

@@ -36,11 +36,11 @@ step-still z w e done = known (slice_get w.locals e.seat) refl
   where
     known : (o : Option Local) → slice_get w.locals e.seat ≡ o → step z w e ≡ stepped w Skipped
     known None h = step-absent z w e h
-    known (Some l) h = met (is_skipped l.activity e.choice) refl
+    known (Some l) h = saw (is_skipped l.activity e.choice) refl
       where
-        met : (b : Bool) → is_skipped l.activity e.choice ≡ b → step z w e ≡ stepped w Skipped
-        met true skipped = step-skipped z w e l h skipped
-        met false goes = absurd (subst IsMade done (step-made z w e l h goes))
+        saw : (b : Bool) → is_skipped l.activity e.choice ≡ b → step z w e ≡ stepped w Skipped
+        saw true skipped = step-skipped z w e l h skipped
+        saw false goes = absurd (subst IsMade done (step-made z w e l h goes))
 
 -- the same, where the world and the answer were made by the event
 pub step-unchanged : (z : Sizes) (w after : WorldView) (e : Event) (done : StepDone) → stepped after done ≡ step z w e → done ≡ Skipped → after ≡ w

@@ -42,22 +42,22 @@ use Rattle.kw_world.specs.Sane.{IsLocal, IsLocalBelow, IsCellBelow, IsRowBelow, 
 pub offered_below : (rows : ℕ) (choice : Choice) → IsOffered rows (offered rows choice)
 offered_below rows (Begin call) = tt
 offered_below rows Go = tt
-offered_below rows (Guess r) = met (nat_lt r rows) refl
+offered_below rows (Guess r) = saw (nat_lt r rows) refl
   where
-    met : (b : Bool) → nat_lt r rows ≡ b → IsOffered rows (if b then Guess r else Go)
-    met true e = grind (arith, nat_tests)
-    met false e = tt
+    saw : (b : Bool) → nat_lt r rows ≡ b → IsOffered rows (if b then Guess r else Go)
+    saw true e = grind (arith, nat_tests)
+    saw false e = tt
 offered_below rows Stop = tt
 
 -- which part an event is of does not depend on whether a guess is offered
 pub part-offered : (rows : ℕ) (choice : Choice) (l : Local) → part_of (offered rows choice) l ≡ part_of choice l
 part-offered rows (Begin call) l = refl
 part-offered rows Go l = refl
-part-offered rows (Guess r) l = met (nat_lt r rows)
+part-offered rows (Guess r) l = saw (nat_lt r rows)
   where
-    met : (b : Bool) → part_of (if b then Guess r else Go) l ≡ part_of (Guess r) l
-    met true = refl
-    met false = elsewhere l.activity
+    saw : (b : Bool) → part_of (if b then Guess r else Go) l ≡ part_of (Guess r) l
+    saw true = refl
+    saw false = elsewhere l.activity
       where
         elsewhere : (a : Activity) → part_at a Go l ≡ part_at a (Guess r) l
         elsewhere (Activity.Walk Walk.Next) = refl
@@ -114,7 +114,7 @@ within z (Activity.Walk Walk.Next) rows s choice l i b t o g = walks (is_stopped
     walks false = b.row
 within z (Activity.Walk Walk.NextLeast) rows s choice l i b t o g = b.candidate
 within z (Activity.Look (Look.Entry k)) rows s choice l i b t o g = (b.row, o)
-within z (Activity.Look Look.Key) rows s choice l i b t o g = (b.row, i.met)
+within z (Activity.Look Look.Key) rows s choice l i b t o g = (b.row, i.saw)
 within z (Activity.Look Look.Clock) rows s choice l i b t o g = tt
 within z (Activity.Look Look.Help) rows s choice l i b t o g = (b.row, i.looked)
 within z (Activity.Read Read.Link) rows s choice l i b t o g = link_within z rows l.row l.link i.link b.row

@@ -13,14 +13,14 @@ use Rattle.kw_world.specs.declared.event.Choice.{Choice}
 use Rattle.kw_world.specs.declared.operation.Action.TheVariants.{Load, Or, Exchange}
 use Rattle.kw_world.specs.Sizes.{Sizes}
 use Rattle.kw_world.specs.Transition.{Transition, at, to, row_linked}
-use Rattle.kw_world.specs.EngageTransitions.{balance_clock, balance_epoch, state_met, engaged, link_marked, decided}
+use Rattle.kw_world.specs.EngageTransitions.{balance_clock, balance_epoch, state_seen, engaged, link_marked, decided}
 use Rattle.kw_world.specs.declared.activity.rebalance.engage.Engage.{Engage}
 
 -- the lines of engaging
 abbrev pub engage_lines : Sizes → Engage → ℕ → Choice → Local → Transition
 engage_lines z Engage.Clock s choice l = at kind.LoadClock Clock Load (λ c. balance_clock c l)
 engage_lines z Engage.Epoch s choice l = at kind.LoadEpoch Epoch Load (λ e. balance_epoch e l)
-engage_lines z Engage.State s choice l = at kind.LoadState (State l.row) Load (λ w. state_met (state_of w) l)
+engage_lines z Engage.State s choice l = at kind.LoadState (State l.row) Load (λ w. state_seen (state_of w) l)
 engage_lines z (Engage.Normal seat) s choice l = at kind.Normalise (State l.row) (Exchange (state_word (state.Infant seat)) (state_word state.Normal)) (λ _. to (Activity.Rebalance (Rebalance.Engage Engage.State)) l)
 engage_lines z Engage.Lead s choice l = at kind.Engage (State l.row) (Exchange (state_word state.Normal) (state_word (state.Leader 0))) (λ w. engaged (w == state_word state.Normal) l)
 engage_lines z (Engage.MarkLink count) s choice l = at kind.MarkLink (Next l.row) (Or MARK_BIT) (λ w. link_marked count (row_linked (link_of w)) l)

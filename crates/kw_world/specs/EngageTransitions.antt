@@ -51,14 +51,14 @@ is_alone count = nat_le count 1
 
 -- Engage::State: a normal row is engaged, a leader of one row is helped, and what its seat has
 -- built is made normal first
-abbrev pub state_met : Option State → Local → Outcome
-state_met (Some Free) l = again l
-state_met (Some (Infant seat)) l = to (Activity.Rebalance (Rebalance.Engage (Engage.Normal seat))) l
-state_met (Some Normal) l = to (Activity.Rebalance (Rebalance.Engage Engage.Lead)) l
-state_met (Some (Leader count)) l = if is_alone count then to (Activity.Rebalance (Rebalance.Engage (Engage.MarkLink count))) l else again l
-state_met (Some (Follower leader)) l = again l
-state_met (Some (Retired number)) l = again l
-state_met None l = again l
+abbrev pub state_seen : Option State → Local → Outcome
+state_seen (Some Free) l = again l
+state_seen (Some (Infant seat)) l = to (Activity.Rebalance (Rebalance.Engage (Engage.Normal seat))) l
+state_seen (Some Normal) l = to (Activity.Rebalance (Rebalance.Engage Engage.Lead)) l
+state_seen (Some (Leader count)) l = if is_alone count then to (Activity.Rebalance (Rebalance.Engage (Engage.MarkLink count))) l else again l
+state_seen (Some (Follower leader)) l = again l
+state_seen (Some (Retired number)) l = again l
+state_seen None l = again l
 
 -- Engage: the exchange was made, or the state is asked for once more
 abbrev pub engaged : Bool → Local → Outcome

@@ -14,14 +14,14 @@ use Rattle.kw_world.specs.declared.event.Choice.{Choice}
 use Rattle.kw_world.specs.declared.operation.Action.TheVariants.{Load, Add, Or, Exchange}
 use Rattle.kw_world.specs.Sizes.{Sizes}
 use Rattle.kw_world.specs.Transition.{Transition, at, to}
-use Rattle.kw_world.specs.FreezeTransitions.{count_frozen, freeze_met, entry_tried, scan_met, scan_helped}
+use Rattle.kw_world.specs.FreezeTransitions.{count_frozen, freeze_seen, entry_tried, scan_seen, scan_helped}
 use Rattle.kw_world.specs.declared.activity.rebalance.freeze.Freeze.{Freeze}
 
 -- the lines of freezing
 abbrev pub freeze_lines : Sizes → Freeze → ℕ → Choice → Local → Transition
 freeze_lines z Freeze.Count s choice l = at kind.FreezeCount (Count l.row) (Or FROZEN_BIT) (λ _. count_frozen l)
-freeze_lines z (Freeze.Look i) s choice l = at kind.LoadPend (Pend l.row i) Load (λ w. freeze_met z i (pend_of w) l)
+freeze_lines z (Freeze.Look i) s choice l = at kind.LoadPend (Pend l.row i) Load (λ w. freeze_seen z i (pend_of w) l)
 freeze_lines z (Freeze.Entry i) s choice l = at kind.FreezePend (Pend l.row i) (Exchange (pend_word l.rebalance.entry) (pend_word pend.Frozen)) (λ w. entry_tried z i (w == pend_word l.rebalance.entry) l)
-freeze_lines z (Freeze.Scan i) s choice l = at kind.LoadScan (Scan i) Load (λ w. scan_met z i (scan_of w) l)
+freeze_lines z (Freeze.Scan i) s choice l = at kind.LoadScan (Scan i) Load (λ w. scan_seen z i (scan_of w) l)
 freeze_lines z (Freeze.Draw i) s choice l = at kind.HelpDraw Clock (Add 1) (λ v. to (Activity.Rebalance (Rebalance.Freeze (Freeze.Settle i))) (record l { rebalance = record l.rebalance { drawn = v } }))
 freeze_lines z (Freeze.Settle i) s choice l = at kind.HelpSettle (Scan i) (Exchange (scan_word (Waiting l.rebalance.waiting)) (scan_word (Drawn l.rebalance.drawn))) (λ w. scan_helped z i (scan_of w) l)

@@ -39,13 +39,13 @@ abbrev pub freezing : ℕ → Pend → Local → Outcome
 freezing i entry l = to (Activity.Rebalance (Rebalance.Freeze (Freeze.Entry i))) (record l { rebalance = record l.rebalance { entry = entry } })
 
 -- Freeze::Look(i): an idle or a pending entry is frozen, a stamped cell is remembered, and a frozen
--- entry is passed over
-abbrev pub freeze_met : Sizes → ℕ → Option Pend → Local → Outcome
-freeze_met z i (Some Idle) l = freezing i Idle l
-freeze_met z i (Some (Pending cell)) l = freezing i (Pending cell) l
-freeze_met z i (Some (Stamped cell version)) l = to_freeze_look z (i + 1) (marking cell version l)
-freeze_met z i (Some Frozen) l = to_freeze_look z (i + 1) l
-freeze_met z i None l = to_freeze_look z (i + 1) l
+-- entry is gone by
+abbrev pub freeze_seen : Sizes → ℕ → Option Pend → Local → Outcome
+freeze_seen z i (Some Idle) l = freezing i Idle l
+freeze_seen z i (Some (Pending cell)) l = freezing i (Pending cell) l
+freeze_seen z i (Some (Stamped cell version)) l = to_freeze_look z (i + 1) (marking cell version l)
+freeze_seen z i (Some Frozen) l = to_freeze_look z (i + 1) l
+freeze_seen z i None l = to_freeze_look z (i + 1) l
 
 -- Freeze(i): the exchange was made, or the entry is looked at once more
 abbrev pub entry_tried : Sizes → ℕ → Bool → Local → Outcome
@@ -61,11 +61,11 @@ abbrev pub needing : ℕ → Local → Local
 needing version l = record l { rebalance = record l.rebalance { needed = l.rebalance.needed ++ version ∷ [] } }
 
 -- Freeze::Scan(i): a scan that waits is helped, and the version of one that has drawn is needed
-abbrev pub scan_met : Sizes → ℕ → Option ScanWord → Local → Outcome
-scan_met z i (Some Quiet) l = to_scan_look z (i + 1) l
-scan_met z i (Some (Waiting clock)) l = to (Activity.Rebalance (Rebalance.Freeze (Freeze.Draw i))) (record l { rebalance = record l.rebalance { waiting = clock } })
-scan_met z i (Some (Drawn version)) l = to_scan_look z (i + 1) (needing version l)
-scan_met z i None l = to_scan_look z (i + 1) l
+abbrev pub scan_seen : Sizes → ℕ → Option ScanWord → Local → Outcome
+scan_seen z i (Some Quiet) l = to_scan_look z (i + 1) l
+scan_seen z i (Some (Waiting clock)) l = to (Activity.Rebalance (Rebalance.Freeze (Freeze.Draw i))) (record l { rebalance = record l.rebalance { waiting = clock } })
+scan_seen z i (Some (Drawn version)) l = to_scan_look z (i + 1) (needing version l)
+scan_seen z i None l = to_scan_look z (i + 1) l
 
 -- Freeze::Settle(i): the version that the exchange gave the scan is needed, or the one that was
 -- found

@@ -25,15 +25,15 @@ link_name r None = First r
 abbrev pub one_more : Sizes → ℕ → ℕ
 one_more z n = min (n + 1) z.cells
 
--- the walk begins at the row's first link, and has met no cell
+-- the walk begins at the row's first link, and has reached no cell
 abbrev pub at_first : Local → Local
 at_first l = record l { link = None; walked = 0 }
 
--- the walk has met this cell behind its link
+-- the walk has reached this cell behind its link
 abbrev pub meeting : Sizes → ℕ → Local → Local
 meeting z cell l = record l { held = Some cell; place = cell; walked = one_more z l.walked }
 
--- the walk stands at the link after the cell that it met
+-- the walk stands at the link after the cell that it reached
 abbrev pub past_cell : Local → Local
 past_cell l = record l { link = Some l.place }
 
@@ -41,16 +41,17 @@ past_cell l = record l { link = Some l.place }
 abbrev pub to_insert : Local → Outcome
 to_insert l = to (Activity.Insert Insert.Link) (record (at_first l) { lost = 0 })
 
--- Insert::Link: the link leads to a cell, which is met, or to none, where the own cell is the last
+-- Insert::Link: the link leads to a cell, which is reached, or to none, where the own cell is the
+-- last
 abbrev pub insert_from : Sizes → Option ℕ → Local → Outcome
 insert_from z (Some cell) l = to (Activity.Insert Insert.Key) (meeting z cell l)
 insert_from z None l = to (Activity.Insert Insert.Set) (record l { held = None })
 
--- the cell that was met is passed
+-- the cell that was reached is gone by
 abbrev pub insert_past : Local → Outcome
 insert_past l = to (Activity.Insert Insert.Link) (past_cell l)
 
--- Insert::Key: a cell of a smaller key is passed, one of the own key is asked for its version, and
+-- Insert::Key: a cell of a smaller key is gone by, one of the own key is asked for its version, and
 -- the own cell stands before one of a greater key
 abbrev pub insert_key : ℕ → Local → Outcome
 insert_key key l =
@@ -63,7 +64,7 @@ insert_key key l =
 abbrev pub is_newer : ℕ → ℕ → Local → Bool
 is_newer version place l = nat_lt l.version version || version == l.version && nat_lt l.cell place
 
--- Insert::Version: a cell that stands before the own is passed, and the own stands before every
+-- Insert::Version: a cell that stands before the own is gone by, and the own stands before every
 -- other; a cell without a version counts as one of version 0
 abbrev pub insert_version : Option ℕ → Local → Outcome
 insert_version version l = if is_newer (unwrap_or version 0) l.place l then insert_past l else to (Activity.Insert Insert.Set) l

@@ -47,7 +47,7 @@ resting number = record {
   has_read = false;
   pairs = [];
   looked = 0;
-  met = 0;
+  saw = 0;
   helping = 1;
   remembered = [];
   place = 0;
@@ -67,7 +67,7 @@ resting number = record {
 abbrev pub without_rows : Local → Local
 without_rows l = record l { row = 0; lower = 0; candidate = 0; next = None; upper = 0 }
 
--- nothing of a row is remembered or gathered, and no cell of its list is met
+-- nothing of a row is remembered or gathered, and no cell of its list is reached
 abbrev pub before_row : Local → Local
 before_row l = record l { remembered = []; gathered = []; link = None; walked = 0 }
 

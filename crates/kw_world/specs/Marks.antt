@@ -1,4 +1,4 @@
--- The stamped cells that a reader has met in a row.
+-- The stamped cells that a reader has seen in a row.
 use Rattle.std.specs.Prelude.{ℕ, List, [], ◌∷◌, Option, Some, None, Bool, true, false, ◌==◌, nat_lt, if◌then◌else◌, filter}
 use Rattle.kw_world.specs.declared.marks.Mark.{Mark}
 

@@ -1,7 +1,7 @@
 -- The world that a run begins with.
 use Rattle.std.specs.Prelude.{ℕ, zero, suc, ◌<◌, ◌≤◌, List, Some, false, replicate, slice_set}
 use Rattle.kw_words.specs.declared.layout.Name.{Name}
-use Rattle.kw_words.specs.declared.layout.Name.TheVariants.{Clock, Epoch, Head, Turn, Pass, Scan, Pin, State, Count, Min, Next, First, Pend, Key, Value, Version, After}
+use Rattle.kw_words.specs.declared.layout.Name.TheVariants.{Clock, Epoch, Head, Turn, Pass, Scan, Pin, State, Count, Least, Next, First, Pend, Key, Value, Version, After}
 use Rattle.kw_words.specs.declared.link.Link.{Link}
 use Rattle.kw_words.specs.declared.state.State.TheVariants.{Free, Normal}
 use Rattle.kw_words.specs.declared.sizes.TheConstants.{SPENT}
@@ -59,7 +59,7 @@ opening_word o (Scan seat) = 0
 opening_word o (Pin seat) = 0
 opening_word o (State r) = opening_state r
 opening_word o (Count r) = 0
-opening_word o (Min r) = 0
+opening_word o (Least r) = 0
 opening_word o (Next r) = 0
 opening_word o (First r) = 0
 opening_word o (Pend r seat) = 0

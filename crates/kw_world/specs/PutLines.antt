@@ -13,7 +13,7 @@ use Rattle.kw_world.specs.declared.operation.Action.TheVariants.{Load, Store, Ad
 use Rattle.kw_world.specs.Sizes.{Sizes}
 use Rattle.kw_world.specs.Calls.{first_key, put_value}
 use Rattle.kw_world.specs.Transition.{Transition, at, at_rows, to}
-use Rattle.kw_world.specs.PutTransitions.{has_room, given_of, stamp_met, cleared}
+use Rattle.kw_world.specs.PutTransitions.{has_room, given_of, stamp_seen, cleared}
 use Rattle.kw_world.specs.ListTransitions.{link_name, to_insert, insert_from, insert_key, insert_version, insert_tried}
 use Rattle.kw_world.specs.EngageTransitions.{to_rebalance}
 use Rattle.kw_world.specs.declared.activity.put.Put.{Put}
@@ -27,7 +27,7 @@ put_lines z Put.Key s choice l = at kind.StoreKey (Key l.row l.cell) (Store (key
 put_lines z Put.Value s choice l = at kind.StoreValue (Value l.row l.cell) (Store (value_word (put_value l.call))) (λ _. to (Activity.Put Put.Announce) l)
 put_lines z Put.Announce s choice l = at kind.Announce (Pend l.row s) (Exchange (pend_word pend.Idle) (pend_word (pend.Pending l.cell))) (λ w. if w == pend_word pend.Idle then to (Activity.Put Put.Clock) l else to_rebalance l)
 put_lines z Put.Clock s choice l = at kind.LoadClock Clock Load (λ v. to (Activity.Put Put.Stamp) (record l { version = v }))
-put_lines z Put.Stamp s choice l = at kind.Stamp (Pend l.row s) (Exchange (pend_word (pend.Pending l.cell)) (pend_word (pend.Stamped l.cell l.version))) (λ w. stamp_met (pend_of w) l)
+put_lines z Put.Stamp s choice l = at kind.Stamp (Pend l.row s) (Exchange (pend_word (pend.Pending l.cell)) (pend_word (pend.Stamped l.cell l.version))) (λ w. stamp_seen (pend_of w) l)
 put_lines z Put.Version s choice l = at kind.StoreVersion (Version l.row l.cell) (Store (version_word (Some l.version))) (λ _. to_insert l)
 put_lines z Put.Clear s choice l = at_rows kind.ClearPend (Pend l.row s) (Store (pend_word pend.Idle)) (λ rows _. cleared rows choice l)
 

@@ -26,14 +26,14 @@ has_room z None = false
 
 -- Stamp: the exchange was made, or the put's own cell was found stamped; else the row is full, and
 -- is rebalanced
-abbrev pub stamp_met : Option Pend → Local → Outcome
-stamp_met (Some Idle) l = to_rebalance l
-stamp_met (Some (Pending cell)) l = if cell == l.cell then to (Activity.Put Put.Version) l else to_rebalance l
-stamp_met (Some (Stamped cell version)) l = if cell == l.cell then to (Activity.Put Put.Version) (record l { version = version }) else to_rebalance l
-stamp_met (Some Frozen) l = to_rebalance l
-stamp_met None l = to_rebalance l
+abbrev pub stamp_seen : Option Pend → Local → Outcome
+stamp_seen (Some Idle) l = to_rebalance l
+stamp_seen (Some (Pending cell)) l = if cell == l.cell then to (Activity.Put Put.Version) l else to_rebalance l
+stamp_seen (Some (Stamped cell version)) l = if cell == l.cell then to (Activity.Put Put.Version) (record l { version = version }) else to_rebalance l
+stamp_seen (Some Frozen) l = to_rebalance l
+stamp_seen None l = to_rebalance l
 
--- the choice names the put's own row, and so many rows were retired before the put's pass that the
+-- the choice names the put's own row, and so many rows were retired before the put's visit that the
 -- put may tidy it
 abbrev pub tidies_row : ℕ → Choice → Local → Bool
 tidies_row rows (Begin call) l = false

@@ -32,22 +32,22 @@ abbrev pub remembering : ℕ → ℕ → Local → Local
 remembering cell version l = record l { remembered = l.remembered ++ mark_of cell version ∷ [] }
 
 -- Look(i): a pending cell is helped if its key is in range, a stamped cell is remembered, every
--- other entry is passed over
-abbrev pub look_met : Sizes → ℕ → Option Pend → Local → Outcome
-look_met z i (Some Idle) l = to_look z (i + 1) l
-look_met z i (Some (Pending cell)) l = to (Activity.Look Look.Key) (record l { looked = i; met = cell })
-look_met z i (Some (Stamped cell version)) l = to_look z (i + 1) (remembering cell version l)
-look_met z i (Some Frozen) l = to_look z (i + 1) l
-look_met z i None l = to_look z (i + 1) l
+-- other entry is gone by
+abbrev pub look_seen : Sizes → ℕ → Option Pend → Local → Outcome
+look_seen z i (Some Idle) l = to_look z (i + 1) l
+look_seen z i (Some (Pending cell)) l = to (Activity.Look Look.Key) (record l { looked = i; saw = cell })
+look_seen z i (Some (Stamped cell version)) l = to_look z (i + 1) (remembering cell version l)
+look_seen z i (Some Frozen) l = to_look z (i + 1) l
+look_seen z i None l = to_look z (i + 1) l
 
 -- Look::Help: the cell is remembered with the version that the exchange gave it, or with the one
 -- that was found
-abbrev pub help_met : Sizes → Option Pend → Local → Outcome
-help_met z (Some Idle) l = to_look z (l.looked + 1) l
-help_met z (Some (Pending cell)) l = to_look z (l.looked + 1) (if cell == l.met then remembering cell l.helping l else l)
-help_met z (Some (Stamped cell version)) l = to_look z (l.looked + 1) (remembering cell version l)
-help_met z (Some Frozen) l = to_look z (l.looked + 1) l
-help_met z None l = to_look z (l.looked + 1) l
+abbrev pub help_seen : Sizes → Option Pend → Local → Outcome
+help_seen z (Some Idle) l = to_look z (l.looked + 1) l
+help_seen z (Some (Pending cell)) l = to_look z (l.looked + 1) (if cell == l.saw then remembering cell l.helping l else l)
+help_seen z (Some (Stamped cell version)) l = to_look z (l.looked + 1) (remembering cell version l)
+help_seen z (Some Frozen) l = to_look z (l.looked + 1) l
+help_seen z None l = to_look z (l.looked + 1) l
 
 -- the end of a row's cells, for a get: what the best cell for the greatest version shows is the
 -- answer
@@ -83,36 +83,36 @@ row_read (Some (Get key)) l = get_answered key l
 row_read (Some (Scan from upto)) l = row_scanned upto l
 row_read None l = get_answered 0 l
 
--- Rest: a remembered cell of the least place is read, and remembered no more; where none is left,
--- the row is read
-abbrev pub rest_of : Option Mark → Local → Outcome
-rest_of (Some m) l = to (Activity.Read Read.LeftOverKey) (record l { place = m.cell; place_version = m.version; remembered = unmarked m.cell l.remembered })
-rest_of None l = row_read l.call l
+-- Left over: a remembered cell of the least place is read, and remembered no more; where none is
+-- left, the row is read
+abbrev pub left_over_of : Option Mark → Local → Outcome
+left_over_of (Some m) l = to (Activity.Read Read.LeftOverKey) (record l { place = m.cell; place_version = m.version; remembered = unmarked m.cell l.remembered })
+left_over_of None l = row_read l.call l
 
--- the remembered cells that were not met are left
-abbrev pub to_rest : Local → Outcome
-to_rest l = rest_of (least_mark l.remembered) l
+-- the remembered cells that were not reached are left
+abbrev pub to_left_over : Local → Outcome
+to_left_over l = left_over_of (least_mark l.remembered) l
 
--- the reader has met this cell behind its link: it need not be remembered any more
+-- the reader has reached this cell behind its link: it need not be remembered any more
 abbrev pub reaching : Sizes → ℕ → Local → Local
 reaching z cell l = record l { place = cell; walked = one_more z l.walked; remembered = unmarked cell l.remembered }
 
--- Read::Link: the link leads to a cell, which is met, or the list is at its end
-abbrev pub list_met : Sizes → Option ℕ → Local → Outcome
-list_met z (Some cell) l = to (Activity.Read Read.Key) (reaching z cell l)
-list_met z None l = to_rest l
+-- Read::Link: the link leads to a cell, which is reached, or the list is at its end
+abbrev pub list_reached : Sizes → Option ℕ → Local → Outcome
+list_reached z (Some cell) l = to (Activity.Read Read.Key) (reaching z cell l)
+list_reached z None l = to_left_over l
 
--- the cell that was met is passed
+-- the cell that was reached is gone by
 abbrev pub list_past : Local → Outcome
 list_past l = to (Activity.Read Read.Link) (past_cell l)
 
--- Read::Key: a cell below the range is passed, one of the range is read on, and at one above it the
--- walk is over
+-- Read::Key: a cell below the range is gone by, one of the range is read on, and at one above it
+-- the walk is over
 abbrev pub list_key : ℕ → Local → Outcome
 list_key key l =
     if nat_lt key (first_key l.call) then list_past l
     else if nat_le key (last_key l.call) then to (Activity.Read Read.Version) (record l { place_key = key })
-    else to_rest l
+    else to_left_over l
 
 -- Read::Version: a cell without a version, of which no list has one, counts as one of version 1
 abbrev pub list_version : Option ℕ → Local → Outcome
@@ -128,5 +128,5 @@ abbrev pub gathering : Sizes → Option ℕ → Local → Local
 gathering z value l = record l { gathered = if nat_lt (length l.gathered) z.cells then with_cell (cell_in_hand value l) l.gathered else l.gathered }
 
 -- Read::LeftOverKey: a remembered cell is read on if its key is in the range
-abbrev pub rest_key : ℕ → Local → Outcome
-rest_key key l = if is_in_range l.call key then to (Activity.Read Read.LeftOverValue) (record l { place_key = key }) else to_rest l
+abbrev pub left_over_key : ℕ → Local → Outcome
+left_over_key key l = if is_in_range l.call key then to (Activity.Read Read.LeftOverValue) (record l { place_key = key }) else to_left_over l

@@ -1,6 +1,6 @@
 -- The lines by which the new rows are linked in place of the full one, which is retired.
 use Rattle.std.specs.Prelude.{ℕ, Some}
-use Rattle.kw_words.specs.declared.layout.Name.TheVariants.{Epoch, State, Min, Next}
+use Rattle.kw_words.specs.declared.layout.Name.TheVariants.{Epoch, State, Least, Next}
 use Rattle.kw_words.specs.declared.kind.Kind.TheVariants as kind
 use Rattle.kw_words.specs.declared.state.State.TheVariants as state
 use Rattle.kw_words.specs.Link.{link_of, link_word}
@@ -22,10 +22,10 @@ use Rattle.kw_world.specs.declared.activity.rebalance.replace.Replace.{Replace}
 -- the lines of replacing
 abbrev pub replace_lines : Sizes → Replace → ℕ → Choice → Local → Transition
 replace_lines z Replace.Start s choice l = before_transition choice l
-replace_lines z Replace.GuessedLeast s choice l = at kind.LoadMin (Min (row_or_first l.rebalance.before)) Load (λ w. guess_least (key_of_word w) l)
+replace_lines z Replace.GuessedLeast s choice l = at kind.LoadLeast (Least (row_or_first l.rebalance.before)) Load (λ w. guess_least (key_of_word w) l)
 replace_lines z Replace.First s choice l = before_head_transition l
 replace_lines z Replace.Next s choice l = at kind.LoadLink (Next (row_or_first l.rebalance.before)) Load (λ w. link_before (link_of w) l)
-replace_lines z Replace.NextLeast s choice l = at kind.LoadMin (Min l.candidate) Load (λ w. least_before (key_of_word w) l)
+replace_lines z Replace.NextLeast s choice l = at kind.LoadLeast (Least l.candidate) Load (λ w. least_before (key_of_word w) l)
 replace_lines z Replace.Exchange s choice l = at kind.Replace (replaced_link l.rebalance.before) (Exchange (link_word (unmarked_link (Some l.row))) (link_word (unmarked_link (Some (first_infant l))))) (λ w. replaced (link_of w) l)
 replace_lines z Replace.Normalise s choice l = at kind.Normalise (State (infant l)) (Exchange (state_word (state.Infant s)) (state_word state.Normal)) (λ _. normalised l)
 replace_lines z Replace.Number s choice l = at kind.Number Epoch (Add 1) (λ e. to (Activity.Rebalance (Rebalance.Replace Replace.Retire)) (record l { rebalance = record l.rebalance { number = e } }))

@@ -2,7 +2,7 @@
 -- the full row, and retire it.
 --
 -- The walk to the row before goes from the first row, or from a guessed one, and ends at the link
--- to the full row. Where it meets a row whose least key is not below that of the full row, or no
+-- to the full row. Where it sees a row whose least key is not below that of the full row, or no
 -- row, the full row was replaced by somebody else.
 use Rattle.std.specs.Prelude.{ℕ, ◌+◌, Bool, nat_lt, ◌==◌, if◌then◌else◌, Option, Some, None, slice_index}
 use Rattle.kw_words.specs.declared.layout.Name.{Name}

@@ -96,7 +96,7 @@ IsWord z (name.Scan seat) w = IsKnownWord (scan_of w)
 IsWord z (name.Pin seat) w = w < VERSION_END
 IsWord z (name.State r) w = IsRowState z (state_of w)
 IsWord z (name.Count r) w = IsGiven (count_of w)
-IsWord z (name.Min r) w = w < KEY_END
+IsWord z (name.Least r) w = w < KEY_END
 IsWord z (name.Next r) w = IsKnownWord (link_of w)
 IsWord z (name.First r) w = w ≤ z.cells
 IsWord z (name.Pend r seat) w = IsEntry z (pend_of w)
@@ -223,7 +223,7 @@ pub record IsLocal (z : Sizes) (l : Local) : Type 0 where
   pub version : IsVersion l.version
   pub pairs : All IsPair l.pairs
   pub looked : l.looked < z.seats
-  pub met : l.met < z.cells
+  pub saw : l.saw < z.cells
   pub helping : IsVersion l.helping
   pub marks : All (IsMark z) l.remembered
   pub place : l.place < z.cells

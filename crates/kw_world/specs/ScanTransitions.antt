@@ -39,8 +39,8 @@ entered (Some (Scan from upto)) l = to (Activity.Draw Draw.Clock) l
 entered None l = to_start l
 
 -- Draw::Clock: from a certain clock on no scan begins
-abbrev pub clock_met : ℕ → Local → Outcome
-clock_met clock l = if nat_le SPENT clock then leave Spent l else to (Activity.Draw Draw.Wait) (record l { waiting = clock })
+abbrev pub clock_seen : ℕ → Local → Outcome
+clock_seen clock l = if nat_le SPENT clock then leave Spent l else to (Activity.Draw Draw.Wait) (record l { waiting = clock })
 
 -- Draw::Settle: the version that was set for the scan, else its own
 abbrev pub version_settled : Option ScanWord → ℕ → ℕ

@@ -1,7 +1,7 @@
 -- What follows from the events of the search for free rows, and from giving rows back.
 --
 -- The search goes round the table once, from row 0 or from a guessed row on. At a row that was
--- retired the passes of all seats are looked at: if none is on that began before the row went, the
+-- retired the visits of all seats are looked at: if none is on that began before the row went, the
 -- row is freed, and then taken as any free row.
 use Rattle.std.specs.Prelude.{ℕ, ◌+◌, Bool, true, false, nat_lt, nat_le, if◌then◌else◌, Option, Some, None, [], ◌∷◌, ◌++◌, length, slice_index}
 use Rattle.kw_words.specs.declared.layout.Name.TheVariants as name
@@ -68,20 +68,20 @@ to_seek rows l =
 abbrev pub numbered : ℕ → Local → Local
 numbered number l = record l { rebalance = record l.rebalance { number = number } }
 
--- the pass of this seat is looked at; once all are, the row is freed
+-- the visit of this seat is looked at; once all are, the row is freed
 abbrev pub to_pass : Sizes → ℕ → Local → Outcome
 to_pass z i l = if nat_lt i z.seats then to (Activity.Rebalance (Rebalance.Seek (Seek.Pass i))) l else to (Activity.Rebalance (Rebalance.Seek Seek.Reclaim)) l
 
--- Seek: a free row is taken, at a retired one the passes are looked at, and every other one is
--- passed over
-abbrev pub seek_met : ℕ → Option State → Local → Outcome
-seek_met rows (Some Free) l = to (Activity.Rebalance (Rebalance.Seek Seek.Take)) l
-seek_met rows (Some (Infant seat)) l = to_seek rows l
-seek_met rows (Some Normal) l = to_seek rows l
-seek_met rows (Some (Leader count)) l = to_seek rows l
-seek_met rows (Some (Follower leader)) l = to_seek rows l
-seek_met rows (Some (Retired number)) l = to (Activity.Rebalance (Rebalance.Seek (Seek.Pass 0))) (numbered number l)
-seek_met rows None l = to_seek rows l
+-- Seek: a free row is taken, at a retired one the visits are looked at, and every other one is
+-- gone by
+abbrev pub seek_seen : ℕ → Option State → Local → Outcome
+seek_seen rows (Some Free) l = to (Activity.Rebalance (Rebalance.Seek Seek.Take)) l
+seek_seen rows (Some (Infant seat)) l = to_seek rows l
+seek_seen rows (Some Normal) l = to_seek rows l
+seek_seen rows (Some (Leader count)) l = to_seek rows l
+seek_seen rows (Some (Follower leader)) l = to_seek rows l
+seek_seen rows (Some (Retired number)) l = to (Activity.Rebalance (Rebalance.Seek (Seek.Pass 0))) (numbered number l)
+seek_seen rows None l = to_seek rows l
 
 -- this row is asked
 abbrev pub seeking : ℕ → Local → Local
@@ -89,7 +89,7 @@ seeking r l = record l { rebalance = record l.rebalance { sought = r } }
 
 -- the line of a search at a row
 abbrev pub seek_transition : ℕ → Local → Transition
-seek_transition r l = at_rows kind.LoadState (name.State r) Load (λ rows w. seek_met rows (state_of w) (seeking r l))
+seek_transition r l = at_rows kind.LoadState (name.State r) Load (λ rows w. seek_seen rows (state_of w) (seeking r l))
 
 -- Seek::First
 abbrev pub seek_first_transition : Choice → Local → Transition
@@ -100,9 +100,9 @@ seek_first_transition Stop l = seek_transition l.rebalance.sought l
 
 -- Seek::Pass: a seat that announces an epoch up to the number may have entered before the row went,
 -- and keeps it from being used; any other seat does not
-abbrev pub pass_met : Sizes → ℕ → ℕ → Option ℕ → Local → Outcome
-pass_met z i rows (Some epoch) l = if nat_le epoch l.rebalance.number then to_seek rows l else to_pass z (i + 1) l
-pass_met z i rows None l = to_pass z (i + 1) l
+abbrev pub pass_seen : Sizes → ℕ → ℕ → Option ℕ → Local → Outcome
+pass_seen z i rows (Some epoch) l = if nat_le epoch l.rebalance.number then to_seek rows l else to_pass z (i + 1) l
+pass_seen z i rows None l = to_pass z (i + 1) l
 
 -- the row that was sought is taken
 abbrev pub with_row : Local → Local

@@ -10,12 +10,12 @@
 -- there. A rebalance has EngageTransitions for its beginning, FreezeTransitions for the full row's
 -- entries and the scans, TakeTransitions for the row's cells, SeekTransitions for free rows,
 -- WriteTransitions for new rows, and ReplaceTransitions for the exchange of the one for the others.
--- A put that meets a full row comes to it (`to_rebalance`).
+-- A put that sees a full row comes to it (`to_rebalance`).
 --
 -- Three steps of a call have no event, and so no line: the arrival at the row of the wanted key
--- (`arrive`), the end of a row's cells (`row_read`, which `to_rest` goes on to after the last one),
--- and the arrival at a full row (`to_rebalance`). They are passed through in what follows from the
--- event before them.
+-- (`arrive`), the end of a row's cells (`row_read`, which `to_left_over` goes on to after the last
+-- one), and the arrival at a full row (`to_rebalance`). They are passed through in what follows
+-- from the event before them.
 --
 -- `transition` is by cases on the activity alone, so that each line computes for every choice and
 -- every local. What a choice decides is given to a definition by cases on the choice (`begun`,

@@ -2,7 +2,7 @@
 -- new rows.
 --
 -- As a reader does, a rebalance walks along the row's list, and reads by themselves the stamped
--- cells that it remembers and did not meet. It gathers every key.
+-- cells that it remembers and did not reach. It gathers every key.
 use Rattle.std.specs.Prelude.{ℕ, nat_lt, if◌then◌else◌, Option, Some, None, [], length, unwrap_or}
 use Rattle.kw_cells.specs.Kept.{kept_of}
 use Rattle.kw_cells.specs.Cuts.{starts_of}
@@ -43,18 +43,18 @@ abbrev pub left_of : Sizes → Option Mark → Local → Outcome
 left_of z (Some m) l = to (Activity.Rebalance (Rebalance.Gather Gather.LeftOverKey)) (record l { place = m.cell; place_version = m.version; rebalance = record l.rebalance { marks = unmarked m.cell l.rebalance.marks } })
 left_of z None l = to (Activity.Rebalance (Rebalance.Seek Seek.First)) (planned z l)
 
--- the remembered cells that were not met are left
+-- the remembered cells that were not reached are left
 abbrev pub to_left : Sizes → Local → Outcome
 to_left z l = left_of z (least_mark l.rebalance.marks) l
 
--- the cell was met behind its link: it need not be remembered any more
+-- the cell was reached behind its link: it need not be remembered any more
 abbrev pub taking : Sizes → ℕ → Local → Local
 taking z cell l = record l { place = cell; walked = one_more z l.walked; rebalance = record l.rebalance { marks = unmarked cell l.rebalance.marks } }
 
--- Gather::Link: the link leads to a cell, which is met, or the list is at its end
-abbrev pub take_met : Sizes → Option ℕ → Local → Outcome
-take_met z (Some cell) l = to (Activity.Rebalance (Rebalance.Gather Gather.Key)) (taking z cell l)
-take_met z None l = to_left z l
+-- Gather::Link: the link leads to a cell, which is reached, or the list is at its end
+abbrev pub take_reached : Sizes → Option ℕ → Local → Outcome
+take_reached z (Some cell) l = to (Activity.Rebalance (Rebalance.Gather Gather.Key)) (taking z cell l)
+take_reached z None l = to_left z l
 
 -- Gather::Version: a cell without a version, of which no list has one, counts as one of version 1
 abbrev pub take_version : Option ℕ → Local → Outcome
@@ -69,6 +69,6 @@ keeping z value l = record l {
   };
 }
 
--- the walk goes on past the cell that it met
+-- the walk goes on past the cell that it reached
 abbrev pub take_past : Local → Outcome
 take_past l = to (Activity.Rebalance (Rebalance.Gather Gather.Link)) (past_cell l)

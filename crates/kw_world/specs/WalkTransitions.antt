@@ -30,31 +30,31 @@ offered rows Go = Go
 offered rows (Guess r) = if nat_lt r rows then Guess r else Go
 offered rows Stop = Stop
 
--- Head, and Start without a guess: the walk begins at the first row, whose minimum is 0
+-- Head, and Start without a guess: the walk begins at the first row, whose least key is 0
 abbrev pub head_transition : Local → Transition
 head_transition l = at kind.LoadHead name.Head Load (λ w. to (Activity.Walk Walk.Next) (record l { row = row_or_first (row_linked (link_of w)); lower = 0 }))
 
 -- Start with a guess: a row in the normal state is taken, and every other one sends the walk to the
 -- first row
-abbrev pub guess_met : ℕ → Option State → Local → Outcome
-guess_met r (Some Free) l = to (Activity.Walk Walk.First) l
-guess_met r (Some (Infant seat)) l = to (Activity.Walk Walk.First) l
-guess_met r (Some Normal) l = to (Activity.Walk Walk.GuessedLeast) (record l { row = r })
-guess_met r (Some (Leader count)) l = to (Activity.Walk Walk.First) l
-guess_met r (Some (Follower leader)) l = to (Activity.Walk Walk.First) l
-guess_met r (Some (Retired number)) l = to (Activity.Walk Walk.First) l
-guess_met r None l = to (Activity.Walk Walk.First) l
+abbrev pub guess_seen : ℕ → Option State → Local → Outcome
+guess_seen r (Some Free) l = to (Activity.Walk Walk.First) l
+guess_seen r (Some (Infant seat)) l = to (Activity.Walk Walk.First) l
+guess_seen r (Some Normal) l = to (Activity.Walk Walk.GuessedLeast) (record l { row = r })
+guess_seen r (Some (Leader count)) l = to (Activity.Walk Walk.First) l
+guess_seen r (Some (Follower leader)) l = to (Activity.Walk Walk.First) l
+guess_seen r (Some (Retired number)) l = to (Activity.Walk Walk.First) l
+guess_seen r None l = to (Activity.Walk Walk.First) l
 
 -- Start
 abbrev pub start_transition : Choice → Local → Transition
 start_transition (Begin call) l = head_transition l
 start_transition Go l = head_transition l
-start_transition (Guess r) l = at kind.LoadState (name.State r) Load (λ w. guess_met r (state_of w) l)
+start_transition (Guess r) l = at kind.LoadState (name.State r) Load (λ w. guess_seen r (state_of w) l)
 start_transition Stop l = head_transition l
 
--- Walk::GuessedLeast: the guessed row serves if the wanted key is not below its minimum
-abbrev pub guess_min : ℕ → Local → Outcome
-guess_min least l = if nat_le least l.want then to (Activity.Walk Walk.Next) (record l { lower = least }) else to (Activity.Walk Walk.First) l
+-- Walk::GuessedLeast: the guessed row serves if the wanted key is not below its least key
+abbrev pub guessed_least : ℕ → Local → Outcome
+guessed_least least l = if nat_le least l.want then to (Activity.Walk Walk.Next) (record l { lower = least }) else to (Activity.Walk Walk.First) l
 
 -- Arrive has no event: the walk has found the row of the wanted key
 abbrev pub arrive : Option Call → Local → Outcome
@@ -64,15 +64,15 @@ arrive (Some (Get key)) l = to (Activity.Look (Look.Entry 0)) (before_row l)
 arrive (Some (Scan from upto)) l = to (Activity.Look (Look.Entry 0)) (before_row l)
 arrive None l = to (Activity.Look (Look.Entry 0)) (before_row l)
 
--- Walk: the last row has no next one; else the minimum of the next one decides
-abbrev pub link_met : Option ℕ → Local → Outcome
-link_met None l = arrive l.call (record l { next = None; upper = 0 })
-link_met (Some r) l = to (Activity.Walk Walk.NextLeast) (record l { candidate = r })
+-- Walk: the last row has no next one; else the least key of the next one decides
+abbrev pub link_reached : Option ℕ → Local → Outcome
+link_reached None l = arrive l.call (record l { next = None; upper = 0 })
+link_reached (Some r) l = to (Activity.Walk Walk.NextLeast) (record l { candidate = r })
 
--- Walk::NextLeast: the walk goes on to a row whose minimum is at most the wanted key, and else ends
--- before it
-abbrev pub walk_min : ℕ → Local → Outcome
-walk_min least l =
+-- Walk::NextLeast: the walk goes on to a row whose least key is at most the wanted key, and else
+-- ends before it
+abbrev pub walk_least : ℕ → Local → Outcome
+walk_least least l =
     if nat_le least l.want then to (Activity.Walk Walk.Next) (record l { row = l.candidate; lower = least })
     else arrive l.call (record l { next = Some l.candidate; upper = least })
 
@@ -90,4 +90,4 @@ is_stopped choice l = is_stop choice && (is_scan l.call && l.has_read)
 -- Walk; the first test is whether it is stopped
 abbrev pub walk_transition : Bool → ℕ → Local → Transition
 walk_transition true s l = at kind.ClearScan (name.Scan s) (Store (scan_word Quiet)) (λ _. leave Stopped l)
-walk_transition false s l = at kind.LoadLink (name.Next l.row) Load (λ w. link_met (row_linked (link_of w)) l)
+walk_transition false s l = at kind.LoadLink (name.Next l.row) Load (λ w. link_reached (row_linked (link_of w)) l)

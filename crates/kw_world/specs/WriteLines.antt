@@ -1,6 +1,6 @@
 -- The lines by which the new rows are written.
 use Rattle.std.specs.Prelude.{ℕ, ◌+◌, slice_get}
-use Rattle.kw_words.specs.declared.layout.Name.TheVariants.{Count, Min, Next, First, Pend, Key, Value, Version, After}
+use Rattle.kw_words.specs.declared.layout.Name.TheVariants.{Count, Least, Next, First, Pend, Key, Value, Version, After}
 use Rattle.kw_words.specs.declared.kind.Kind.TheVariants as kind
 use Rattle.kw_words.specs.declared.pend.Pend.TheVariants as pend
 use Rattle.kw_words.specs.Count.{count_word}
@@ -22,7 +22,7 @@ use Rattle.kw_world.specs.declared.activity.rebalance.write.Write.{Write}
 -- the lines of writing
 abbrev pub write_lines : Sizes → Write → ℕ → Choice → Local → Transition
 write_lines z Write.Count s choice l = at kind.StoreInfant (Count (infant l)) (Store (count_word (infant_count l))) (λ _. to (Activity.Rebalance (Rebalance.Write Write.Least)) l)
-write_lines z Write.Least s choice l = at kind.StoreInfant (Min (infant l)) (Store (key_word (infant_least l))) (λ _. to (Activity.Rebalance (Rebalance.Write Write.Next)) l)
+write_lines z Write.Least s choice l = at kind.StoreInfant (Least (infant l)) (Store (key_word (infant_least l))) (λ _. to (Activity.Rebalance (Rebalance.Write Write.Next)) l)
 write_lines z Write.Next s choice l = at kind.StoreInfant (Next (infant l)) (Store (link_word (infant_link l))) (λ _. to (Activity.Rebalance (Rebalance.Write Write.First)) l)
 write_lines z Write.First s choice l = at kind.StoreInfant (First (infant l)) (Store (cell_link_word (first_listed (infant_cells l)))) (λ _. to_write_entry z 0 l)
 write_lines z (Write.Entry i) s choice l = at kind.StoreInfant (Pend (infant l) i) (Store (pend_word pend.Idle)) (λ _. to_write_entry z (i + 1) l)

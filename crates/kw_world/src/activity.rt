@@ -34,7 +34,7 @@ use crate::event::Choice;
 pub enum Activity {
     /// Begins a call, if the seat chooses one: loads the epoch.
     Idle,
-    /// Entering a pass.
+    /// Beginning a visit.
     Enter(Enter),
     /// A scan gets its version.
     Draw(Draw),

@@ -2,14 +2,14 @@
 //!
 //! Of each cell of the row whose key is in its range and whose put has a version a reader keeps a
 //! copy. The copies stand in the order of the row's list, so that what a version shows of them is
-//! found in one pass. A row has `CELLS` cells, so the list lies in place and takes no memory.
+//! found in one go. A row has `CELLS` cells, so the list lies in place and takes no memory.
 ghost use Rattle.std.specs.Prelude.{◌≡◌, ◌<◌, [], true, length, nat_lt, if◌then◌else◌, slice_index_or, remove, IfSome, IfNone};
 ghost use Rattle.kw_words.specs.declared.sizes.TheConstants.{CELLS};
-ghost use Rattle.kw_cells.specs.InOrder.{AreInOrder, place_in, stands_before, with_cell};
+ghost use Rattle.kw_cells.specs.InOrder.{AreInOrder, index_in, stands_before, with_cell};
 
 use arrayvec::ArrayVec;
 use kw_cells::cell::Cell;
-use kw_cells::in_order::{is_behind, place_in};
+use kw_cells::in_order::{index_in, is_behind};
 use kw_words::sizes::CELLS;
 use std::alloc::AllocError;
 use std::marker::Model;
@@ -65,8 +65,8 @@ impl Gathered {
     /// Puts a cell at its place among those that were gathered. The answer is that place.
     ///
     /// None where the cell is not put there, and all stays as it was: there is no room, or a cell
-    /// was gathered that agrees with it in key, version and place. No reader of a row meets either.
-    /// A walk along a row's list has the next cell for the end.
+    /// was gathered that agrees with it in key, version and place. No reader of a row reaches
+    /// either. A walk along a row's list has the next cell for the end.
     #[inline(always)]
     pub fn gather(&mut self, cell: Cell) -> Option<usize>
         ensures gathered { self.new ≡ (if nat_lt (length self.old) CELLS
@@ -92,7 +92,7 @@ impl Gathered {
         ensures put { IfSome result (λ at. (at < length self.new) × (remove self.new at ≡ self.old)) }
         ensures kept { IfNone result (self.new ≡ self.old) }
     {
-        let at = place_in(&cell, self.cells.as_slice());
+        let at = index_in(&cell, self.cells.as_slice());
         if !is_new(&cell, self.cells.as_slice(), at) {
             return None;
         }
@@ -102,10 +102,10 @@ impl Gathered {
 
     /// The place at which the cell is put among those that were gathered: how many of them stand
     /// before it in the list.
-    pub fn place_of(&self, cell: &Cell) -> usize
-        ensures { result ≡ place_in cell.now self.now }
+    pub fn index_of(&self, cell: &Cell) -> usize
+        ensures { result ≡ index_in cell.now self.now }
     {
-        place_in(cell, self.cells.as_slice())
+        index_in(cell, self.cells.as_slice())
     }
 
     /// Takes the cell at a place away.

@@ -11,7 +11,7 @@ pub const GIVEN_END: u64 = 1 << 31;
 pub const MOST_CALLS: u32 = u32::MAX;
 
 /// A put or a delete that is done may rebalance its own row where the table has fewer than so many
-/// rows for each number of its pass's epoch.
+/// rows for each number of its visit's epoch.
 ///
 /// The epoch counts the rows that were retired, so in a young map, whose rows are not scarce,
 /// nobody does.

@@ -59,16 +59,16 @@ pub struct Local {
     /// The pairs that a scan has added.
     pub pairs: PairList,
 
-    /// The seat whose entry a reader met pending, below the number of seats.
+    /// The seat whose entry a reader saw pending, below the number of seats.
     pub looked: u32,
-    /// The cell in that entry, below the number of cells.
-    pub met: u32,
+    /// The cell that it saw in that entry, below the number of cells.
+    pub saw: u32,
     /// The version with which a reader helps that cell's put, from 1 to below `VERSION_END`.
     pub helping: u64,
-    /// The stamped cells that a reader has met in entries of the row, and not yet in its list.
+    /// The stamped cells that a reader has seen in entries of the row, and not yet in its list.
     pub remembered: Marks,
-    /// The cell that a walk along the row's list has met, or that a reader remembered, below the
-    /// number of cells.
+    /// The cell that a walk along the row's list has reached, or that a reader remembered, below
+    /// the number of cells.
     pub place: u32,
     /// The version of that cell, from 1 to below `VERSION_END`.
     pub place_version: u64,
@@ -84,7 +84,7 @@ pub struct Local {
     pub link: Option<u32>,
     /// The cell to which that link led; none where it led to no cell.
     pub held: Option<u32>,
-    /// How many cells the walk has met since the row's first link, at most the number of cells.
+    /// How many cells the walk has reached since the row's first link, at most the number of cells.
     pub walked: u32,
     /// How many exchanges the put has lost that were to insert its cell, at most the number of
     /// cells.
@@ -121,7 +121,7 @@ impl Clone for Local {
             has_read: self.has_read,
             pairs: self.pairs.clone()?,
             looked: self.looked,
-            met: self.met,
+            saw: self.saw,
             helping: self.helping,
             remembered: self.remembered.clone()?,
             place: self.place,
@@ -162,7 +162,7 @@ impl Local {
             has_read: false,
             pairs: PairList::new(alloc),
             looked: 0,
-            met: 0,
+            saw: 0,
             helping: 1,
             remembered: Marks::new(),
             place: 0,
@@ -198,7 +198,7 @@ impl Local {
         self.has_read = false;
         self.pairs.truncate(0);
         self.looked = 0;
-        self.met = 0;
+        self.saw = 0;
         self.helping = 1;
         self.remembered.clear();
         self.place = 0;

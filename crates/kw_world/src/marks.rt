@@ -1,8 +1,8 @@
-//! The stamped cells that a reader has met in a row.
+//! The stamped cells that a reader has seen in a row.
 //!
 //! A reader looks at the entry of each seat before it walks along the row's list, and remembers the
 //! cell and the version of each put that has a version in its entry and may not be listed yet. A
-//! cell that it meets in the list is remembered no more; those that are left it reads by
+//! cell that it reaches in the list is remembered no more; those that are left it reads by
 //! themselves. There is one entry for each seat, so the list lies in place and takes no memory.
 ghost use Rattle.std.specs.Prelude.{◌≡◌, ◌<◌, ◌++◌, ◌∷◌, [], length};
 ghost use Rattle.kw_world.specs.Marks.{unmarked, least_mark, lesser_of};
@@ -22,7 +22,7 @@ pub struct Mark {
     pub version: u64,
 }
 
-/// The stamped cells that were met in entries, in the order of these; at most `SEATS`.
+/// The stamped cells that were seen in entries, in the order of these; at most `SEATS`.
 #[derive(Debug, Drop)]
 pub struct Marks {
     items: ArrayVec<Mark, SEATS>,

@@ -12,6 +12,6 @@ pub enum Part {
     Put,
     /// The rows: the walk along them.
     Rows,
-    /// A rebalance, of a full row that a put has met.
+    /// A rebalance, of a full row that a put has seen.
     Rebalance,
 }

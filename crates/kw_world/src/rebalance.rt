@@ -31,7 +31,7 @@ pub struct Rebalancing {
     pub after: Option<u32>,
     /// The entry that the seat found, and is about to freeze.
     pub entry: Pend,
-    /// The stamped cells that it has met in entries of the row, and not yet in its list.
+    /// The stamped cells that it has seen in entries of the row, and not yet in its list.
     pub marks: Marks,
     /// The clock with which another seat's scan waits, from 1 to below `VERSION_END`.
     pub waiting: u64,

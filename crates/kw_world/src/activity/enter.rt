@@ -1,8 +1,8 @@
-//! Entering a pass.
+//! Beginning a visit.
 //!
 //! A call announces the epoch in which it begins, and again where it tries again.
 
-/// Entering a pass.
+/// Beginning a visit.
 #[derive(Clone, Copy, Debug, PartialEq, Eq)]
 pub enum Enter {
     /// Announces the epoch.

@@ -8,7 +8,7 @@
 pub enum Insert {
     /// Loads the link of the row's list at which the put stands, to find the place of its cell.
     Link,
-    /// Loads the key of the cell that was met there.
+    /// Loads the key of the cell that was reached there.
     Key,
     /// Loads the version of that cell, whose key is the own.
     Version,

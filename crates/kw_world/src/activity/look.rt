@@ -7,7 +7,7 @@
 pub enum Look {
     /// Loads the entry of this seat in the row, below the number of seats.
     Entry(u32),
-    /// Loads the key of the cell that was met pending.
+    /// Loads the key of the cell that was seen pending.
     Key,
     /// Loads the clock, to help that cell's put.
     Clock,

@@ -1,19 +1,19 @@
 //! A reader goes along the list of its row.
 //!
-//! Then it reads the cells that it remembers of the entries and did not meet there.
+//! Then it reads the cells that it remembers of the entries and did not reach there.
 
 /// A reader goes along the list of its row.
 #[derive(Clone, Copy, Debug, PartialEq, Eq)]
 pub enum Read {
     /// Loads the link of the row's list at which a reader stands, once all entries are looked at.
     Link,
-    /// Loads the key of the cell that was met there.
+    /// Loads the key of the cell that was reached there.
     Key,
     /// Loads the version of that cell, whose key is in the range.
     Version,
     /// Loads the value of that cell.
     Value,
-    /// Loads the key of a remembered cell that was not met.
+    /// Loads the key of a remembered cell that was not reached.
     LeftOverKey,
     /// Loads the value of that cell.
     LeftOverValue,

@@ -10,4 +10,4 @@ pub load_row_link-told-requires : goal.load_row_link-told-requires
 load_row_link-told-requires c = (c.args.local.now, subst (λ a. Follows c.args.shared.now c.args.pass.now (walking a c.args.local.now)) c.requires.activity c.requires.follows, refl)
 
 pub returns : goal.returns
-returns c = moves_at (Activity.Walk Walk.Next) c.requires c.load_row_link-told.ensures c.meet_row_link.ensures
+returns c = moves_at (Activity.Walk Walk.Next) c.requires c.load_row_link-told.ensures c.see_row_link.ensures

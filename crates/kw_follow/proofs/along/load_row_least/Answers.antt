@@ -10,5 +10,5 @@ use Rattle.kw_follow.specs.Within.{walking}
 use Rattle.kw_follow.proofs.PutEvents.{asks_at}
 use Rattle.kw_follow.proofs.along.load_row_least.Goals as goal
 
-pub load_min-requires : goal.load_min-requires
-load_min-requires c = subst (λ (row : ℕ). Asks c.args.shared.now c.args.pass.now Go (operation kind.LoadMin (name.Min row) Load)) c.requires.2 (asks_at _ _ (walking (Activity.Walk Walk.NextLeast) c.requires.0) (Activity.Walk Walk.NextLeast) c.requires.1 refl tt)
+pub load_least-requires : goal.load_least-requires
+load_least-requires c = subst (λ (row : ℕ). Asks c.args.shared.now c.args.pass.now Go (operation kind.LoadLeast (name.Least row) Load)) c.requires.2 (asks_at _ _ (walking (Activity.Walk Walk.NextLeast) c.requires.0) (Activity.Walk Walk.NextLeast) c.requires.1 refl tt)

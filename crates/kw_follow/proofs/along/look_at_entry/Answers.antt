@@ -9,11 +9,11 @@ use Rattle.kw_follow.proofs.along.look_at_entry.Goals as goal
 pub load_entry-told-requires : goal.load_entry-told-requires
 load_entry-told-requires c = (c.args.local.now, subst (λ a. Follows c.args.shared.now c.args.pass.now (record c.args.local.now { activity = a })) c.requires.activity c.requires.follows, refl)
 
-pub meet_entry-requires-clause-entry : goal.meet_entry-requires-clause-entry
-meet_entry-requires-clause-entry c = entry_below _ _ c.args.local.now _ c.requires.follows c.requires.activity
+pub see_entry-requires-clause-entry : goal.see_entry-requires-clause-entry
+see_entry-requires-clause-entry c = entry_below _ _ c.args.local.now _ c.requires.follows c.requires.activity
 
-pub meet_entry-requires-clause-room : goal.meet_entry-requires-clause-room
-meet_entry-requires-clause-room c = entry_room _ _ c.args.local.now _ c.requires.follows c.requires.activity
+pub see_entry-requires-clause-room : goal.see_entry-requires-clause-room
+see_entry-requires-clause-room c = entry_room _ _ c.args.local.now _ c.requires.follows c.requires.activity
 
 pub returns : goal.returns
-returns c = moves_at (Activity.Look (Look.Entry c.args.entry)) c.requires c.load_entry-told.ensures c.meet_entry.ensures
+returns c = moves_at (Activity.Look (Look.Entry c.args.entry)) c.requires c.load_entry-told.ensures c.see_entry.ensures

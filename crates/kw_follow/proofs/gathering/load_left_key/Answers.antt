@@ -9,4 +9,4 @@ pub load_key-told-requires : goal.load_key-told-requires
 load_key-told-requires c = asks_at _ _ c.args.local.now (Activity.Rebalance (Rebalance.Gather Gather.LeftOverKey)) c.requires.follows c.requires.activity tt
 
 pub returns : goal.returns
-returns c = moves_at (Activity.Rebalance (Rebalance.Gather Gather.LeftOverKey)) c.requires c.load_key-told.ensures c.take_rest_key.ensures
+returns c = moves_at (Activity.Rebalance (Rebalance.Gather Gather.LeftOverKey)) c.requires c.load_key-told.ensures c.take_left_over_key.ensures

@@ -11,11 +11,11 @@ use Rattle.kw_follow.proofs.gathering.load_left_value.Goals as goal
 pub load_value-told-requires : goal.load_value-told-requires
 load_value-told-requires c = asks_at _ _ c.args.local.now (Activity.Rebalance (Rebalance.Gather Gather.LeftOverValue)) c.requires.follows c.requires.activity tt
 
-pub rest_value-requires-clause-gathered : goal.rest_value-requires-clause-gathered
-rest_value-requires-clause-gathered c = (follows_room _ _ _ c.requires.follows).rebalance.gathered
+pub left_over_value-requires-clause-gathered : goal.left_over_value-requires-clause-gathered
+left_over_value-requires-clause-gathered c = (follows_room _ _ _ c.requires.follows).rebalance.gathered
 
-pub rest_value-requires-clause-needed : goal.rest_value-requires-clause-needed
-rest_value-requires-clause-needed c = needed_few _ _ c.args.local.now c.requires.follows (Activity.Rebalance (Rebalance.Gather Gather.LeftOverValue)) c.requires.activity refl
+pub left_over_value-requires-clause-needed : goal.left_over_value-requires-clause-needed
+left_over_value-requires-clause-needed c = needed_few _ _ c.args.local.now c.requires.follows (Activity.Rebalance (Rebalance.Gather Gather.LeftOverValue)) c.requires.activity refl
 
 pub returns : goal.returns
-returns c = moves_at (Activity.Rebalance (Rebalance.Gather Gather.LeftOverValue)) c.requires c.load_value-told.ensures c.rest_value.ensures
+returns c = moves_at (Activity.Rebalance (Rebalance.Gather Gather.LeftOverValue)) c.requires c.load_value-told.ensures c.left_over_value.ensures

@@ -4,20 +4,20 @@ use Rattle.kw_world.specs.declared.activity.rebalance.gather.Gather.TheVariants 
 use Rattle.kw_world.specs.declared.local.Local.{Local}
 use Rattle.kw_follow.specs.BuildsOn.{taking_at}
 use Rattle.kw_follow.proofs.BuildEvents.{asks_taken_link}
-use Rattle.kw_follow.proofs.RowGathering.{has_place, link_met, list_ends, list_over}
+use Rattle.kw_follow.proofs.RowGathering.{has_place, link_reached, list_ends, list_over}
 use Rattle.kw_follow.proofs.row_gathering.meet_next.Goals as goal
 
 pub load_after-link-requires : goal.load_after-link-requires
 load_after-link-requires c = asks_taken_link _ _ (taking_at Gather.Link c.args.cursor c.args.local.now) _ c.requires refl c.link_name-name.ensures
 
-pub meet-requires : goal.meet-requires
-meet-requires c = (has_place c.args.local.now c.args.cursor c.requires).walked
+pub reach_holding-requires : goal.reach_holding-requires
+reach_holding-requires c = (has_place c.args.local.now c.args.cursor c.requires).walked
 
-pub returns-in-Some-clause-met : goal.returns-in-Some-clause-met
-returns-in-Some-clause-met c = link_met c.args.local.now c.args.cursor c.meet.result c.meet.new.local c.in-Some.cell c.meet.ensures.cursor c.meet.ensures.local (sym c.unpack_cell_link.ensures.value ∙ c.in-Some.is) c.requires c.load_after-link.ensures
+pub returns-in-Some-clause-saw : goal.returns-in-Some-clause-saw
+returns-in-Some-clause-saw c = link_reached c.args.local.now c.args.cursor c.reach_holding.result c.reach_holding.new.local c.in-Some.cell c.reach_holding.ensures.cursor c.reach_holding.ensures.local (sym c.unpack_cell_link.ensures.value ∙ c.in-Some.is) c.requires c.load_after-link.ensures
 
 pub returns-in-Some-clause-tidies : goal.returns-in-Some-clause-tidies
-returns-in-Some-clause-tidies c = ap (λ (l : Local). l.tidies) c.meet.ensures.local
+returns-in-Some-clause-tidies c = ap (λ (l : Local). l.tidies) c.reach_holding.ensures.local
 
 pub take_from-requires-clause-walked : goal.take_from-requires-clause-walked
 take_from-requires-clause-walked c = subst (λ (l : Local). l.walked ≤ CELLS) (sym c.write.ensures) (has_place c.args.local.now c.args.cursor c.requires).walked

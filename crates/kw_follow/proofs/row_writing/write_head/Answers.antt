@@ -1,5 +1,5 @@
 use Rattle.std.proofs.Common.{ap, refl}
-use Rattle.kw_words.specs.declared.layout.Name.TheVariants.{Count, Min, Next, First}
+use Rattle.kw_words.specs.declared.layout.Name.TheVariants.{Count, Least, Next, First}
 use Rattle.kw_world.specs.declared.activity.rebalance.write.Write.TheVariants as Write
 use Rattle.kw_follow.specs.BuildsOn.{at_entry, writing}
 use Rattle.kw_follow.proofs.BuildsOn.{builds_none}
@@ -24,7 +24,7 @@ store_infant-requires c = asks_word c.args.local.now Write.Count c.requires.foll
 pub store_infant-requires-2 : goal.store_infant-requires-2
 store_infant-requires-2 c =
     let counted = wrote c.args.local.now (writing Write.Least c.args.local.now) Write.Count (builds_none c.requires.follows) c.store_infant.ensures refl in
-    asks_word c.args.local.now Write.Least counted.reaches.follows (ap Min c.infant-row.ensures) c.least_word-least.ensures refl
+    asks_word c.args.local.now Write.Least counted.reaches.follows (ap Least c.infant-row.ensures) c.least_word-least.ensures refl
 
 pub store_infant-requires-3 : goal.store_infant-requires-3
 store_infant-requires-3 c =

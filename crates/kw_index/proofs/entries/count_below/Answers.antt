@@ -4,6 +4,6 @@ use Rattle.std.proofs.lemmas.List.Sorted.{IsPartitionPoint-from_clause, IsPartit
 use Rattle.kw_index.proofs.Lawful.{rising_by}
 use Rattle.kw_index.proofs.entries.count_below.Goals as goal
 
--- the minima rise, so the lesser ones are the first
+-- the least keys rise, so the lesser ones are the first
 pub returns-clause-parted : goal.returns-clause-parted
-returns-clause-parted c = IsPartitionPoint-from_clause (λ e. nat_lt e.min c.args.min) _ _ c.partition_point.ensures.partitioned (IsPartitionedBy-ltb (λ e. e.min) _ c.args.min (rising_by _ c.requires)) (λ a r q k. search rules)
+returns-clause-parted c = IsPartitionPoint-from_clause (λ e. nat_lt e.least c.args.least) _ _ c.partition_point.ensures.partitioned (IsPartitionedBy-ltb (λ e. e.least) _ c.args.least (rising_by _ c.requires)) (λ a r q k. search rules)

@@ -1,5 +1,5 @@
-use Rattle.kw_lists.proofs.Meeting.{met_listed, listed_met}
+use Rattle.kw_lists.proofs.Reaching.{reached_listed, listed_reached}
 use Rattle.kw_lists.proofs.laws.path_laws.Goals as goal
 
 pub returns : goal.returns
-returns c = record { listed = listed_met; met = λ r d l m. met_listed r l d m }
+returns c = record { listed = listed_reached; saw = λ r d l m. reached_listed r l d m }

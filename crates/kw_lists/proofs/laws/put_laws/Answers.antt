@@ -1,11 +1,11 @@
-use Rattle.kw_lists.proofs.Putting.{put_begins, put_loads, put_passes, put_stops, put_inserts, put_loses, put_lost, from_stays, at_stays, ahead_stays, set_stays}
+use Rattle.kw_lists.proofs.Putting.{put_begins, put_loads, put_goes_by, put_stops, put_inserts, put_loses, put_lost, from_stays, at_stays, ahead_stays, set_stays}
 use Rattle.kw_lists.proofs.laws.put_laws.Goals as goal
 
 pub returns : goal.returns
 returns c = record {
   begins = put_begins;
   loads = put_loads;
-  passes = put_passes;
+  goes_by = put_goes_by;
   stops = put_stops;
   inserts = put_inserts;
   loses = put_loses;

@@ -4,7 +4,7 @@ use Rattle.kw_lists.proofs.laws.read_laws.Goals as goal
 
 pub returns : goal.returns
 returns c = record {
-  meets = λ r at to d l e b. reached r at to l d e b;
+  reaches = λ r at to d l e b. reached r at to l d e b;
   ends = list_ends;
   above = above_range;
   newest = newest;

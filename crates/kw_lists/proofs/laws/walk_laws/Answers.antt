@@ -1,4 +1,4 @@
-use Rattle.kw_lists.proofs.Walking.{not_behind, passed_next, walk_begins, walk_goes_on, walk_stays, walked_most, walked_fewer}
+use Rattle.kw_lists.proofs.Walking.{not_behind, gone_by_next, walk_begins, walk_goes_on, walk_stays, walked_most, walked_fewer}
 use Rattle.kw_lists.proofs.laws.walk_laws.Goals as goal
 
 pub returns : goal.returns
@@ -9,5 +9,5 @@ returns c = record {
   most = walked_most;
   fewer = walked_fewer;
   once = not_behind;
-  passed = passed_next;
+  gone_by = gone_by_next;
 }

@@ -4,7 +4,7 @@ use Rattle.kw_world.specs.declared.local.Local.{Local}
 use Rattle.kw_table.proofs.Prefixes.{prefix_self, prefix_trans}
 use Rattle.kw_follow.specs.Within.{IsDrawing}
 use Rattle.kw_follow.proofs.Reaching.{advances_on, advances_trans}
-use Rattle.kw_live.proofs.Drawing.{draws, met_clock, settles_on, settles_spent, still_waits, waits}
+use Rattle.kw_live.proofs.Drawing.{draws, saw_clock, settles_on, settles_spent, still_waits, waits}
 use Rattle.kw_live.proofs.entering.draw.Goals as goal
 
 pub go_draw-requires-in-Draw-2-clause-drawing : goal.go_draw-requires-in-Draw-2-clause-drawing
@@ -30,7 +30,7 @@ returns-in-Draw-clause-unread c = (settles_on _ _ _ _ _ _ _ _ _ _ _ _ _ c.requir
 pub returns-in-Draw-clause-spent : goal.returns-in-Draw-clause-spent
 returns-in-Draw-clause-spent c = (
   c.go_draw.ensures.told,
-  met_clock c.requires.activity c.go_draw.ensures.met (prefix_trans _ _ _ c.go_draw-in-Draw.ensures.goes.seen (prefix_trans _ _ _ c.go_draw-in-Draw-2.ensures.goes.seen c.go_draw-in-Draw-3.ensures.goes.seen)),
+  saw_clock c.requires.activity c.go_draw.ensures.saw (prefix_trans _ _ _ c.go_draw-in-Draw.ensures.goes.seen (prefix_trans _ _ _ c.go_draw-in-Draw-2.ensures.goes.seen c.go_draw-in-Draw-3.ensures.goes.seen)),
   (settles_on _ _ _ _ _ _ _ _ _ _ _ _ _ c.requires.activity c.go_draw.ensures.line (still_waits _ _ _ _ _ c.requires.activity c.go_draw.ensures.line c.in-Draw.is) c.go_draw-in-Draw.ensures.line c.go_draw-in-Draw-2.ensures.line c.go_draw-in-Draw-3.ensures.line).spent,
 )
 
@@ -47,4 +47,4 @@ pub returns-in_default-clause-unread : goal.returns-in_default-clause-unread
 returns-in_default-clause-unread c = (settles_spent _ _ _ _ c.requires.activity c.go_draw.ensures.line (c.in_default.not-Draw Draw.Wait)).has_read
 
 pub returns-in_default-clause-spent : goal.returns-in_default-clause-spent
-returns-in_default-clause-spent c = (c.go_draw.ensures.told, met_clock c.requires.activity c.go_draw.ensures.met (prefix_self _), (settles_spent _ _ _ _ c.requires.activity c.go_draw.ensures.line (c.in_default.not-Draw Draw.Wait)).spent)
+returns-in_default-clause-spent c = (c.go_draw.ensures.told, saw_clock c.requires.activity c.go_draw.ensures.saw (prefix_self _), (settles_spent _ _ _ _ c.requires.activity c.go_draw.ensures.line (c.in_default.not-Draw Draw.Wait)).spent)

@@ -3,7 +3,7 @@ use Rattle.std.specs.Prelude.{IfSome}
 use Rattle.kw_world.specs.Calls.{is_scan}
 use Rattle.kw_live.specs.Stages.{HasEntered}
 use Rattle.kw_follow.proofs.Reaching.{advances_on, advances_trans, begins_on}
-use Rattle.kw_live.proofs.Drawing.{enters, met_clock_earlier}
+use Rattle.kw_live.proofs.Drawing.{enters, saw_clock_earlier}
 use Rattle.kw_live.proofs.entering.enter.Goals as goal
 
 pub draw-requires-clause-activity : goal.draw-requires-clause-activity
@@ -29,7 +29,7 @@ returns-in-Draw-clause-entered c =
 pub returns-in-Draw-clause-spent : goal.returns-in-Draw-clause-spent
 returns-in-Draw-clause-spent c = λ scan.
     let m = c.draw.ensures.spent in
-    (m.0, met_clock_earlier c.begin.ensures.begins.goes (met_clock_earlier c.go_along.ensures.goes m.1), m.2)
+    (m.0, saw_clock_earlier c.begin.ensures.begins.goes (saw_clock_earlier c.go_along.ensures.goes m.1), m.2)
 
 pub returns-in_default-clause-begins : goal.returns-in_default-clause-begins
 returns-in_default-clause-begins c =

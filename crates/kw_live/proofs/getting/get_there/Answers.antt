@@ -4,7 +4,7 @@ use Rattle.kw_words.specs.Pend.{pend_of}
 use Rattle.kw_world.specs.declared.activity.Activity.TheVariants as Activity
 use Rattle.kw_world.specs.declared.activity.look.Look.TheVariants as Look
 use Rattle.kw_world.specs.declared.local.Local.{Local}
-use Rattle.kw_world.specs.ReadTransitions.{look_met}
+use Rattle.kw_world.specs.ReadTransitions.{look_seen}
 use Rattle.kw_world.specs.Sizes.{product}
 use Rattle.kw_follow.specs.Ways.{on_way}
 use Rattle.kw_follow.specs.Within.{looking}
@@ -41,13 +41,13 @@ returns-then-is_idle c =
       closes = get_closes c.read_newest-value.result _ (c.end_resting.ensures.closes _ (leaves_with _ read.gets.follows read.leaves));
     })
 
-pub meet_entry-requires-clause-entry : goal.meet_entry-requires-clause-entry
-meet_entry-requires-clause-entry c =
+pub see_entry-requires-clause-entry : goal.see_entry-requires-clause-entry
+see_entry-requires-clause-entry c =
     let up = c.look_along-seen.ensures (on_way (Activity.Look (Look.Entry 0)) c.args.way) c.requires.follows refl in
     entry_below _ _ (looking c.look_along-seen.result.entry (on_way (Activity.Look (Look.Entry 0)) c.args.way)) _ up.on.follows refl
 
-pub meet_entry-requires-clause-room : goal.meet_entry-requires-clause-room
-meet_entry-requires-clause-room c =
+pub see_entry-requires-clause-room : goal.see_entry-requires-clause-room
+see_entry-requires-clause-room c =
     let up = c.look_along-seen.ensures (on_way (Activity.Look (Look.Entry 0)) c.args.way) c.requires.follows refl in
     subst (λ (l : Local). length l.remembered < SEATS) (sym c.write.ensures)
     (entry_room _ _ (looking c.look_along-seen.result.entry (on_way (Activity.Look (Look.Entry 0)) c.args.way)) _ up.on.follows refl)
@@ -55,20 +55,20 @@ meet_entry-requires-clause-room c =
 pub get_slowly-requires-clause-follows : goal.get_slowly-requires-clause-follows
 get_slowly-requires-clause-follows c =
     let up = c.look_along-seen.ensures (on_way (Activity.Look (Look.Entry 0)) c.args.way) c.requires.follows refl in
-    (looked_from refl up (c.meet_entry.ensures ∙ ap (look_met product c.look_along-seen.result.entry (pend_of c.look_along-seen.result.found)) c.write.ensures)).follows
+    (looked_from refl up (c.see_entry.ensures ∙ ap (look_seen product c.look_along-seen.result.entry (pend_of c.look_along-seen.result.found)) c.write.ensures)).follows
 
 pub get_slowly-requires-clause-stage : goal.get_slowly-requires-clause-stage
 get_slowly-requires-clause-stage c =
     let up = c.look_along-seen.ensures (on_way (Activity.Look (Look.Entry 0)) c.args.way) c.requires.follows refl in
-    (looked_from refl up (c.meet_entry.ensures ∙ ap (look_met product c.look_along-seen.result.entry (pend_of c.look_along-seen.result.found)) c.write.ensures)).looks.stage
+    (looked_from refl up (c.see_entry.ensures ∙ ap (look_seen product c.look_along-seen.result.entry (pend_of c.look_along-seen.result.found)) c.write.ensures)).looks.stage
 
 pub get_slowly-requires-clause-call : goal.get_slowly-requires-clause-call
 get_slowly-requires-clause-call c =
     let up = c.look_along-seen.ensures (on_way (Activity.Look (Look.Entry 0)) c.args.way) c.requires.follows refl in
-    (looked_from refl up (c.meet_entry.ensures ∙ ap (look_met product c.look_along-seen.result.entry (pend_of c.look_along-seen.result.found)) c.write.ensures)).looks.call
+    (looked_from refl up (c.see_entry.ensures ∙ ap (look_seen product c.look_along-seen.result.entry (pend_of c.look_along-seen.result.found)) c.write.ensures)).looks.call
 
 pub returns : goal.returns
 returns c =
     let up = c.look_along-seen.ensures (on_way (Activity.Look (Look.Entry 0)) c.args.way) c.requires.follows refl in
-    let looked = looked_from refl up (c.meet_entry.ensures ∙ ap (look_met product c.look_along-seen.result.entry (pend_of c.look_along-seen.result.found)) c.write.ensures) in
+    let looked = looked_from refl up (c.see_entry.ensures ∙ ap (look_seen product c.look_along-seen.result.entry (pend_of c.look_along-seen.result.found)) c.write.ensures) in
     got_after (looks_done looked) c.get_slowly.ensures

@@ -1,7 +1,7 @@
 use Rattle.std.proofs.Common.{arith, refl, sym, ◌∙◌}
 use Rattle.kw_follow.specs.Within.{looking}
 use Rattle.kw_follow.proofs.WayEvents.{entry_below}
-use Rattle.kw_live.proofs.LookStages.{begins_looking, idle_is, looking_on, passes_idle}
+use Rattle.kw_live.proofs.LookStages.{begins_looking, idle_is, looking_on, goes_by_idle}
 use Rattle.kw_live.proofs.looking.look_along.Goals as goal
 
 pub loop-at-init : goal.loop-at-init
@@ -16,12 +16,12 @@ overflow_add-next c = let on = c.loop-at.invariant c.requires.0 c.requires.1 in 
 pub loop-at-smaller : goal.loop-at-smaller
 loop-at-smaller c =
     let on = c.loop-at.invariant c.requires.0 c.requires.1 in
-    (passes_idle c.requires.0 c.loop-at.at on.follows c.load_entry-found.ensures (idle_is _ (sym c.is_idle.ensures ∙ c.if-is_idle.true)) c.if-next-lt-SEAT_COUNT.true).fewer
+    (goes_by_idle c.requires.0 c.loop-at.at on.follows c.load_entry-found.ensures (idle_is _ (sym c.is_idle.ensures ∙ c.if-is_idle.true)) c.if-next-lt-SEAT_COUNT.true).fewer
 
 pub loop-at-preserved : goal.loop-at-preserved
 loop-at-preserved c = λ k f.
     let on = c.loop-at.invariant k f in
-    looking_on on (passes_idle k c.loop-at.at on.follows c.load_entry-found.ensures (idle_is _ (sym c.is_idle.ensures ∙ c.if-is_idle.true)) c.if-next-lt-SEAT_COUNT.true)
+    looking_on on (goes_by_idle k c.loop-at.at on.follows c.load_entry-found.ensures (idle_is _ (sym c.is_idle.ensures ∙ c.if-is_idle.true)) c.if-next-lt-SEAT_COUNT.true)
 
 pub returns-else-next-lt-SEAT_COUNT : goal.returns-else-next-lt-SEAT_COUNT
 returns-else-next-lt-SEAT_COUNT c = λ k f same. record { before = c.loop-at.pass; on = c.loop-at.invariant k f; makes = c.load_entry-found.ensures }

@@ -7,7 +7,7 @@ go_remembered-requires-clause-remembered c = remembered_at _ c.requires.remember
 
 pub returns-clause-reads : goal.returns-clause-reads
 returns-clause-reads c =
-    let read = reads _ _ _ _ _ _ c.requires.follows c.go_remembered.ensures.reads.goes c.go_remembered.ensures.follows c.go_remembered.ensures.reads.seat c.go_remembered.ensures.reads.met (remembered_reads _ c.requires.remembered) in
+    let read = reads _ _ _ _ _ _ c.requires.follows c.go_remembered.ensures.reads.goes c.go_remembered.ensures.follows c.go_remembered.ensures.reads.seat c.go_remembered.ensures.reads.saw (remembered_reads _ c.requires.remembered) in
     record {
       goes = c.go_remembered.ensures.reads.goes;
       follows = c.go_remembered.ensures.follows;

@@ -16,13 +16,13 @@ pub meet_next-requires : goal.meet_next-requires
 meet_next-requires g c = c.loop.invariant.on.reaches.follows
 
 pub gather_cell-cursor-requires : goal.gather_cell-cursor-requires
-gather_cell-cursor-requires g c = c.in-Some-meet_next.ensures.met.reaches.follows
+gather_cell-cursor-requires g c = c.in-Some-meet_next.ensures.saw.reaches.follows
 
 pub loop-preserved : goal.loop-preserved
 loop-preserved g c = record {
   can_next = search rules;
   is_finite = search rules;
-  on = builds_trans c.loop.invariant.on (builds_trans c.in-Some-meet_next.ensures.met c.gather_cell-cursor.ensures.builds);
+  on = builds_trans c.loop.invariant.on (builds_trans c.in-Some-meet_next.ensures.saw c.gather_cell-cursor.ensures.builds);
   tidies = c.gather_cell-cursor.ensures.tidies ∙ (c.in-Some-meet_next.ensures.tidies ∙ c.loop.invariant.tidies);
 }
 

@@ -14,4 +14,4 @@ loop-cell-preserved g c =
 pub returns-clause-hands : goal.returns-clause-hands
 returns-clause-hands g c =
     let i = c.loop-cell.invariant in
-    handed_ends _ i (c.in_default.ensures i.cells i.streams) c.pass_rows.ensures.walks c.requires.above
+    handed_ends _ i (c.in_default.ensures i.cells i.streams) c.go_by_rows.ensures.walks c.requires.above

@@ -1,6 +1,6 @@
 use Rattle.std.proofs.Common.{arith, ap, sym, ◌∙◌, Some, None, ◌≡◌}
 use Rattle.kw_core.specs.declared.history.CallLog.{CallLog}
-use Rattle.kw_order.proofs.CallRanks.{read_called, first_within, value_answered, value_rank, absent_is_get, absent_meets, absent_rank, pairs_drawn, pairs_rank, other_rank}
+use Rattle.kw_order.proofs.CallRanks.{read_called, first_within, value_answered, value_rank, absent_is_get, absent_serves, absent_rank, pairs_drawn, pairs_rank, other_rank}
 use Rattle.kw_order.proofs.points.rank_of_ended.Goals as goal
 
 pub prove-unreachable-requires : goal.prove-unreachable-requires
@@ -14,11 +14,11 @@ rank_behind-requires-clause-put c =
     let ended = rw c.in-Value.is at c.requires.ended in
     rw read (value_answered c.args.history.now c.requires.laws c.args.place ended.0 c.in-Value.field-0 ended.1 c.requires.no_put)
 
-pub gap-gap-requires-clause-met : goal.gap-gap-requires-clause-met
-gap-gap-requires-clause-met c =
+pub gap-gap-requires-clause-serving : goal.gap-gap-requires-clause-serving
+gap-gap-requires-clause-serving c =
     let read = read_called c.args.history.now c.calls.result.now c.args.place c.index-calls-place.result c.calls.ensures c.index-calls-place.is c.requires.within in
     let ended = rw c.in-Absent.is at c.requires.ended in
-    rw read (absent_meets c.args.history.now c.requires.laws c.args.place c.in-Get.key ended.0 (sym (ap (λ (q : CallLog). q.call) read) ∙ c.in-Get.is, ended.1.1))
+    rw read (absent_serves c.args.history.now c.requires.laws c.args.place c.in-Get.key ended.0 (sym (ap (λ (q : CallLog). q.call) read) ∙ c.in-Get.is, ended.1.1))
 
 pub returns-in-Value : goal.returns-in-Value
 returns-in-Value c =

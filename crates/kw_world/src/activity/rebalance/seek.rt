@@ -1,6 +1,6 @@
 //! Free rows are sought and taken.
 //!
-//! A retired row is given free where no pass can reach it any more; where too few are free all are
+//! A retired row is given free where no visit can reach it any more; where too few are free all are
 //! given back.
 
 /// Free rows are sought and taken.

@@ -5,5 +5,5 @@ use Rattle.kw_follow.specs.Ways.{on_way}
 use Rattle.kw_follow.proofs.PutEvents.{asks_at}
 use Rattle.kw_follow.proofs.way.Way.load_least.Goals as goal
 
-pub load_min-requires : goal.load_min-requires
-load_min-requires c = asks_at _ _ (on_way (Activity.Walk Walk.GuessedLeast) c.args.self) (Activity.Walk Walk.GuessedLeast) c.requires refl tt
+pub load_least-requires : goal.load_least-requires
+load_least-requires c = asks_at _ _ (on_way (Activity.Walk Walk.GuessedLeast) c.args.self) (Activity.Walk Walk.GuessedLeast) c.requires refl tt

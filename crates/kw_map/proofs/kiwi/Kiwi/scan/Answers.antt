@@ -35,7 +35,7 @@ returns-in-Leave g c =
         calls = whole c.enter.ensures.begins.opens refl (c.leave.ensures.closes answer.Spent (leaves_with answer.Spent c.enter.ensures.begins.follows is)).0;
         gave = (refl, refl);
         clock = spent.0;
-        met = clock_later spent.1 c.leave.ensures.goes;
+        saw = clock_later spent.1 c.leave.ensures.goes;
         spent = (λ e. spent.2.0 is, λ e. refl);
       };
       ordered = pass_ordered c.leave.new.pass;
@@ -54,7 +54,7 @@ returns-in-Ok g c =
         calls = whole c.enter.ensures.begins.opens gathered.on.calls (c.leave-2.ensures.closes answer.Pairs (leaves_with answer.Pairs gathered.on.follows gathered.gathers.leaves)).0;
         gave = (pairs, refl, gathered.gathers.all);
         clock = spent.0;
-        met = clock_later (clock_later spent.1 gathered.on.goes) c.leave-2.ensures.goes;
+        saw = clock_later (clock_later spent.1 gathered.on.goes) c.leave-2.ensures.goes;
         spent = (λ e. absurd (cc e), λ e. absurd (c.in_default.not-Leave answer.Spent (spent.2.1 e)));
       };
       ordered = pass_ordered c.leave-2.new.pass;
@@ -74,7 +74,7 @@ returns-in-Err g c =
         calls = whole c.enter.ensures.begins.opens gathered.on.calls (c.leave-2.ensures.closes answer.Stopped (leaves_with answer.Stopped gathered.on.follows gathered.gathers.leaves)).0;
         gave = (refl, gathered.gathers.stopped, stopped_within took _ _ _ _ _ _ c.enter.ensures.begins.goes c.leave-2.ensures.goes stopped);
         clock = spent.0;
-        met = clock_later (clock_later spent.1 gathered.on.goes) c.leave-2.ensures.goes;
+        saw = clock_later (clock_later spent.1 gathered.on.goes) c.leave-2.ensures.goes;
         spent = (λ e. absurd (cc e), λ e. absurd (c.in_default.not-Leave answer.Spent (spent.2.1 e)));
       };
       ordered = pass_ordered c.leave-2.new.pass;

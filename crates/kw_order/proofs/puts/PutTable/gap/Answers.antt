@@ -63,7 +63,7 @@ returns-in-Some c =
     let read = put_read c.args.self.now.puts.items (c.count_until-until.result - 1) c.index-last.result.now c.index-last.ensures within in
     let r = after_value h c.requires.laws c.args.self.now.puts.items c.args.self.now.points.items c.requires.table.puts c.requires.table.points c.args.key c.args.first _ split
     c.args.self.now.deletes.items c.requires.table.deletes _ later (omega (arith, c.if-until-eq0.false)) (sym (ap (λ (put : StampedPut). put.key) read) ∙ c.if-last-key.false)
-    (subst (λ (put : StampedPut). is_some (attempt h put.place).value ≡ true) read (rw (attempt_at h c.attempts.result.now c.index-last.result.now.place c.attempts.ensures) at c.if-is_none.ensures)) c.requires.met in
+    (subst (λ (put : StampedPut). is_some (attempt h put.place).value ≡ true) read (rw (attempt_at h c.attempts.result.now c.index-last.result.now.place c.attempts.ensures) at c.if-is_none.ensures)) c.requires.serving in
     let delete = c.in-Some.ensures.lookup.3.1 (record { key = 0; version = 0; add = 0; place = 0 }) in
     subst (λ (put : StampedPut). HasGap h c.args.key c.args.first (Some put.place)) (sym (rw c.deref-5.ensures.value at delete)) r.1
 
@@ -76,5 +76,5 @@ returns-in-None c =
     let read = put_read c.args.self.now.puts.items (c.count_until-until.result - 1) c.index-last.result.now c.index-last.ensures within in
     let r = after_value h c.requires.laws c.args.self.now.puts.items c.args.self.now.points.items c.requires.table.puts c.requires.table.points c.args.key c.args.first _ split
     c.args.self.now.deletes.items c.requires.table.deletes _ later (omega (arith, c.if-until-eq0.false)) (sym (ap (λ (put : StampedPut). put.key) read) ∙ c.if-last-key.false)
-    (subst (λ (put : StampedPut). is_some (attempt h put.place).value ≡ true) read (rw (attempt_at h c.attempts.result.now c.index-last.result.now.place c.attempts.ensures) at c.if-is_none.ensures)) c.requires.met in
+    (subst (λ (put : StampedPut). is_some (attempt h put.place).value ≡ true) read (rw (attempt_at h c.attempts.result.now c.index-last.result.now.place c.attempts.ensures) at c.if-is_none.ensures)) c.requires.serving in
     absurd (omega (arith, r.0, c.in-None.ensures.lookup.3, ap length c.deref-5.ensures.value))

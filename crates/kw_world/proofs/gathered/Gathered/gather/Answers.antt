@@ -3,7 +3,7 @@ use Rattle.std.proofs.Common.{ℕ, ◌≡◌, ◌≤◌, ◌==◌, arith, refl, 
 use Rattle.std.proofs.lemmas.Bool.Decides.{nat_tests}
 use Rattle.std.proofs.lemmas.List.Edits.{insert_end}
 use Rattle.kw_words.specs.declared.sizes.TheConstants.{CELLS}
-use Rattle.kw_cells.specs.InOrder.{AreInOrder, place_in, with_cell}
+use Rattle.kw_cells.specs.InOrder.{AreInOrder, index_in, with_cell}
 use Rattle.kw_cells.specs.declared.cell.Cell.{Cell}
 use Rattle.kw_cells.proofs.InOrder.{with_cell-new, with_cell-in_order}
 use Rattle.kw_world.proofs.gathered.Gathered.gather.Goals as goal
@@ -13,7 +13,7 @@ has_room : (n : ℕ) → n ≤ CELLS → (n == CELLS) ≡ false → nat_lt n CEL
 has_room n u e = grind (arith, nat_tests)
 
 -- a cell whose place is behind all of them is put at the end
-at_end : (c : Cell) (xs : List Cell) → place_in c xs ≡ length xs → with_cell c xs ≡ xs ++ c ∷ []
+at_end : (c : Cell) (xs : List Cell) → index_in c xs ≡ length xs → with_cell c xs ≡ xs ++ c ∷ []
 at_end c xs e =
     let n : nat_lt (length xs) (length xs) ≡ false = grind (arith, nat_tests) in
     with_cell-new c xs (length xs) (sym e) (rw n refl) ∙ insert_end xs c
@@ -21,7 +21,7 @@ at_end c xs e =
 added : (c : goal.After-push) → c.push.new.self.items ≡ with_cell c.args.cell c.args.self.now
 added c =
     let same = c.as_slice.ensures.value ∙ c.self.view_is in
-    let behind : place_in c.args.cell c.args.self.now ≡ length c.args.self.now = rw same at c.is_behind.ensures.0 c.if-is_behind.true in
+    let behind : index_in c.args.cell c.args.self.now ≡ length c.args.self.now = rw same at c.is_behind.ensures.0 c.if-is_behind.true in
     c.push.ensures.items ∙ ap (λ (xs : List Cell). xs ++ c.args.cell ∷ []) c.self.view_is ∙ sym (at_end c.args.cell c.args.self.now behind)
 
 pub invariant_of-self : goal.invariant_of-self
