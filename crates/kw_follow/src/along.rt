@@ -73,7 +73,7 @@ pub(crate) fn clear_epoch(
 {
     let word = Name::Pass(pass.number());
     let none = pack_pass(None);
-    clear_pass(shared, pass, Choice::Go, word, none);
+    clear_pass(shared, pass, word, none);
     end_call(local, answer)
 }
 
@@ -85,7 +85,7 @@ fn announce_epoch(shared: &Shared, pass: &mut Pass, local: &mut Local) -> StepDo
 {
     let word = Name::Pass(pass.number());
     let epoch = pack_pass(Some(local.epoch));
-    store_pass(shared, pass, Choice::Go, word, epoch);
+    store_pass(shared, pass, word, epoch);
     enter(local)
 }
 
@@ -95,7 +95,7 @@ fn load_first_row(shared: &Shared, pass: &mut Pass, local: &mut Local) -> StepDo
     requires { FollowsAt shared.now pass.old local.old (Activity.Walk Walk.Start) }
     ensures { Moves shared.now pass.old local.old Choice.Go pass.new local.new result }
 {
-    let told = load_head(shared, pass, Choice::Go, Name::Head);
+    let told = load_head(shared, pass, Name::Head);
     first(local, told)
 }
 
@@ -117,7 +117,7 @@ fn load_guessed_least(shared: &Shared, pass: &mut Pass, local: &mut Local) -> St
     ensures { Moves shared.now pass.old local.old Choice.Go pass.new local.new result }
 {
     let word = Name::Least(local.row);
-    let told = load_least(shared, pass, Choice::Go, word);
+    let told = load_least(shared, pass, word);
     guessed_least(local, told)
 }
 
@@ -128,7 +128,7 @@ pub fn load_row_link(shared: &Shared, pass: &mut Pass, row: u32) -> u64
     requires { (l : Local) × Follows shared.now pass.old (walking (Activity.Walk Walk.Next) l) × (l.row ≡ row) }
     ensures { Makes shared.now pass.old Choice.Go result pass.new }
 {
-    load_link(shared, pass, Choice::Go, Name::Next(row))
+    load_link(shared, pass, Name::Next(row))
 }
 
 /// The call was told the link after its row. Takes no memory.
@@ -147,7 +147,7 @@ pub fn load_row_least(shared: &Shared, pass: &mut Pass, row: u32) -> u64
         × (l.candidate ≡ row) }
     ensures { Makes shared.now pass.old Choice.Go result pass.new }
 {
-    load_least(shared, pass, Choice::Go, Name::Least(row))
+    load_least(shared, pass, Name::Least(row))
 }
 
 /// The call was told the least key of that row. Takes no memory.
@@ -186,7 +186,7 @@ pub fn load_entry(shared: &Shared, pass: &mut Pass, row: u32, entry: u32) -> u64
     requires { (l : Local) × Follows shared.now pass.old (looking entry l) × (l.row ≡ row) }
     ensures { Makes shared.now pass.old Choice.Go result pass.new }
 {
-    load_pend(shared, pass, Choice::Go, Name::Pend(row, entry))
+    load_pend(shared, pass, Name::Pend(row, entry))
 }
 
 /// The reader was told the entry of this seat. Takes no memory.

@@ -180,7 +180,7 @@ impl Cursor {
             ReadsWord shared.now pass.old (with_cursor (Activity.Read Read.Link) self l) result pass.new }
     {
         let link = link_name(self.row, self.link);
-        load_after(shared, pass, Choice::Go, link)
+        load_after(shared, pass, link)
     }
 
     /// Loads the key of the cell at hand. The answer is what the event was told. Takes no memory.
@@ -191,7 +191,7 @@ impl Cursor {
             ReadsWord shared.now pass.old (with_cursor (Activity.Read Read.Key) self l) result pass.new }
     {
         let key = Name::Key(self.row, self.place);
-        load_key(shared, pass, Choice::Go, key)
+        load_key(shared, pass, key)
     }
 
     /// Loads the version of the cell at hand. The answer is what the event was told. Takes no
@@ -203,7 +203,7 @@ impl Cursor {
             ReadsWord shared.now pass.old (with_cursor (Activity.Read Read.Version) self l) result pass.new }
     {
         let version = Name::Version(self.row, self.place);
-        load_version(shared, pass, Choice::Go, version)
+        load_version(shared, pass, version)
     }
 
     /// Loads the value of the cell at hand. The answer is what the event was told. Takes no memory.
@@ -214,7 +214,7 @@ impl Cursor {
             ReadsWord shared.now pass.old (with_cursor (Activity.Read Read.Value) self l) result pass.new }
     {
         let value = Name::Value(self.row, self.place);
-        load_value(shared, pass, Choice::Go, value)
+        load_value(shared, pass, value)
     }
 
     /// Loads the link at which a put stands. The answer is what the event was told. Takes no
@@ -225,7 +225,7 @@ impl Cursor {
         ensures { Makes shared.now pass.old Choice.Go result pass.new }
     {
         let link = link_name(self.row, self.link);
-        load_after(shared, pass, Choice::Go, link)
+        load_after(shared, pass, link)
     }
 
     /// Loads the key of the cell that a put has at hand. The answer is what the event was told.
@@ -236,6 +236,6 @@ impl Cursor {
         ensures { Makes shared.now pass.old Choice.Go result pass.new }
     {
         let key = Name::Key(self.row, self.place);
-        load_key(shared, pass, Choice::Go, key)
+        load_key(shared, pass, key)
     }
 }

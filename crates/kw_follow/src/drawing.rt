@@ -27,7 +27,7 @@ fn load_scan_clock(shared: &Shared, pass: &mut Pass, local: &mut Local) -> StepD
     requires { FollowsAt shared.now pass.old local.old (Activity.Draw Draw.Clock) }
     ensures { Moves shared.now pass.old local.old Choice.Go pass.new local.new result }
 {
-    let told = load_clock(shared, pass, Choice::Go, Name::Clock);
+    let told = load_clock(shared, pass, Name::Clock);
     clock(local, told)
 }
 
@@ -39,7 +39,7 @@ fn wait_with_clock(shared: &Shared, pass: &mut Pass, local: &mut Local) -> StepD
 {
     let word = Name::Scan(pass.number());
     let waiting = ScanWord::Waiting(local.waiting).pack();
-    store_waiting(shared, pass, Choice::Go, word, waiting);
+    store_waiting(shared, pass, word, waiting);
     to(local, Activity::Draw(Draw::Version))
 }
 
@@ -49,7 +49,7 @@ fn draw_version(shared: &Shared, pass: &mut Pass, local: &mut Local) -> StepDone
     requires { FollowsAt shared.now pass.old local.old (Activity.Draw Draw.Version) }
     ensures { Moves shared.now pass.old local.old Choice.Go pass.new local.new result }
 {
-    let told = add_to_clock(shared, pass, Choice::Go, Name::Clock, 1);
+    let told = add_to_clock(shared, pass, Name::Clock, 1);
     local.drawn = told;
     to(local, Activity::Draw(Draw::Settle))
 }
@@ -63,7 +63,7 @@ fn settle_version(shared: &Shared, pass: &mut Pass, local: &mut Local) -> StepDo
     let word = Name::Scan(pass.number());
     let waiting = ScanWord::Waiting(local.waiting).pack();
     let drawn = ScanWord::Drawn(local.drawn).pack();
-    let told = exchange_waiting(shared, pass, Choice::Go, word, waiting, drawn);
+    let told = exchange_waiting(shared, pass, word, waiting, drawn);
     settle(local, told)
 }
 

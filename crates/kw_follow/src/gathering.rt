@@ -32,7 +32,7 @@ pub(crate) fn look_at_entry(
     ensures { Moves shared.now pass.old local.old Choice.Go pass.new local.new result }
 {
     let word = Name::Pend(local.row, entry);
-    let told = load_pend(shared, pass, Choice::Go, word);
+    let told = load_pend(shared, pass, word);
     look(local, entry, told)
 }
 
@@ -51,7 +51,7 @@ pub(crate) fn freeze_entry(
     let word = Name::Pend(local.row, entry);
     let found = local.rebalance.entry.pack();
     let frozen = Pend::Frozen.pack();
-    let told = freeze_pend(shared, pass, Choice::Go, word, found, frozen);
+    let told = freeze_pend(shared, pass, word, found, frozen);
     entry_tried(local, entry, told)
 }
 
@@ -67,7 +67,7 @@ pub(crate) fn look_at_scan(
         (Activity.Rebalance (Rebalance.Freeze (Freeze.Scan seat))) }
     ensures { Moves shared.now pass.old local.old Choice.Go pass.new local.new result }
 {
-    let told = load_scan(shared, pass, Choice::Go, Name::Scan(seat));
+    let told = load_scan(shared, pass, Name::Scan(seat));
     scan(local, seat, told)
 }
 
@@ -79,7 +79,7 @@ pub(crate) fn load_left_key(shared: &Shared, pass: &mut Pass, local: &mut Local)
     ensures { Moves shared.now pass.old local.old Choice.Go pass.new local.new result }
 {
     let key = Name::Key(local.row, local.place);
-    let told = load_key(shared, pass, Choice::Go, key);
+    let told = load_key(shared, pass, key);
     take_left_over_key(local, told)
 }
 
@@ -91,6 +91,6 @@ pub(crate) fn load_left_value(shared: &Shared, pass: &mut Pass, local: &mut Loca
     ensures { Moves shared.now pass.old local.old Choice.Go pass.new local.new result }
 {
     let value = Name::Value(local.row, local.place);
-    let told = load_value(shared, pass, Choice::Go, value);
+    let told = load_value(shared, pass, value);
     left_over_value(local, told)
 }

@@ -43,7 +43,7 @@ fn load_given(shared: &Shared, pass: &mut Pass, local: &mut Local) -> StepDone
     ensures { Moves shared.now pass.old local.old Choice.Go pass.new local.new result }
 {
     let count_word = Name::Count(local.row);
-    let told = load_count(shared, pass, Choice::Go, count_word);
+    let told = load_count(shared, pass, count_word);
     count(local, told)
 }
 
@@ -54,7 +54,7 @@ fn ask_for_cell(shared: &Shared, pass: &mut Pass, local: &mut Local) -> StepDone
     ensures { Moves shared.now pass.old local.old Choice.Go pass.new local.new result }
 {
     let count_word = Name::Count(local.row);
-    let told = add_count(shared, pass, Choice::Go, count_word, 1);
+    let told = add_count(shared, pass, count_word, 1);
     add(local, told)
 }
 
@@ -66,7 +66,7 @@ fn write_key(shared: &Shared, pass: &mut Pass, local: &mut Local) -> StepDone
 {
     let word = Name::Key(local.row, local.cell);
     let key = pack_key(first_key(local.call));
-    store_key(shared, pass, Choice::Go, word, key);
+    store_key(shared, pass, word, key);
     to(local, Activity::Put(Put::Value))
 }
 
@@ -78,7 +78,7 @@ fn write_value(shared: &Shared, pass: &mut Pass, local: &mut Local) -> StepDone
 {
     let word = Name::Value(local.row, local.cell);
     let value = pack_value(put_value(local.call));
-    store_value(shared, pass, Choice::Go, word, value);
+    store_value(shared, pass, word, value);
     to(local, Activity::Put(Put::Announce))
 }
 
@@ -91,7 +91,7 @@ fn announce_cell(shared: &Shared, pass: &mut Pass, local: &mut Local) -> StepDon
     let entry = Name::Pend(local.row, pass.number());
     let idle = Pend::Idle.pack();
     let pending = Pend::Pending(local.cell).pack();
-    let told = exchange_idle(shared, pass, Choice::Go, entry, idle, pending);
+    let told = exchange_idle(shared, pass, entry, idle, pending);
     announce(local, told)
 }
 
@@ -101,7 +101,7 @@ fn load_own_clock(shared: &Shared, pass: &mut Pass, local: &mut Local) -> StepDo
     requires { FollowsAt shared.now pass.old local.old (Activity.Put Put.Clock) }
     ensures { Moves shared.now pass.old local.old Choice.Go pass.new local.new result }
 {
-    let told = load_clock(shared, pass, Choice::Go, Name::Clock);
+    let told = load_clock(shared, pass, Name::Clock);
     local.version = told;
     to(local, Activity::Put(Put::Stamp))
 }
@@ -115,7 +115,7 @@ fn stamp_cell(shared: &Shared, pass: &mut Pass, local: &mut Local) -> StepDone
     let entry = Name::Pend(local.row, pass.number());
     let pending = Pend::Pending(local.cell).pack();
     let stamped = Pend::Stamped(local.cell, local.version).pack();
-    let told = exchange_pending(shared, pass, Choice::Go, entry, pending, stamped);
+    let told = exchange_pending(shared, pass, entry, pending, stamped);
     stamp(local, told)
 }
 
@@ -127,7 +127,7 @@ fn write_version(shared: &Shared, pass: &mut Pass, local: &mut Local) -> StepDon
 {
     let word = Name::Version(local.row, local.cell);
     let version = pack_version(Some(local.version));
-    store_version(shared, pass, Choice::Go, word, version);
+    store_version(shared, pass, word, version);
     start_insert(local)
 }
 
@@ -167,7 +167,7 @@ fn load_cell_link(shared: &Shared, pass: &mut Pass, local: &mut Local) -> StepDo
     ensures { Moves shared.now pass.old local.old Choice.Go pass.new local.new result }
 {
     let link = link_name(local.row, local.link);
-    let told = load_after(shared, pass, Choice::Go, link);
+    let told = load_after(shared, pass, link);
     insert_from(local, told)
 }
 
@@ -178,7 +178,7 @@ fn load_reached_key(shared: &Shared, pass: &mut Pass, local: &mut Local) -> Step
     ensures { Moves shared.now pass.old local.old Choice.Go pass.new local.new result }
 {
     let key = Name::Key(local.row, local.place);
-    let told = load_key(shared, pass, Choice::Go, key);
+    let told = load_key(shared, pass, key);
     insert_key(local, told)
 }
 
@@ -189,7 +189,7 @@ fn load_reached_version(shared: &Shared, pass: &mut Pass, local: &mut Local) -> 
     ensures { Moves shared.now pass.old local.old Choice.Go pass.new local.new result }
 {
     let version = Name::Version(local.row, local.place);
-    let told = load_version(shared, pass, Choice::Go, version);
+    let told = load_version(shared, pass, version);
     insert_version(local, told)
 }
 
@@ -201,7 +201,7 @@ fn store_link(shared: &Shared, pass: &mut Pass, local: &mut Local) -> StepDone
 {
     let after = Name::After(local.row, local.cell);
     let held = pack_cell_link(local.held);
-    store_after(shared, pass, Choice::Go, after, held);
+    store_after(shared, pass, after, held);
     to(local, Activity::Insert(Insert::Exchange))
 }
 
@@ -214,7 +214,7 @@ fn exchange_link(shared: &Shared, pass: &mut Pass, local: &mut Local) -> StepDon
     let link = link_name(local.row, local.link);
     let held = pack_cell_link(local.held);
     let own = pack_cell_link(Some(local.cell));
-    let told = exchange(shared, pass, Choice::Go, link, held, own);
+    let told = exchange(shared, pass, link, held, own);
     insert(local, told)
 }
 

@@ -37,7 +37,7 @@ fn load_left_over_key(shared: &Shared, pass: &mut Pass, local: &mut Local)
     ensures { ReadsLeftOver shared.now pass.old local.old pass.new local.new }
 {
     let key = Name::Key(local.row, local.place);
-    let told = load_key(shared, pass, Choice::Go, key);
+    let told = load_key(shared, pass, key);
     left_key(local, told);
 }
 
@@ -48,7 +48,7 @@ fn load_left_over_value(shared: &Shared, pass: &mut Pass, local: &mut Local)
     ensures { ReadsLeftOver shared.now pass.old local.old pass.new local.new }
 {
     let value = Name::Value(local.row, local.place);
-    let told = load_value(shared, pass, Choice::Go, value);
+    let told = load_value(shared, pass, value);
     left_value(local, told);
 }
 

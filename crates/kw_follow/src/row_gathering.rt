@@ -43,7 +43,7 @@ pub fn meet_next(
     ensures tidies { local.new.tidies ≡ local.old.tidies }
 {
     let name = link_name(cursor.row, cursor.link);
-    let link = load_after(shared, pass, Choice::Go, name);
+    let link = load_after(shared, pass, name);
     match unpack_cell_link(link) {
         Some(cell) => Some(reach_holding(local, cursor, cell)),
         None => {
@@ -77,13 +77,13 @@ pub fn gather_cell(shared: &Shared, pass: &mut Pass, local: &mut Local, cursor: 
     ensures tidies { local.new.tidies ≡ local.old.tidies }
 {
     let key_name = Name::Key(cursor.row, cursor.place);
-    let key = load_key(shared, pass, Choice::Go, key_name);
+    let key = load_key(shared, pass, key_name);
     let keyed = cursor.with_key(unpack_key(key));
     let version_name = Name::Version(keyed.row, keyed.place);
-    let version = load_version(shared, pass, Choice::Go, version_name);
+    let version = load_version(shared, pass, version_name);
     let read = keyed.with_version(version);
     let value_name = Name::Value(read.row, read.place);
-    let value = load_value(shared, pass, Choice::Go, value_name);
+    let value = load_value(shared, pass, value_name);
     local.rebalance.gathered.gather(read.cell(value));
     read.past()
 }

@@ -60,10 +60,10 @@ fn write_head(shared: &Shared, pass: &mut Pass, local: &Local)
     let least = least_word(local);
     let next = next_word(local);
     let first = first_word(local);
-    store_infant(shared, pass, Choice::Go, Name::Count(row), count);
-    store_infant(shared, pass, Choice::Go, Name::Least(row), least);
-    store_infant(shared, pass, Choice::Go, Name::Next(row), next);
-    store_infant(shared, pass, Choice::Go, Name::First(row), first);
+    store_infant(shared, pass, Name::Count(row), count);
+    store_infant(shared, pass, Name::Least(row), least);
+    store_infant(shared, pass, Name::Next(row), next);
+    store_infant(shared, pass, Name::First(row), first);
 }
 
 // Stores that the entry of each seat is idle.
@@ -75,7 +75,7 @@ fn write_entries(shared: &Shared, pass: &mut Pass, local: &Local)
     let row = infant(local);
     let idle = Pend::Idle.pack();
     for seat in 0..SEAT_COUNT {
-        store_infant(shared, pass, Choice::Go, Name::Pend(row, seat), idle);
+        store_infant(shared, pass, Name::Pend(row, seat), idle);
     }
 }
 
@@ -97,10 +97,10 @@ fn write_cells(shared: &Shared, pass: &mut Pass, local: &Local)
         let value = pack_value(cell.value);
         let version = pack_version(Some(cell.version));
         let behind = rising_after_word(local, place);
-        store_infant(shared, pass, Choice::Go, Name::Key(row, place), key);
-        store_infant(shared, pass, Choice::Go, Name::Value(row, place), value);
-        store_infant(shared, pass, Choice::Go, Name::Version(row, place), version);
-        store_infant(shared, pass, Choice::Go, Name::After(row, place), behind);
+        store_infant(shared, pass, Name::Key(row, place), key);
+        store_infant(shared, pass, Name::Value(row, place), value);
+        store_infant(shared, pass, Name::Version(row, place), version);
+        store_infant(shared, pass, Name::After(row, place), behind);
         place += 1;
     }
 }
@@ -130,7 +130,7 @@ fn write_places_behind(shared: &Shared, pass: &mut Pass, local: &Local)
     let none = pack_version(None);
     let nowhere = pack_cell_link(None);
     for place in built..CELL_COUNT {
-        store_infant(shared, pass, Choice::Go, Name::Version(row, place), none);
-        store_infant(shared, pass, Choice::Go, Name::After(row, place), nowhere);
+        store_infant(shared, pass, Name::Version(row, place), none);
+        store_infant(shared, pass, Name::After(row, place), nowhere);
     }
 }

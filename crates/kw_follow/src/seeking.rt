@@ -125,7 +125,7 @@ pub(crate) fn look_at_pass(
         (Activity.Rebalance (Rebalance.Seek (Seek.Pass seat))) }
     ensures { Moves shared.now pass.old local.old Choice.Go pass.new local.new result }
 {
-    let told = load_pass(shared, pass, Choice::Go, Name::Pass(seat));
+    let told = load_pass(shared, pass, Name::Pass(seat));
     seek_on(shared, local, told)
 }
 
@@ -139,7 +139,7 @@ pub(crate) fn free_row(shared: &Shared, pass: &mut Pass, local: &mut Local) -> S
     let state = Name::State(local.rebalance.sought);
     let retired = State::Retired(local.rebalance.number).pack();
     let free = State::Free.pack();
-    let told = reclaim(shared, pass, Choice::Go, state, retired, free);
+    let told = reclaim(shared, pass, state, retired, free);
     seek_on(shared, local, told)
 }
 
@@ -153,6 +153,6 @@ pub(crate) fn take_free_row(shared: &Shared, pass: &mut Pass, local: &mut Local)
     let state = Name::State(local.rebalance.sought);
     let free = State::Free.pack();
     let infant = State::Infant(pass.number()).pack();
-    let told = take_row(shared, pass, Choice::Go, state, free, infant);
+    let told = take_row(shared, pass, state, free, infant);
     seek_on(shared, local, told)
 }

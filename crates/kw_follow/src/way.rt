@@ -105,7 +105,7 @@ impl Way {
         requires { Follows shared.now pass.old (on_way (Activity.Walk Walk.GuessedLeast) self) }
         ensures { Makes shared.now pass.old Choice.Go result pass.new }
     {
-        load_least(shared, pass, Choice::Go, Name::Least(self.row))
+        load_least(shared, pass, Name::Least(self.row))
     }
 }
 
@@ -128,7 +128,7 @@ fn store_call_epoch(shared: &Shared, pass: &mut Pass, key: u32, epoch: u64)
     ensures { Reaches shared.now pass.old pass.new (starting key epoch) }
 {
     let word = Name::Pass(pass.number());
-    store_pass(shared, pass, Choice::Go, word, pack_pass(Some(epoch)));
+    store_pass(shared, pass, word, pack_pass(Some(epoch)));
 }
 
 /// Ends a call that is about to leave, and whose local was left at rest: its last event. The reply
@@ -143,5 +143,5 @@ pub fn end_resting(shared: &Shared, pass: &mut Pass)
         Closes pass.old pass.new (reply_of answer (held pass.old)) }
 {
     let word = Name::Pass(pass.number());
-    clear_pass(shared, pass, Choice::Go, word, pack_pass(None));
+    clear_pass(shared, pass, word, pack_pass(None));
 }

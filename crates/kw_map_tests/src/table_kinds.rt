@@ -21,12 +21,11 @@ use kw_core::step::{operation, resume};
 use kw_model::call::Call;
 use kw_model::memory::Memory;
 use kw_table::{
-    Pass, Shared, add_count, announce, clear_pass, clear_pend, clear_scan, decide, draw, engage,
-    freeze_count, freeze_pend, give_back, help_draw, help_settle, help_stamp, insert, load_after,
-    load_clock, load_count, load_epoch, load_head, load_key, load_least, load_link, load_pass,
-    load_pend, load_scan, load_state, load_value, load_version, make, mark_link, normalise, number,
-    reclaim, replace, settle, stamp, store_after, store_infant, store_key, store_pass,
-    store_retired, store_value, store_version, store_waiting, take_row,
+    Pass, Shared, add_count, announce, clear_pass, clear_pend, clear_scan, draw, freeze_pend,
+    insert, load_after, load_clock, load_count, load_epoch, load_head, load_key, load_least,
+    load_link, load_pass, load_pend, load_scan, load_state, load_value, load_version, make,
+    reclaim, settle, stamp, store_after, store_infant, store_key, store_pass, store_value,
+    store_version, store_waiting, take_row,
 };
 use kw_words::kind::Kind;
 use kw_world::activity::Activity;
@@ -40,157 +39,118 @@ use std::test::Fail;
 // More events than any call of these tests makes.
 pub(crate) const ALL: u32 = 1000;
 
-// A load, by the call of its kind.
+// A load that is made by `Go`, by the call of its kind.
 #[tactic(auto, using(crate::proofs::AskedOperations::asks_for))]
-fn load(shared: &Shared, pass: &mut Pass, choice: Choice, does: Operation) -> u64
-    requires asks { Asks shared.now pass.old choice does }
+fn load(shared: &Shared, pass: &mut Pass, does: Operation) -> u64
+    requires asks { Asks shared.now pass.old Choice.Go does }
     requires action { does.action ≡ Action.Load }
-    ensures { Makes shared.now pass.old choice result pass.new }
+    ensures { Makes shared.now pass.old Choice.Go result pass.new }
 {
     let word = does.name;
     match does.kind {
-        Kind::LoadEpoch => load_epoch(shared, pass, choice, word),
-        Kind::LoadCount => load_count(shared, pass, choice, word),
-        Kind::LoadClock => load_clock(shared, pass, choice, word),
-        Kind::LoadPend => load_pend(shared, pass, choice, word),
-        Kind::LoadKey => load_key(shared, pass, choice, word),
-        Kind::LoadValue => load_value(shared, pass, choice, word),
-        Kind::LoadVersion => load_version(shared, pass, choice, word),
-        Kind::LoadAfter => load_after(shared, pass, choice, word),
-        Kind::LoadHead => load_head(shared, pass, choice, word),
-        Kind::LoadLink => load_link(shared, pass, choice, word),
-        Kind::LoadLeast => load_least(shared, pass, choice, word),
-        Kind::LoadState => load_state(shared, pass, choice, word),
-        Kind::LoadScan => load_scan(shared, pass, choice, word),
-        Kind::LoadPass => load_pass(shared, pass, choice, word),
-        _ => make(shared, pass, choice, does),
+        Kind::LoadCount => load_count(shared, pass, word),
+        Kind::LoadClock => load_clock(shared, pass, word),
+        Kind::LoadPend => load_pend(shared, pass, word),
+        Kind::LoadKey => load_key(shared, pass, word),
+        Kind::LoadValue => load_value(shared, pass, word),
+        Kind::LoadVersion => load_version(shared, pass, word),
+        Kind::LoadAfter => load_after(shared, pass, word),
+        Kind::LoadHead => load_head(shared, pass, word),
+        Kind::LoadLink => load_link(shared, pass, word),
+        Kind::LoadLeast => load_least(shared, pass, word),
+        Kind::LoadState => load_state(shared, pass, Choice::Go, word),
+        Kind::LoadScan => load_scan(shared, pass, word),
+        Kind::LoadPass => load_pass(shared, pass, word),
+        _ => make(shared, pass, Choice::Go, does),
     }
 }
 
-// A store, by the call of its kind.
+// A store that is made by `Go`, by the call of its kind.
 #[tactic(auto, using(crate::proofs::AskedOperations::asks_for))]
-fn store(shared: &Shared, pass: &mut Pass, choice: Choice, does: Operation, stored: u64) -> u64
-    requires asks { Asks shared.now pass.old choice does }
+fn store(shared: &Shared, pass: &mut Pass, does: Operation, stored: u64) -> u64
+    requires asks { Asks shared.now pass.old Choice.Go does }
     requires action { does.action ≡ Action.Store stored }
-    ensures { Makes shared.now pass.old choice result pass.new }
+    ensures { Makes shared.now pass.old Choice.Go result pass.new }
 {
     let word = does.name;
     match does.kind {
-        Kind::StorePass => store_pass(shared, pass, choice, word, stored),
-        Kind::ClearPass => clear_pass(shared, pass, choice, word, stored),
-        Kind::StoreKey => store_key(shared, pass, choice, word, stored),
-        Kind::StoreValue => store_value(shared, pass, choice, word, stored),
-        Kind::StoreVersion => store_version(shared, pass, choice, word, stored),
-        Kind::StoreAfter => store_after(shared, pass, choice, word, stored),
-        Kind::ClearPend => clear_pend(shared, pass, choice, word, stored),
-        Kind::StoreWaiting => store_waiting(shared, pass, choice, word, stored),
-        Kind::ClearScan => clear_scan(shared, pass, choice, word, stored),
-        Kind::StoreInfant => store_infant(shared, pass, choice, word, stored),
-        Kind::GiveBack => give_back(shared, pass, choice, word, stored),
-        Kind::StoreRetired => store_retired(shared, pass, choice, word, stored),
-        _ => make(shared, pass, choice, does),
+        Kind::StorePass => store_pass(shared, pass, word, stored),
+        Kind::ClearPass => clear_pass(shared, pass, word, stored),
+        Kind::StoreKey => store_key(shared, pass, word, stored),
+        Kind::StoreValue => store_value(shared, pass, word, stored),
+        Kind::StoreVersion => store_version(shared, pass, word, stored),
+        Kind::StoreAfter => store_after(shared, pass, word, stored),
+        Kind::ClearPend => clear_pend(shared, pass, Choice::Go, word, stored),
+        Kind::StoreWaiting => store_waiting(shared, pass, word, stored),
+        Kind::ClearScan => clear_scan(shared, pass, Choice::Go, word, stored),
+        Kind::StoreInfant => store_infant(shared, pass, word, stored),
+        _ => make(shared, pass, Choice::Go, does),
     }
 }
 
-// An exchange, by the call of its kind.
+// An exchange that is made by `Go`, by the call of its kind.
 #[tactic(auto, using(crate::proofs::AskedOperations::asks_for))]
-fn exchange(
-    shared: &Shared,
-    pass: &mut Pass,
-    choice: Choice,
-    does: Operation,
-    expected: u64,
-    stored: u64,
-) -> u64
-    requires asks { Asks shared.now pass.old choice does }
+fn exchange(shared: &Shared, pass: &mut Pass, does: Operation, expected: u64, stored: u64) -> u64
+    requires asks { Asks shared.now pass.old Choice.Go does }
     requires action { does.action ≡ Action.Exchange expected stored }
-    ensures { Makes shared.now pass.old choice result pass.new }
+    ensures { Makes shared.now pass.old Choice.Go result pass.new }
 {
     let word = does.name;
     match does.kind {
-        Kind::Announce => announce(shared, pass, choice, word, expected, stored),
-        Kind::Stamp => stamp(shared, pass, choice, word, expected, stored),
-        Kind::Insert => insert(shared, pass, choice, word, expected, stored),
-        Kind::HelpStamp => help_stamp(shared, pass, choice, word, expected, stored),
-        Kind::Settle => settle(shared, pass, choice, word, expected, stored),
-        _ => exchange_row(shared, pass, choice, does, expected, stored),
+        Kind::Announce => announce(shared, pass, word, expected, stored),
+        Kind::Stamp => stamp(shared, pass, word, expected, stored),
+        Kind::Insert => insert(shared, pass, word, expected, stored),
+        Kind::Settle => settle(shared, pass, word, expected, stored),
+        Kind::FreezePend => freeze_pend(shared, pass, word, expected, stored),
+        Kind::Reclaim => reclaim(shared, pass, word, expected, stored),
+        Kind::TakeRow => take_row(shared, pass, word, expected, stored),
+        _ => make(shared, pass, Choice::Go, does),
     }
 }
 
-// An exchange of a rebalance, by the call of its kind.
+// An addition that is made by `Go`, by the call of its kind.
 #[tactic(auto, using(crate::proofs::AskedOperations::asks_for))]
-fn exchange_row(
-    shared: &Shared,
-    pass: &mut Pass,
-    choice: Choice,
-    does: Operation,
-    expected: u64,
-    stored: u64,
-) -> u64
-    requires asks { Asks shared.now pass.old choice does }
-    requires action { does.action ≡ Action.Exchange expected stored }
-    ensures { Makes shared.now pass.old choice result pass.new }
-{
-    let word = does.name;
-    match does.kind {
-        Kind::Engage => engage(shared, pass, choice, word, expected, stored),
-        Kind::Decide => decide(shared, pass, choice, word, expected, stored),
-        Kind::FreezePend => freeze_pend(shared, pass, choice, word, expected, stored),
-        Kind::HelpSettle => help_settle(shared, pass, choice, word, expected, stored),
-        Kind::Reclaim => reclaim(shared, pass, choice, word, expected, stored),
-        Kind::TakeRow => take_row(shared, pass, choice, word, expected, stored),
-        Kind::Replace => replace(shared, pass, choice, word, expected, stored),
-        Kind::Normalise => normalise(shared, pass, choice, word, expected, stored),
-        _ => make(shared, pass, choice, does),
-    }
-}
-
-// An addition, by the call of its kind.
-#[tactic(auto, using(crate::proofs::AskedOperations::asks_for))]
-fn add(shared: &Shared, pass: &mut Pass, choice: Choice, does: Operation, by: u64) -> u64
-    requires asks { Asks shared.now pass.old choice does }
+fn add(shared: &Shared, pass: &mut Pass, does: Operation, by: u64) -> u64
+    requires asks { Asks shared.now pass.old Choice.Go does }
     requires action { does.action ≡ Action.Add by }
-    ensures { Makes shared.now pass.old choice result pass.new }
+    ensures { Makes shared.now pass.old Choice.Go result pass.new }
 {
     let word = does.name;
     match does.kind {
-        Kind::AddCount => add_count(shared, pass, choice, word, by),
-        Kind::Draw => draw(shared, pass, choice, word, by),
-        Kind::HelpDraw => help_draw(shared, pass, choice, word, by),
-        Kind::Number => number(shared, pass, choice, word, by),
-        _ => make(shared, pass, choice, does),
+        Kind::AddCount => add_count(shared, pass, word, by),
+        Kind::Draw => draw(shared, pass, word, by),
+        _ => make(shared, pass, Choice::Go, does),
     }
 }
 
-// A union, by the call of its kind.
-#[tactic(auto, using(crate::proofs::AskedOperations::asks_for))]
-fn unite(shared: &Shared, pass: &mut Pass, choice: Choice, does: Operation, bits: u64) -> u64
-    requires asks { Asks shared.now pass.old choice does }
-    requires action { does.action ≡ Action.Or bits }
-    ensures { Makes shared.now pass.old choice result pass.new }
+// An operation that is made by `Go`, by the call of its kind.
+fn go_by_kind(shared: &Shared, pass: &mut Pass, does: Operation) -> u64
+    requires { Asks shared.now pass.old Choice.Go does }
+    ensures { Makes shared.now pass.old Choice.Go result pass.new }
 {
-    let word = does.name;
-    match does.kind {
-        Kind::MarkLink => mark_link(shared, pass, choice, word, bits),
-        Kind::FreezeCount => freeze_count(shared, pass, choice, word, bits),
-        _ => make(shared, pass, choice, does),
+    match does.action {
+        Action::Load => load(shared, pass, does),
+        Action::Store(stored) => store(shared, pass, does, stored),
+        Action::Exchange(expected, stored) => exchange(shared, pass, does, expected, stored),
+        Action::Add(by) => add(shared, pass, does, by),
+        Action::Or(_) => make(shared, pass, Choice::Go, does),
     }
 }
 
-// An operation, by the call of its kind.
+// An operation, by the call of its kind: the two kinds that other choices than `Go` make here are
+// the first event of a call and the load of the state of a row that is guessed.
 #[tactic(auto, using(crate::proofs::AskedOperations::asks_for))]
 fn make_by_kind(shared: &Shared, pass: &mut Pass, choice: Choice, does: Operation) -> u64
     requires { Asks shared.now pass.old choice does }
     ensures { Makes shared.now pass.old choice result pass.new }
 {
-    match does.action {
-        Action::Load => load(shared, pass, choice, does),
-        Action::Store(stored) => store(shared, pass, choice, does, stored),
-        Action::Exchange(expected, stored) => {
-            exchange(shared, pass, choice, does, expected, stored)
-        }
-        Action::Add(by) => add(shared, pass, choice, does, by),
-        Action::Or(bits) => unite(shared, pass, choice, does, bits),
+    if let Choice::Go = choice {
+        return go_by_kind(shared, pass, does);
+    }
+    match (does.action, does.kind) {
+        (Action::Load, Kind::LoadEpoch) => load_epoch(shared, pass, choice, does.name),
+        (Action::Load, Kind::LoadState) => load_state(shared, pass, choice, does.name),
+        _ => make(shared, pass, choice, does),
     }
 }
 

@@ -1,8 +1,9 @@
 //! The kinds of event, each a step of its own.
 //!
-//! With the choice given, the next event of the pass is of this kind, on this word and with these
-//! numbers: that is what each call asks, and what the table of events says for what the pass's seat
-//! knows. A call that begins has a value below `VALUE_END`. The answer is what the operation tells
+//! The next event of the pass is of this kind, on this word and with these numbers: that is what
+//! each call asks, and what the table of events says for what the pass's seat knows. It is so with
+//! the choice that the call is given, or with `Go` for a kind whose events here are made by that
+//! choice alone. A call that begins has a value below `VALUE_END`. The answer is what the operation tells
 //! the seat: the word that it found, and 0 for a store. Afterwards the pass has seen all events up
 //! to and with this one, which is the only new one of its own. No kind takes memory, and none is
 //! ever refused.
@@ -20,7 +21,7 @@ use kw_world::operation::{Action, Operation};
 
 /// Makes the step of a kind by what it does to the word.
 macro_rules! step {
-    ($by:ident, $kind:ident, $action:expr, $shared:ident, $pass:ident, $choice:ident, $word:ident $(, $number:ident)*) => {
+    ($by:ident, $kind:ident, $action:expr, $shared:ident, $pass:ident, $choice:expr, $word:ident $(, $number:ident)*) => {
         $shared.$by(
             $pass,
             $choice,
@@ -49,9 +50,9 @@ pub fn load_epoch(shared: &Shared, pass: &mut Pass, choice: Choice, word: Name) 
 
 /// Stores the epoch that the seat announces.
 #[inline(always)]
-pub fn store_pass(shared: &Shared, pass: &mut Pass, choice: Choice, word: Name, stored: u64) -> u64
-    requires { Asks shared.now pass.old choice (operation Kind.StorePass word (Action.Store stored)) }
-    ensures { Makes shared.now pass.old choice result pass.new }
+pub fn store_pass(shared: &Shared, pass: &mut Pass, word: Name, stored: u64) -> u64
+    requires { Asks shared.now pass.old Choice.Go (operation Kind.StorePass word (Action.Store stored)) }
+    ensures { Makes shared.now pass.old Choice.Go result pass.new }
 {
     step!(
         store,
@@ -59,7 +60,7 @@ pub fn store_pass(shared: &Shared, pass: &mut Pass, choice: Choice, word: Name, 
         Action::Store(stored),
         shared,
         pass,
-        choice,
+        Choice::Go,
         word,
         stored
     )
@@ -67,9 +68,9 @@ pub fn store_pass(shared: &Shared, pass: &mut Pass, choice: Choice, word: Name, 
 
 /// Stores that the seat announces no epoch.
 #[inline(always)]
-pub fn clear_pass(shared: &Shared, pass: &mut Pass, choice: Choice, word: Name, stored: u64) -> u64
-    requires { Asks shared.now pass.old choice (operation Kind.ClearPass word (Action.Store stored)) }
-    ensures { Makes shared.now pass.old choice result pass.new }
+pub fn clear_pass(shared: &Shared, pass: &mut Pass, word: Name, stored: u64) -> u64
+    requires { Asks shared.now pass.old Choice.Go (operation Kind.ClearPass word (Action.Store stored)) }
+    ensures { Makes shared.now pass.old Choice.Go result pass.new }
 {
     step!(
         store,
@@ -77,7 +78,7 @@ pub fn clear_pass(shared: &Shared, pass: &mut Pass, choice: Choice, word: Name, 
         Action::Store(stored),
         shared,
         pass,
-        choice,
+        Choice::Go,
         word,
         stored
     )
@@ -87,18 +88,26 @@ pub fn clear_pass(shared: &Shared, pass: &mut Pass, choice: Choice, word: Name, 
 
 /// Loads the count of a row.
 #[inline(always)]
-pub fn load_count(shared: &Shared, pass: &mut Pass, choice: Choice, word: Name) -> u64
-    requires { Asks shared.now pass.old choice (operation Kind.LoadCount word Action.Load) }
-    ensures { Makes shared.now pass.old choice result pass.new }
+pub fn load_count(shared: &Shared, pass: &mut Pass, word: Name) -> u64
+    requires { Asks shared.now pass.old Choice.Go (operation Kind.LoadCount word Action.Load) }
+    ensures { Makes shared.now pass.old Choice.Go result pass.new }
 {
-    step!(load, LoadCount, Action::Load, shared, pass, choice, word)
+    step!(
+        load,
+        LoadCount,
+        Action::Load,
+        shared,
+        pass,
+        Choice::Go,
+        word
+    )
 }
 
 /// Adds to the count of a row, to get a cell.
 #[inline(always)]
-pub fn add_count(shared: &Shared, pass: &mut Pass, choice: Choice, word: Name, number: u64) -> u64
-    requires { Asks shared.now pass.old choice (operation Kind.AddCount word (Action.Add number)) }
-    ensures { Makes shared.now pass.old choice result pass.new }
+pub fn add_count(shared: &Shared, pass: &mut Pass, word: Name, number: u64) -> u64
+    requires { Asks shared.now pass.old Choice.Go (operation Kind.AddCount word (Action.Add number)) }
+    ensures { Makes shared.now pass.old Choice.Go result pass.new }
 {
     step!(
         add,
@@ -106,7 +115,7 @@ pub fn add_count(shared: &Shared, pass: &mut Pass, choice: Choice, word: Name, n
         Action::Add(number),
         shared,
         pass,
-        choice,
+        Choice::Go,
         word,
         number
     )
@@ -114,9 +123,9 @@ pub fn add_count(shared: &Shared, pass: &mut Pass, choice: Choice, word: Name, n
 
 /// Stores the key of a cell.
 #[inline(always)]
-pub fn store_key(shared: &Shared, pass: &mut Pass, choice: Choice, word: Name, stored: u64) -> u64
-    requires { Asks shared.now pass.old choice (operation Kind.StoreKey word (Action.Store stored)) }
-    ensures { Makes shared.now pass.old choice result pass.new }
+pub fn store_key(shared: &Shared, pass: &mut Pass, word: Name, stored: u64) -> u64
+    requires { Asks shared.now pass.old Choice.Go (operation Kind.StoreKey word (Action.Store stored)) }
+    ensures { Makes shared.now pass.old Choice.Go result pass.new }
 {
     step!(
         store,
@@ -124,7 +133,7 @@ pub fn store_key(shared: &Shared, pass: &mut Pass, choice: Choice, word: Name, s
         Action::Store(stored),
         shared,
         pass,
-        choice,
+        Choice::Go,
         word,
         stored
     )
@@ -132,10 +141,10 @@ pub fn store_key(shared: &Shared, pass: &mut Pass, choice: Choice, word: Name, s
 
 /// Stores the value of a cell.
 #[inline(always)]
-pub fn store_value(shared: &Shared, pass: &mut Pass, choice: Choice, word: Name, stored: u64) -> u64
-    requires { Asks shared.now pass.old choice
+pub fn store_value(shared: &Shared, pass: &mut Pass, word: Name, stored: u64) -> u64
+    requires { Asks shared.now pass.old Choice.Go
         (operation Kind.StoreValue word (Action.Store stored)) }
-    ensures { Makes shared.now pass.old choice result pass.new }
+    ensures { Makes shared.now pass.old Choice.Go result pass.new }
 {
     step!(
         store,
@@ -143,7 +152,7 @@ pub fn store_value(shared: &Shared, pass: &mut Pass, choice: Choice, word: Name,
         Action::Store(stored),
         shared,
         pass,
-        choice,
+        Choice::Go,
         word,
         stored
     )
@@ -151,17 +160,10 @@ pub fn store_value(shared: &Shared, pass: &mut Pass, choice: Choice, word: Name,
 
 /// Exchanges the seat's idle entry in a row for one with its cell.
 #[inline(always)]
-pub fn announce(
-    shared: &Shared,
-    pass: &mut Pass,
-    choice: Choice,
-    word: Name,
-    expected: u64,
-    stored: u64,
-) -> u64
-    requires { Asks shared.now pass.old choice
+pub fn announce(shared: &Shared, pass: &mut Pass, word: Name, expected: u64, stored: u64) -> u64
+    requires { Asks shared.now pass.old Choice.Go
         (operation Kind.Announce word (Action.Exchange expected stored)) }
-    ensures { Makes shared.now pass.old choice result pass.new }
+    ensures { Makes shared.now pass.old Choice.Go result pass.new }
 {
     step!(
         exchange,
@@ -169,7 +171,7 @@ pub fn announce(
         Action::Exchange(expected, stored),
         shared,
         pass,
-        choice,
+        Choice::Go,
         word,
         expected,
         stored
@@ -178,26 +180,27 @@ pub fn announce(
 
 /// Loads the clock.
 #[inline(always)]
-pub fn load_clock(shared: &Shared, pass: &mut Pass, choice: Choice, word: Name) -> u64
-    requires { Asks shared.now pass.old choice (operation Kind.LoadClock word Action.Load) }
-    ensures { Makes shared.now pass.old choice result pass.new }
+pub fn load_clock(shared: &Shared, pass: &mut Pass, word: Name) -> u64
+    requires { Asks shared.now pass.old Choice.Go (operation Kind.LoadClock word Action.Load) }
+    ensures { Makes shared.now pass.old Choice.Go result pass.new }
 {
-    step!(load, LoadClock, Action::Load, shared, pass, choice, word)
+    step!(
+        load,
+        LoadClock,
+        Action::Load,
+        shared,
+        pass,
+        Choice::Go,
+        word
+    )
 }
 
 /// Exchanges the seat's pending entry for one with a version.
 #[inline(always)]
-pub fn stamp(
-    shared: &Shared,
-    pass: &mut Pass,
-    choice: Choice,
-    word: Name,
-    expected: u64,
-    stored: u64,
-) -> u64
-    requires { Asks shared.now pass.old choice
+pub fn stamp(shared: &Shared, pass: &mut Pass, word: Name, expected: u64, stored: u64) -> u64
+    requires { Asks shared.now pass.old Choice.Go
         (operation Kind.Stamp word (Action.Exchange expected stored)) }
-    ensures { Makes shared.now pass.old choice result pass.new }
+    ensures { Makes shared.now pass.old Choice.Go result pass.new }
 {
     step!(
         exchange,
@@ -205,7 +208,7 @@ pub fn stamp(
         Action::Exchange(expected, stored),
         shared,
         pass,
-        choice,
+        Choice::Go,
         word,
         expected,
         stored
@@ -214,16 +217,10 @@ pub fn stamp(
 
 /// Stores the version of a cell.
 #[inline(always)]
-pub fn store_version(
-    shared: &Shared,
-    pass: &mut Pass,
-    choice: Choice,
-    word: Name,
-    stored: u64,
-) -> u64
-    requires { Asks shared.now pass.old choice
+pub fn store_version(shared: &Shared, pass: &mut Pass, word: Name, stored: u64) -> u64
+    requires { Asks shared.now pass.old Choice.Go
         (operation Kind.StoreVersion word (Action.Store stored)) }
-    ensures { Makes shared.now pass.old choice result pass.new }
+    ensures { Makes shared.now pass.old Choice.Go result pass.new }
 {
     step!(
         store,
@@ -231,7 +228,7 @@ pub fn store_version(
         Action::Store(stored),
         shared,
         pass,
-        choice,
+        Choice::Go,
         word,
         stored
     )
@@ -241,19 +238,27 @@ pub fn store_version(
 
 /// Loads a link between the cells of a row: its first, or that after a cell.
 #[inline(always)]
-pub fn load_after(shared: &Shared, pass: &mut Pass, choice: Choice, word: Name) -> u64
-    requires { Asks shared.now pass.old choice (operation Kind.LoadAfter word Action.Load) }
-    ensures { Makes shared.now pass.old choice result pass.new }
+pub fn load_after(shared: &Shared, pass: &mut Pass, word: Name) -> u64
+    requires { Asks shared.now pass.old Choice.Go (operation Kind.LoadAfter word Action.Load) }
+    ensures { Makes shared.now pass.old Choice.Go result pass.new }
 {
-    step!(load, LoadAfter, Action::Load, shared, pass, choice, word)
+    step!(
+        load,
+        LoadAfter,
+        Action::Load,
+        shared,
+        pass,
+        Choice::Go,
+        word
+    )
 }
 
 /// Stores the link after a cell that is not listed yet.
 #[inline(always)]
-pub fn store_after(shared: &Shared, pass: &mut Pass, choice: Choice, word: Name, stored: u64) -> u64
-    requires { Asks shared.now pass.old choice
+pub fn store_after(shared: &Shared, pass: &mut Pass, word: Name, stored: u64) -> u64
+    requires { Asks shared.now pass.old Choice.Go
         (operation Kind.StoreAfter word (Action.Store stored)) }
-    ensures { Makes shared.now pass.old choice result pass.new }
+    ensures { Makes shared.now pass.old Choice.Go result pass.new }
 {
     step!(
         store,
@@ -261,7 +266,7 @@ pub fn store_after(shared: &Shared, pass: &mut Pass, choice: Choice, word: Name,
         Action::Store(stored),
         shared,
         pass,
-        choice,
+        Choice::Go,
         word,
         stored
     )
@@ -269,17 +274,10 @@ pub fn store_after(shared: &Shared, pass: &mut Pass, choice: Choice, word: Name,
 
 /// Exchanges a link between the cells of a row for one to a cell that is listed so.
 #[inline(always)]
-pub fn insert(
-    shared: &Shared,
-    pass: &mut Pass,
-    choice: Choice,
-    word: Name,
-    expected: u64,
-    stored: u64,
-) -> u64
-    requires { Asks shared.now pass.old choice
+pub fn insert(shared: &Shared, pass: &mut Pass, word: Name, expected: u64, stored: u64) -> u64
+    requires { Asks shared.now pass.old Choice.Go
         (operation Kind.Insert word (Action.Exchange expected stored)) }
-    ensures { Makes shared.now pass.old choice result pass.new }
+    ensures { Makes shared.now pass.old Choice.Go result pass.new }
 {
     step!(
         exchange,
@@ -287,7 +285,7 @@ pub fn insert(
         Action::Exchange(expected, stored),
         shared,
         pass,
-        choice,
+        Choice::Go,
         word,
         expected,
         stored
@@ -314,63 +312,53 @@ pub fn clear_pend(shared: &Shared, pass: &mut Pass, choice: Choice, word: Name, 
 
 /// Loads an entry of a row.
 #[inline(always)]
-pub fn load_pend(shared: &Shared, pass: &mut Pass, choice: Choice, word: Name) -> u64
-    requires { Asks shared.now pass.old choice (operation Kind.LoadPend word Action.Load) }
-    ensures { Makes shared.now pass.old choice result pass.new }
+pub fn load_pend(shared: &Shared, pass: &mut Pass, word: Name) -> u64
+    requires { Asks shared.now pass.old Choice.Go (operation Kind.LoadPend word Action.Load) }
+    ensures { Makes shared.now pass.old Choice.Go result pass.new }
 {
-    step!(load, LoadPend, Action::Load, shared, pass, choice, word)
+    step!(load, LoadPend, Action::Load, shared, pass, Choice::Go, word)
 }
 
 /// Loads the key of a cell.
 #[inline(always)]
-pub fn load_key(shared: &Shared, pass: &mut Pass, choice: Choice, word: Name) -> u64
-    requires { Asks shared.now pass.old choice (operation Kind.LoadKey word Action.Load) }
-    ensures { Makes shared.now pass.old choice result pass.new }
+pub fn load_key(shared: &Shared, pass: &mut Pass, word: Name) -> u64
+    requires { Asks shared.now pass.old Choice.Go (operation Kind.LoadKey word Action.Load) }
+    ensures { Makes shared.now pass.old Choice.Go result pass.new }
 {
-    step!(load, LoadKey, Action::Load, shared, pass, choice, word)
+    step!(load, LoadKey, Action::Load, shared, pass, Choice::Go, word)
 }
 
 /// Loads the value of a cell.
 #[inline(always)]
-pub fn load_value(shared: &Shared, pass: &mut Pass, choice: Choice, word: Name) -> u64
-    requires { Asks shared.now pass.old choice (operation Kind.LoadValue word Action.Load) }
-    ensures { Makes shared.now pass.old choice result pass.new }
+pub fn load_value(shared: &Shared, pass: &mut Pass, word: Name) -> u64
+    requires { Asks shared.now pass.old Choice.Go (operation Kind.LoadValue word Action.Load) }
+    ensures { Makes shared.now pass.old Choice.Go result pass.new }
 {
-    step!(load, LoadValue, Action::Load, shared, pass, choice, word)
+    step!(
+        load,
+        LoadValue,
+        Action::Load,
+        shared,
+        pass,
+        Choice::Go,
+        word
+    )
 }
 
 /// Loads the version of a cell.
 #[inline(always)]
-pub fn load_version(shared: &Shared, pass: &mut Pass, choice: Choice, word: Name) -> u64
-    requires { Asks shared.now pass.old choice (operation Kind.LoadVersion word Action.Load) }
-    ensures { Makes shared.now pass.old choice result pass.new }
-{
-    step!(load, LoadVersion, Action::Load, shared, pass, choice, word)
-}
-
-/// Exchanges another seat's pending entry for one with a version.
-pub fn help_stamp(
-    shared: &Shared,
-    pass: &mut Pass,
-    choice: Choice,
-    word: Name,
-    expected: u64,
-    stored: u64,
-) -> u64
-    requires { Asks shared.now pass.old choice
-        (operation Kind.HelpStamp word (Action.Exchange expected stored)) }
-    ensures { Makes shared.now pass.old choice result pass.new }
+pub fn load_version(shared: &Shared, pass: &mut Pass, word: Name) -> u64
+    requires { Asks shared.now pass.old Choice.Go (operation Kind.LoadVersion word Action.Load) }
+    ensures { Makes shared.now pass.old Choice.Go result pass.new }
 {
     step!(
-        exchange,
-        HelpStamp,
-        Action::Exchange(expected, stored),
+        load,
+        LoadVersion,
+        Action::Load,
         shared,
         pass,
-        choice,
-        word,
-        expected,
-        stored
+        Choice::Go,
+        word
     )
 }
 
@@ -378,16 +366,10 @@ pub fn help_stamp(
 
 /// Stores the clock that the seat's scan loaded.
 #[inline(always)]
-pub fn store_waiting(
-    shared: &Shared,
-    pass: &mut Pass,
-    choice: Choice,
-    word: Name,
-    stored: u64,
-) -> u64
-    requires { Asks shared.now pass.old choice
+pub fn store_waiting(shared: &Shared, pass: &mut Pass, word: Name, stored: u64) -> u64
+    requires { Asks shared.now pass.old Choice.Go
         (operation Kind.StoreWaiting word (Action.Store stored)) }
-    ensures { Makes shared.now pass.old choice result pass.new }
+    ensures { Makes shared.now pass.old Choice.Go result pass.new }
 {
     step!(
         store,
@@ -395,7 +377,7 @@ pub fn store_waiting(
         Action::Store(stored),
         shared,
         pass,
-        choice,
+        Choice::Go,
         word,
         stored
     )
@@ -403,9 +385,9 @@ pub fn store_waiting(
 
 /// Adds to the clock, to draw a version for the seat's scan.
 #[inline(always)]
-pub fn draw(shared: &Shared, pass: &mut Pass, choice: Choice, word: Name, number: u64) -> u64
-    requires { Asks shared.now pass.old choice (operation Kind.Draw word (Action.Add number)) }
-    ensures { Makes shared.now pass.old choice result pass.new }
+pub fn draw(shared: &Shared, pass: &mut Pass, word: Name, number: u64) -> u64
+    requires { Asks shared.now pass.old Choice.Go (operation Kind.Draw word (Action.Add number)) }
+    ensures { Makes shared.now pass.old Choice.Go result pass.new }
 {
     step!(
         add,
@@ -413,7 +395,7 @@ pub fn draw(shared: &Shared, pass: &mut Pass, choice: Choice, word: Name, number
         Action::Add(number),
         shared,
         pass,
-        choice,
+        Choice::Go,
         word,
         number
     )
@@ -421,17 +403,10 @@ pub fn draw(shared: &Shared, pass: &mut Pass, choice: Choice, word: Name, number
 
 /// Exchanges the seat's waiting scan for one with a version.
 #[inline(always)]
-pub fn settle(
-    shared: &Shared,
-    pass: &mut Pass,
-    choice: Choice,
-    word: Name,
-    expected: u64,
-    stored: u64,
-) -> u64
-    requires { Asks shared.now pass.old choice
+pub fn settle(shared: &Shared, pass: &mut Pass, word: Name, expected: u64, stored: u64) -> u64
+    requires { Asks shared.now pass.old Choice.Go
         (operation Kind.Settle word (Action.Exchange expected stored)) }
-    ensures { Makes shared.now pass.old choice result pass.new }
+    ensures { Makes shared.now pass.old Choice.Go result pass.new }
 {
     step!(
         exchange,
@@ -439,7 +414,7 @@ pub fn settle(
         Action::Exchange(expected, stored),
         shared,
         pass,
-        choice,
+        Choice::Go,
         word,
         expected,
         stored
@@ -468,29 +443,37 @@ pub fn clear_scan(shared: &Shared, pass: &mut Pass, choice: Choice, word: Name, 
 
 /// Loads the link to the first row.
 #[inline(always)]
-pub fn load_head(shared: &Shared, pass: &mut Pass, choice: Choice, word: Name) -> u64
-    requires { Asks shared.now pass.old choice (operation Kind.LoadHead word Action.Load) }
-    ensures { Makes shared.now pass.old choice result pass.new }
+pub fn load_head(shared: &Shared, pass: &mut Pass, word: Name) -> u64
+    requires { Asks shared.now pass.old Choice.Go (operation Kind.LoadHead word Action.Load) }
+    ensures { Makes shared.now pass.old Choice.Go result pass.new }
 {
-    step!(load, LoadHead, Action::Load, shared, pass, choice, word)
+    step!(load, LoadHead, Action::Load, shared, pass, Choice::Go, word)
 }
 
 /// Loads the link from a row to the next.
 #[inline(always)]
-pub fn load_link(shared: &Shared, pass: &mut Pass, choice: Choice, word: Name) -> u64
-    requires { Asks shared.now pass.old choice (operation Kind.LoadLink word Action.Load) }
-    ensures { Makes shared.now pass.old choice result pass.new }
+pub fn load_link(shared: &Shared, pass: &mut Pass, word: Name) -> u64
+    requires { Asks shared.now pass.old Choice.Go (operation Kind.LoadLink word Action.Load) }
+    ensures { Makes shared.now pass.old Choice.Go result pass.new }
 {
-    step!(load, LoadLink, Action::Load, shared, pass, choice, word)
+    step!(load, LoadLink, Action::Load, shared, pass, Choice::Go, word)
 }
 
 /// Loads the least key of a row.
 #[inline(always)]
-pub fn load_least(shared: &Shared, pass: &mut Pass, choice: Choice, word: Name) -> u64
-    requires { Asks shared.now pass.old choice (operation Kind.LoadLeast word Action.Load) }
-    ensures { Makes shared.now pass.old choice result pass.new }
+pub fn load_least(shared: &Shared, pass: &mut Pass, word: Name) -> u64
+    requires { Asks shared.now pass.old Choice.Go (operation Kind.LoadLeast word Action.Load) }
+    ensures { Makes shared.now pass.old Choice.Go result pass.new }
 {
-    step!(load, LoadLeast, Action::Load, shared, pass, choice, word)
+    step!(
+        load,
+        LoadLeast,
+        Action::Load,
+        shared,
+        pass,
+        Choice::Go,
+        word
+    )
 }
 
 /// Loads the state of a row.

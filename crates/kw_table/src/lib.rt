@@ -6,8 +6,8 @@
 //! has seen, its own ones among them, what its seat knows after them, and the opening of the run.
 //! All of it but the number is for the proofs alone and takes no time and no room.
 //!
-//! `opening` makes a table and its passes, `kinds` and `rebalance_kinds` have one step for each
-//! kind of event and `steps` the one that takes any, and `meeting` lets passes see what others have
+//! `opening` makes a table and its passes, `kinds` and `rebalance_kinds` have a step for each kind of
+//! event that comes often and `steps` the one that takes any, and `meeting` lets passes see what others have
 //! seen. `pass` and `shared` hold the two types, `numbers` what a caller may ask of them, and
 //! `rule` the rule and what a step tells its caller. `warming` loads rows ahead of walks, for speed
 //! alone. Each step is one atomic operation on one word. Whoever stands above needs the contracts
@@ -27,18 +27,14 @@ mod steps;
 mod warming;
 
 pub use kinds::{
-    add_count, announce, clear_pass, clear_pend, clear_scan, draw, help_stamp, insert, load_after,
-    load_clock, load_count, load_epoch, load_head, load_key, load_least, load_link, load_pend,
-    load_state, load_value, load_version, settle, stamp, store_after, store_key, store_pass,
-    store_value, store_version, store_waiting,
+    add_count, announce, clear_pass, clear_pend, clear_scan, draw, insert, load_after, load_clock,
+    load_count, load_epoch, load_head, load_key, load_least, load_link, load_pend, load_state,
+    load_value, load_version, settle, stamp, store_after, store_key, store_pass, store_value,
+    store_version, store_waiting,
 };
 pub use meeting::meet;
 pub use pass::{Pass, View};
-pub use rebalance_kinds::{
-    decide, engage, freeze_count, freeze_pend, give_back, help_draw, help_settle, load_pass,
-    load_scan, mark_link, normalise, number, reclaim, replace, store_infant, store_retired,
-    take_row,
-};
+pub use rebalance_kinds::{freeze_pend, load_pass, load_scan, reclaim, store_infant, take_row};
 pub use rule::Rules;
 pub use shared::Shared;
 pub use steps::make;
