@@ -19,13 +19,14 @@ use Rattle.kw_table.specs.declared.pass.Pass.{Pass}
 use Rattle.kw_table.specs.declared.shared.Shared.{Shared}
 use Rattle.kw_table.specs.Passes.{Makes}
 use Rattle.kw_follow.specs.declared.cursor.Cursor.{Cursor}
-use Rattle.kw_follow.specs.BuildsOn.{Builds, forgetting_mark, taking_at}
+use Rattle.kw_follow.specs.BuildsOn.{forgetting_mark, past_list, taking_at}
 use Rattle.kw_follow.specs.Cursors.{cell_at, past, reached, with_cursor}
 use Rattle.kw_follow.specs.Following.{Follows}
+use Rattle.kw_follow.specs.Reaching.{Advances}
 use Rattle.kw_follow.proofs.BuildEvents.{needed_few}
-use Rattle.kw_follow.proofs.BuildsOn.{builds_by}
 use Rattle.kw_follow.proofs.OneEvent.{follows_ranges, follows_room}
 use Rattle.kw_follow.proofs.RowWriting.{Ends}
+use Rattle.kw_follow.proofs.Advancing.{advances_by}
 
 -- these cells are gathered
 abbrev pub with_gathered : List Cell → Local → Local
@@ -47,33 +48,33 @@ module _ {s : Shared} {p : Pass} (l : Local) (w : Cursor) (f : Follows s p (taki
 
 module _ {s : Shared} {p q : Pass} {told : ℕ} (l : Local) (w : Cursor) where
   -- the link led to a cell
-  pub link_reached : (x : Cursor) (m : Local) (cell : ℕ) → x ≡ reached cell w → m ≡ forgetting_mark cell l → cell_of_link_word told ≡ Some cell → Follows s p (taking_at Gather.Link w l) → Makes s p Go told q → Builds s p q (taking_at Gather.Key x m)
+  pub link_reached : (x : Cursor) (m : Local) (cell : ℕ) → x ≡ reached cell w → m ≡ forgetting_mark cell l → cell_of_link_word told ≡ Some cell → Follows s p (taking_at Gather.Link w l) → Makes s p Go told q → Advances s p q (taking_at Gather.Key x m)
   link_reached x m cell is left leads f makes =
-      builds_by (Activity.Rebalance (Rebalance.Gather Gather.Link)) (taking_at Gather.Link w l) (taking_at Gather.Key x m) f refl tt makes
+      advances_by (Activity.Rebalance (Rebalance.Gather Gather.Link)) (taking_at Gather.Link w l) (taking_at Gather.Key x m) f refl tt makes
       (ap (λ (y : Cursor). taking_at Gather.Key y m) is
       ∙ (ap (λ (k : Local). taking_at Gather.Key (reached cell w) k) left
       ∙ ap (λ (c : Option ℕ). (take_reached product c (taking_at Gather.Link w l)).local) (sym leads)))
 
   -- it led to none: the seat goes on to what comes after the list
-  pub list_over : (k m : Local) (done : StepDone) → k ≡ taking_at Gather.Link w l → outcome m done ≡ take_reached product (cell_of_link_word told) k → Follows s p (taking_at Gather.Link w l) → Makes s p Go told q → Builds s p q m
+  pub list_over : (k m : Local) (done : StepDone) → k ≡ taking_at Gather.Link w l → outcome m done ≡ take_reached product (cell_of_link_word told) k → Follows s p (taking_at Gather.Link w l) → Makes s p Go told q → Advances s p q m
   list_over k m done written line f makes =
-      builds_by (Activity.Rebalance (Rebalance.Gather Gather.Link)) (taking_at Gather.Link w l) m f refl tt makes
+      advances_by (Activity.Rebalance (Rebalance.Gather Gather.Link)) (taking_at Gather.Link w l) m f refl tt makes
       (ap (λ (x : Outcome). x.local) line ∙ ap (λ (n : Local). (take_reached product (cell_of_link_word told) n).local) written)
 
   -- the key of the cell was told
-  pub key_told : (x : Cursor) (key : ℕ) → x ≡ record w { key = key } → key ≡ key_of_word told → Follows s p (taking_at Gather.Key w l) → Makes s p Go told q → Builds s p q (taking_at Gather.Version x l)
+  pub key_told : (x : Cursor) (key : ℕ) → x ≡ record w { key = key } → key ≡ key_of_word told → Follows s p (taking_at Gather.Key w l) → Makes s p Go told q → Advances s p q (taking_at Gather.Version x l)
   key_told x key is keyed f makes =
-      builds_by (Activity.Rebalance (Rebalance.Gather Gather.Key)) (taking_at Gather.Key w l) (taking_at Gather.Version x l) f refl tt makes
+      advances_by (Activity.Rebalance (Rebalance.Gather Gather.Key)) (taking_at Gather.Key w l) (taking_at Gather.Version x l) f refl tt makes
       (ap (λ (y : Cursor). taking_at Gather.Version y l) is ∙ ap (λ n. taking_at Gather.Version (record w { key = n }) l) keyed)
 
   -- its version was told
-  pub version_told : (x : Cursor) → x ≡ record w { version = unwrap_or (version_of_word told) 1 } → Follows s p (taking_at Gather.Version w l) → Makes s p Go told q → Builds s p q (taking_at Gather.Value x l)
-  version_told x is f makes = builds_by (Activity.Rebalance (Rebalance.Gather Gather.Version)) (taking_at Gather.Version w l) (taking_at Gather.Value x l) f refl tt makes (ap (λ (y : Cursor). taking_at Gather.Value y l) is)
+  pub version_told : (x : Cursor) → x ≡ record w { version = unwrap_or (version_of_word told) 1 } → Follows s p (taking_at Gather.Version w l) → Makes s p Go told q → Advances s p q (taking_at Gather.Value x l)
+  version_told x is f makes = advances_by (Activity.Rebalance (Rebalance.Gather Gather.Version)) (taking_at Gather.Version w l) (taking_at Gather.Value x l) f refl tt makes (ap (λ (y : Cursor). taking_at Gather.Value y l) is)
 
   -- its value was told: the cell is gathered, and gone by
-  pub value_told : (x : Cursor) (cells : List Cell) → x ≡ past w → cells ≡ (keeping product (value_of_word told) (taking_at Gather.Value w l)).rebalance.gathered → Follows s p (taking_at Gather.Value w l) → Makes s p Go told q → Builds s p q (taking_at Gather.Link x (with_gathered cells l))
+  pub value_told : (x : Cursor) (cells : List Cell) → x ≡ past w → cells ≡ (keeping product (value_of_word told) (taking_at Gather.Value w l)).rebalance.gathered → Follows s p (taking_at Gather.Value w l) → Makes s p Go told q → Advances s p q (taking_at Gather.Link x (with_gathered cells l))
   value_told x cells is kept f makes =
-      builds_by (Activity.Rebalance (Rebalance.Gather Gather.Value)) (taking_at Gather.Value w l) (taking_at Gather.Link x (with_gathered cells l)) f refl tt makes
+      advances_by (Activity.Rebalance (Rebalance.Gather Gather.Value)) (taking_at Gather.Value w l) (taking_at Gather.Link x (with_gathered cells l)) f refl tt makes
       (ap (λ (y : Cursor). taking_at Gather.Link y (with_gathered cells l)) is ∙ ap (λ (cs : List Cell). taking_at Gather.Link (past w) (with_gathered cs l)) kept)
 
 -- the cell at hand is the one that is gathered
@@ -85,8 +86,15 @@ left_ends : (x : Option Mark) (l : Local) → Ends l (left_of product x l).local
 left_ends (Some m) l = record { stands = tt; tidies = refl }
 left_ends None l = record { stands = tt; tidies = refl }
 
-pub list_ends : (k m : Local) (done : StepDone) (cell : Option ℕ) → cell ≡ None → outcome m done ≡ take_reached product cell k → Ends k m
-list_ends k m done cell none line = subst (Ends k) (sym (ap (λ (x : Outcome). x.local) line ∙ ap (λ (c : Option ℕ). (take_reached product c k).local) none)) (left_ends (least_mark k.rebalance.marks) k)
+pub past_list_ends : (w : Cursor) (l : Local) → Ends l (past_list w l)
+past_list_ends w l = let e = left_ends (least_mark l.rebalance.marks) (taking_at Gather.Link w l) in record { stands = e.stands; tidies = e.tidies }
+
+-- the local that code then has is the one past the list
+pub list_left : (l : Local) (w : Cursor) (k m : Local) (done : StepDone) (cell : Option ℕ) → cell ≡ None → outcome m done ≡ take_reached product cell k → k ≡ taking_at Gather.Link w l → m ≡ past_list w l
+list_left l w k m done cell none line written =
+    ap (λ (x : Outcome). x.local) line
+    ∙ (ap (λ (c : Option ℕ). (take_reached product c k).local) none
+    ∙ ap (λ (n : Local). (take_reached product None n).local) written)
 
 -- the walk begins with the cursor that the local has
 pub begins_gathering : {s : Shared} {p : Pass} (w : Cursor) (l : Local) → with_cursor l.activity w l ≡ l → l.activity ≡ Activity.Rebalance (Rebalance.Gather Gather.Link) → Follows s p l → Follows s p (taking_at Gather.Link w l)

@@ -20,18 +20,20 @@ use Rattle.kw_world.specs.WriteTransitions.{infant_cells, row_written, to_write_
 use Rattle.kw_table.specs.declared.pass.Pass.{Pass}
 use Rattle.kw_table.specs.declared.shared.Shared.{Shared}
 use Rattle.kw_table.specs.Passes.{view, operation, Asks, Makes}
-use Rattle.kw_follow.specs.BuildsOn.{Builds, IsBuildingOn, at_cell, at_entry, writing}
+use Rattle.kw_follow.specs.BuildsOn.{IsBuildingOn, at_cell, at_entry, writing}
 use Rattle.kw_follow.specs.Following.{Follows}
-use Rattle.kw_follow.proofs.BuildsOn.{builds_by, builds_trans}
+use Rattle.kw_follow.specs.Reaching.{Advances}
 use Rattle.kw_follow.proofs.PutEvents.{asks_stored_at}
+use Rattle.kw_follow.proofs.Advancing.{advances_by}
+use Rattle.kw_follow.proofs.Reaching.{advances_trans}
 
 -- a store is the operation that the pass makes next, with the name and the word that code has
 pub asks_word : {s : Shared} {p : Pass} (l : Local) (w : Write) {n m : Name} {x y : ℕ} → Follows s p (writing w l) → n ≡ m → x ≡ y → operation kind.StoreInfant m (Store y) ≡ (transition product (Activity.Rebalance (Rebalance.Write w)) (view p).number Go (writing w l)).operation → Asks s p Go (operation kind.StoreInfant n (Store x))
 asks_word {s} {p} l w {n} {m} {x} {y} f name word line = asks_stored_at s p (writing w l) (Activity.Rebalance (Rebalance.Write w)) kind.StoreInfant n m x y f refl tt name word line
 
 -- the row is written on by one word
-pub wrote : {s : Shared} {o p q : Pass} {told : ℕ} (l m : Local) (w : Write) → Builds s o p (writing w l) → Makes s p Go told q → m ≡ ((transition product (Activity.Rebalance (Rebalance.Write w)) 0 Go (writing w l)).next s.opening.rows told).local → Builds s o q m
-wrote l m w b makes line = builds_trans b (builds_by (Activity.Rebalance (Rebalance.Write w)) (writing w l) m b.reaches.follows refl tt makes line)
+pub wrote : {s : Shared} {o p q : Pass} {told : ℕ} (l m : Local) (w : Write) → Advances s o p (writing w l) → Makes s p Go told q → m ≡ ((transition product (Activity.Rebalance (Rebalance.Write w)) 0 Go (writing w l)).next s.opening.rows told).local → Advances s o q m
+wrote l m w b makes line = advances_trans b (advances_by (Activity.Rebalance (Rebalance.Write w)) (writing w l) m b.follows refl tt makes line)
 
 -- Which word comes next.
 
@@ -79,14 +81,14 @@ row_over l = over (has_more l)
 -- The words of one place, one after the other.
 
 module _ {s : Shared} {o p q : Pass} {told : ℕ} (l : Local) (j : ℕ) where
-  pub key_written : Builds s o p (writing (Write.Key j) l) → Makes s p Go told q → Builds s o q (writing (Write.Value j) l)
+  pub key_written : Advances s o p (writing (Write.Key j) l) → Makes s p Go told q → Advances s o q (writing (Write.Value j) l)
   key_written b made = wrote l (writing (Write.Value j) l) (Write.Key j) b made refl
 
-  pub value_written : Builds s o p (writing (Write.Value j) l) → Makes s p Go told q → Builds s o q (writing (Write.Version j) l)
+  pub value_written : Advances s o p (writing (Write.Value j) l) → Makes s p Go told q → Advances s o q (writing (Write.Version j) l)
   value_written b made = wrote l (writing (Write.Version j) l) (Write.Value j) b made refl
 
-  pub version_written : Builds s o p (writing (Write.Version j) l) → Makes s p Go told q → Builds s o q (writing (Write.After j) l)
+  pub version_written : Advances s o p (writing (Write.Version j) l) → Makes s p Go told q → Advances s o q (writing (Write.After j) l)
   version_written b made = wrote l (writing (Write.After j) l) (Write.Version j) b made refl
 
-  pub link_written : Builds s o p (writing (Write.After j) l) → Makes s p Go told q → Builds s o q (at_cell (j + 1) l)
+  pub link_written : Advances s o p (writing (Write.After j) l) → Makes s p Go told q → Advances s o q (at_cell (j + 1) l)
   link_written b made = wrote l (at_cell (j + 1) l) (Write.After j) b made refl

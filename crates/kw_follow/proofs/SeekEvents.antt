@@ -19,11 +19,11 @@ use Rattle.kw_table.specs.declared.pass.Pass.{Pass}
 use Rattle.kw_table.specs.declared.shared.Shared.{Shared}
 use Rattle.kw_table.specs.Passes.{view, Makes}
 use Rattle.kw_follow.specs.declared.seeking.Search.{Search}
-use Rattle.kw_follow.specs.BuildsOn.{Builds}
 use Rattle.kw_follow.specs.Following.{Follows}
 use Rattle.kw_follow.specs.Searches.{behind, is_in_use, seeking_at, with_search}
-use Rattle.kw_follow.proofs.BuildsOn.{builds_by}
+use Rattle.kw_follow.specs.Reaching.{Advances}
 use Rattle.kw_follow.proofs.Fronts.{seat_within}
+use Rattle.kw_follow.proofs.Advancing.{advances_by}
 
 -- a row in use is gone by
 in_use_passed : (rows : ℕ) (x : Option State) (l : Local) → is_in_use x ≡ true → seek_seen rows x l ≡ to_seek rows l
@@ -42,9 +42,9 @@ asks_next rows x l few =
     ap (λ (b : Bool). let o : Outcome = if b then to (Activity.Rebalance (Rebalance.Seek Seek.Next)) (seeking_at (behind rows x) l) else give_back Refuse (seeking_at x l) in o.local) more
 
 -- the search goes on past a row in use
-pub passed : {s : Shared} {p q : Pass} {told : ℕ} (l : Local) (x y : Search) → y ≡ behind s.opening.rows x → x.asked < s.opening.rows → is_in_use (state_of told) ≡ true → Follows s p (seeking_at x l) → Makes s p Go told q → Builds s p q (seeking_at y l)
+pub passed : {s : Shared} {p q : Pass} {told : ℕ} (l : Local) (x y : Search) → y ≡ behind s.opening.rows x → x.asked < s.opening.rows → is_in_use (state_of told) ≡ true → Follows s p (seeking_at x l) → Makes s p Go told q → Advances s p q (seeking_at y l)
 passed {s} {p} {q} {told} l x y is few used f makes =
-    builds_by (Activity.Rebalance (Rebalance.Seek Seek.Next)) (seeking_at x l) (seeking_at y l) f refl tt makes
+    advances_by (Activity.Rebalance (Rebalance.Seek Seek.Next)) (seeking_at x l) (seeking_at y l) f refl tt makes
     (ap (λ (z : Search). seeking_at z l) is
     ∙ (sym (asks_next s.opening.rows x l few)
     ∙ ap (λ (o : Outcome). o.local) (sym (in_use_passed s.opening.rows (state_of told) (seeking_at x l) used))))

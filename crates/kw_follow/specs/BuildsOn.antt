@@ -1,28 +1,20 @@
 -- How a rebalance gathers a full row and writes a new one while code leaves most of its local where
 -- it was, and which local the pass follows meanwhile.
-use Rattle.std.specs.Prelude.{◌≡◌, ℕ}
+use Rattle.std.specs.Prelude.{ℕ}
 use Rattle.kw_world.specs.declared.activity.Activity.{Activity}
 use Rattle.kw_world.specs.declared.activity.rebalance.Rebalance.TheVariants as Rebalance
 use Rattle.kw_world.specs.declared.activity.rebalance.gather.Gather.{Gather}
+use Rattle.kw_world.specs.declared.activity.rebalance.gather.Gather.TheVariants as Gather
 use Rattle.kw_world.specs.declared.activity.rebalance.replace.Replace.TheVariants as Replace
 use Rattle.kw_world.specs.declared.activity.rebalance.seek.Seek.TheVariants as Seek
 use Rattle.kw_world.specs.declared.activity.rebalance.write.Write.{Write}
 use Rattle.kw_world.specs.declared.local.Local.{Local}
 use Rattle.kw_world.specs.Marks.{unmarked}
 use Rattle.kw_world.specs.Sizes.{product}
+use Rattle.kw_world.specs.TakeTransitions.{to_left}
 use Rattle.kw_world.specs.WriteTransitions.{to_write_cell, to_write_entry}
-use Rattle.kw_table.specs.declared.pass.Pass.{Pass}
-use Rattle.kw_table.specs.declared.shared.Shared.{Shared}
 use Rattle.kw_follow.specs.declared.cursor.Cursor.{Cursor}
 use Rattle.kw_follow.specs.Cursors.{with_cursor}
-use Rattle.kw_follow.specs.Following.{held}
-use Rattle.kw_follow.specs.Reaching.{Reaches}
-
--- a rebalance went on by events in the middle of its call, or by none, and the pairs of its seat
--- are as they were
-pub record Builds (s : Shared) (p q : Pass) (m : Local) : Type 0 where
-  pub reaches : Reaches s p q m
-  pub held : held q ≡ held p
 
 -- it stands where it gathers the full row or writes a new one, or is about to seek free rows or the
 -- row before the full one
@@ -53,3 +45,12 @@ taking_at g c l = with_cursor (Activity.Rebalance (Rebalance.Gather g)) c l
 -- the cell need not be remembered any more
 abbrev pub forgetting_mark : ℕ → Local → Local
 forgetting_mark cell l = record l { rebalance = record l.rebalance { marks = unmarked cell l.rebalance.marks } }
+
+-- the local of a seat whose cursor stood at the last link of the full row's list, once it has seen
+-- that no cell is behind it
+abbrev pub past_list : Cursor → Local → Local
+past_list c l = (to_left product (taking_at Gather.Link c l)).local
+
+-- the local of a seat that has written each word of the new row that it had at hand
+abbrev pub past_row : Local → Local
+past_row l = at_cell product.cells l

@@ -9,7 +9,7 @@
 //! row, `Cursor` those of a reader along the list of its row and of a put that goes by cells there,
 //! `go_remembered` those at the cells that a reader remembers and did not reach there, and
 //! `go_build` those of a rebalance that freeze the full row and take free ones: each by its own
-//! step of the table. A rebalance gathers the full row by `meet_next` and `gather_cell`, asks rows
+//! step of the table. A rebalance gathers the full row by `reach_next` and `gather_cell`, asks rows
 //! by a `Search`, and writes a new row by `write_row`, many events at once. A get that sees
 //! nothing on its way leaves its local at rest and goes by a `Way`, which `end_resting` ends.
 //!
@@ -42,7 +42,7 @@ pub use drawing::go_draw;
 pub use going::{begin, clear, end, go};
 pub use putting::{go_put, see_insert_key, see_insert_link};
 pub use reading::{go_remembered, go_to_left_over};
-pub use row_gathering::{gather_cell, meet_next};
+pub use row_gathering::{gather_cell, reach_next};
 pub use row_writing::write_row;
 pub use seeking::{Search, is_in_use};
 pub use way::{Way, end_resting};

@@ -7,9 +7,10 @@
 //! `with_cursor` says which local the two stand for.
 ghost use Rattle.std.specs.Prelude.{◌≡◌, IfNone, IfSome, ◌≤◌};
 ghost use Rattle.kw_words.specs.declared.sizes.TheConstants.{CELLS};
-ghost use Rattle.kw_follow.specs.BuildsOn.{Builds, IsBuildingOn, forgetting_mark, taking_at};
+ghost use Rattle.kw_follow.specs.BuildsOn.{forgetting_mark, past_list, taking_at};
 ghost use Rattle.kw_follow.specs.Cursors.{reached};
 ghost use Rattle.kw_follow.specs.Following.{Follows};
+ghost use Rattle.kw_follow.specs.Reaching.{Advances};
 
 use crate::cursor::Cursor;
 use kw_step_put::operation::link_name;
@@ -29,23 +30,23 @@ use kw_world::local::Local;
 /// has gone on to a cell that it remembers and did not reach, or to the search for free rows. Takes
 /// no memory.
 #[inline(always)]
-pub fn meet_next(
+pub fn reach_next(
     shared: &Shared,
     pass: &mut Pass,
     local: &mut Local,
     cursor: Cursor,
 ) -> Option<Cursor>
     requires { Follows shared.now pass.old (taking_at Gather.Link cursor local.old) }
-    ensures saw { IfSome result (λ saw. Builds shared.now pass.old pass.new
+    ensures saw { IfSome result (λ saw. Advances shared.now pass.old pass.new
         (taking_at Gather.Key saw local.new)) }
-    ensures over { IfNone result (Builds shared.now pass.old pass.new local.new) }
-    ensures stands { IfNone result (IsBuildingOn local.new.activity) }
+    ensures over { IfNone result (Advances shared.now pass.old pass.new local.new) }
+    ensures left { IfNone result (local.new ≡ past_list cursor local.old) }
     ensures tidies { local.new.tidies ≡ local.old.tidies }
 {
     let name = link_name(cursor.row, cursor.link);
     let link = load_after(shared, pass, name);
     match unpack_cell_link(link) {
-        Some(cell) => Some(reach_holding(local, cursor, cell)),
+        Some(cell) => Some(reach(local, cursor, cell)),
         None => {
             cursor.write(local, Activity::Rebalance(Rebalance::Gather(Gather::Link)));
             take_from(local, link);
@@ -56,7 +57,7 @@ pub fn meet_next(
 
 // The link led to this cell, which need not be remembered any more.
 #[inline(always)]
-fn reach_holding(local: &mut Local, cursor: Cursor, cell: u32) -> Cursor
+fn reach(local: &mut Local, cursor: Cursor, cell: u32) -> Cursor
     requires { cursor.walked ≤ CELLS }
     ensures cursor { result ≡ reached cell cursor }
     ensures local { local.new ≡ forgetting_mark cell local.old }
@@ -73,7 +74,7 @@ fn reach_holding(local: &mut Local, cursor: Cursor, cell: u32) -> Cursor
 #[inline(always)]
 pub fn gather_cell(shared: &Shared, pass: &mut Pass, local: &mut Local, cursor: Cursor) -> Cursor
     requires { Follows shared.now pass.old (taking_at Gather.Key cursor local.old) }
-    ensures builds { Builds shared.now pass.old pass.new (taking_at Gather.Link result local.new) }
+    ensures on { Advances shared.now pass.old pass.new (taking_at Gather.Link result local.new) }
     ensures tidies { local.new.tidies ≡ local.old.tidies }
 {
     let key_name = Name::Key(cursor.row, cursor.place);

@@ -12,8 +12,9 @@ ghost use Rattle.kw_words.specs.declared.sizes.TheConstants.{CELLS};
 ghost use Rattle.kw_world.specs.Sane.{IsCopy, IsLocal};
 ghost use Rattle.kw_world.specs.Sizes.{product};
 ghost use Rattle.kw_world.specs.WriteTransitions.{infant_cells};
-ghost use Rattle.kw_follow.specs.BuildsOn.{Builds, IsBuildingOn, at_cell, at_entry, writing};
+ghost use Rattle.kw_follow.specs.BuildsOn.{at_cell, at_entry, past_row, writing};
 ghost use Rattle.kw_follow.specs.Following.{Follows};
+ghost use Rattle.kw_follow.specs.Reaching.{Advances};
 
 use kw_cells::cell::Cell;
 use kw_step_rebal::infant::{infant, infant_cells};
@@ -37,9 +38,8 @@ use kw_world::local::Local;
 pub fn write_row(shared: &Shared, pass: &mut Pass, local: &mut Local)
     requires follows { Follows shared.now pass.old local.old }
     requires activity { local.old.activity ≡ Activity.Rebalance (Rebalance.Write Write.Count) }
-    ensures builds { Builds shared.now pass.old pass.new local.new }
-    ensures tidies { local.new.tidies ≡ local.old.tidies }
-    ensures stands { IsBuildingOn local.new.activity }
+    ensures on { Advances shared.now pass.old pass.new local.new }
+    ensures written { local.new ≡ past_row local.old }
 {
     write_head(shared, pass, local);
     write_entries(shared, pass, local);
@@ -53,7 +53,7 @@ pub fn write_row(shared: &Shared, pass: &mut Pass, local: &mut Local)
 fn write_head(shared: &Shared, pass: &mut Pass, local: &Local)
     requires ranges { IsLocal product local.now }
     requires follows { Follows shared.now pass.old (writing Write.Count local.now) }
-    ensures { Builds shared.now pass.old pass.new (at_entry 0 local.now) }
+    ensures { Advances shared.now pass.old pass.new (at_entry 0 local.now) }
 {
     let row = infant(local);
     let count = count_word(local);
@@ -70,7 +70,7 @@ fn write_head(shared: &Shared, pass: &mut Pass, local: &Local)
 #[inline(always)]
 fn write_entries(shared: &Shared, pass: &mut Pass, local: &Local)
     requires { Follows shared.now pass.old (at_entry 0 local.now) }
-    ensures { Builds shared.now pass.old pass.new (at_cell 0 local.now) }
+    ensures { Advances shared.now pass.old pass.new (at_cell 0 local.now) }
 {
     let row = infant(local);
     let idle = Pend::Idle.pack();
@@ -85,7 +85,7 @@ fn write_cells(shared: &Shared, pass: &mut Pass, local: &Local)
     requires ranges { IsLocal product local.now }
     requires rising { AreRising local.now.rebalance.kept }
     requires follows { Follows shared.now pass.old (at_cell 0 local.now) }
-    ensures { Builds shared.now pass.old pass.new
+    ensures { Advances shared.now pass.old pass.new
         (at_cell (length (infant_cells local.now)) local.now) }
 {
     let row = infant(local);
@@ -122,7 +122,7 @@ fn write_places_behind(shared: &Shared, pass: &mut Pass, local: &Local)
     requires ranges { IsLocal product local.now }
     requires follows { Follows shared.now pass.old
         (at_cell (length (infant_cells local.now)) local.now) }
-    ensures { Builds shared.now pass.old pass.new (at_cell CELLS local.now) }
+    ensures { Advances shared.now pass.old pass.new (at_cell CELLS local.now) }
 {
     let row = infant(local);
     let cells = infant_cells(local);

@@ -15,10 +15,11 @@ use Rattle.kw_table.specs.declared.pass.Pass.{Pass}
 use Rattle.kw_table.specs.declared.shared.Shared.{Shared}
 use Rattle.kw_table.specs.Passes.{view, Makes}
 use Rattle.kw_follow.specs.declared.seeking.Search.{Search}
-use Rattle.kw_follow.specs.BuildsOn.{Builds, IsBuildingOn}
+use Rattle.kw_follow.specs.BuildsOn.{IsBuildingOn}
 use Rattle.kw_follow.specs.Following.{Follows}
 use Rattle.kw_follow.specs.Moving.{WentOn}
 use Rattle.kw_follow.specs.Searches.{seeking_at}
+use Rattle.kw_follow.specs.Reaching.{Advances}
 use Rattle.kw_follow.proofs.Moving.{moves, went_on}
 use Rattle.kw_follow.proofs.OwnEvents.{goes_trans}
 use Rattle.kw_live_rebal.specs.Standing.{GoesOn, HasSeenCause, Rebalances}
@@ -34,24 +35,24 @@ built_met o q (Activity.Rebalance (Rebalance.Replace Replace.Start)) m h = tt
 built_met o q _ m h = absurd h
 
 -- the full row was gathered, or a new one written
-pub stretch_goes_on : {s : Shared} {p q : Pass} {l m : Local} → Builds s p q m → m.tidies ≡ l.tidies → IsBuildingOn m.activity → GoesOn s p l q m
+pub stretch_goes_on : {s : Shared} {p q : Pass} {l m : Local} → Advances s p q m → m.tidies ≡ l.tidies → IsBuildingOn m.activity → GoesOn s p l q m
 stretch_goes_on {s} {p} {q} {l} {m} b tidies stands o r = record {
-  goes = goes_trans _ _ _ _ r.goes b.reaches.goes;
-  follows = b.reaches.follows;
-  calls = b.reaches.calls ∙ r.calls;
+  goes = goes_trans _ _ _ _ r.goes b.goes;
+  follows = b.follows;
+  calls = b.calls ∙ r.calls;
   held = b.held ∙ r.held;
   saw = built_met o q m.activity m stands;
   untidied = tidies ∙ r.untidied;
 }
 
 -- rows in use were gone by
-pub search_goes_on : {s : Shared} {p q : Pass} {l : Local} (x : Search) → l.activity ≡ Activity.Rebalance (Rebalance.Seek Seek.Next) → Builds s p q (seeking_at x l) → GoesOn s p l q (seeking_at x l)
+pub search_goes_on : {s : Shared} {p q : Pass} {l : Local} (x : Search) → l.activity ≡ Activity.Rebalance (Rebalance.Seek Seek.Next) → Advances s p q (seeking_at x l) → GoesOn s p l q (seeking_at x l)
 search_goes_on {s} {p} {q} {l} x is b o r = record {
-  goes = goes_trans _ _ _ _ r.goes b.reaches.goes;
-  follows = b.reaches.follows;
-  calls = b.reaches.calls ∙ r.calls;
+  goes = goes_trans _ _ _ _ r.goes b.goes;
+  follows = b.follows;
+  calls = b.calls ∙ r.calls;
   held = b.held ∙ r.held;
-  saw = search_on o b.reaches.goes (subst (λ a. HasSeenCause o p a l) is r.saw);
+  saw = search_on o b.goes (subst (λ a. HasSeenCause o p a l) is r.saw);
   untidied = r.untidied;
 }
 
@@ -65,12 +66,12 @@ IsElsewhere _ = Unit {0}
 seeks_no_more : (a : Activity) → Activity.Rebalance (Rebalance.Seek Seek.Next) ≡ a → IsElsewhere a → ⊥
 seeks_no_more a e h = subst IsElsewhere (sym e) h
 
-module _ {s : Shared} {p q r : Pass} {told : ℕ} (x : Search) (l k m : Local) (done : StepDone) (rows : ℕ) (is : l.activity ≡ Activity.Rebalance (Rebalance.Seek Seek.Next)) (same : k ≡ l) (counts : rows ≡ s.opening.rows) (b : Builds s p q (seeking_at x k)) (makes : Makes s q Go told r) (line : outcome m done ≡ next_of product rows Go (seeking_at x k) told) where
-  before : Builds s p q (seeking_at x l)
-  before = subst (λ (n : Local). Builds s p q (seeking_at x n)) same b
+module _ {s : Shared} {p q r : Pass} {told : ℕ} (x : Search) (l k m : Local) (done : StepDone) (rows : ℕ) (is : l.activity ≡ Activity.Rebalance (Rebalance.Seek Seek.Next)) (same : k ≡ l) (counts : rows ≡ s.opening.rows) (b : Advances s p q (seeking_at x k)) (makes : Makes s q Go told r) (line : outcome m done ≡ next_of product rows Go (seeking_at x k) told) where
+  before : Advances s p q (seeking_at x l)
+  before = subst (λ (n : Local). Advances s p q (seeking_at x n)) same b
 
   row_went : WentOn s q (seeking_at x l) Go r m
-  row_went = went_on before.reaches.follows tt (moves makes (line ∙ (ap (λ (n : Local). next_of product rows Go (seeking_at x n) told) same ∙ ap (λ n. next_of product n Go (seeking_at x l) told) counts)))
+  row_went = went_on before.follows tt (moves makes (line ∙ (ap (λ (n : Local). next_of product rows Go (seeking_at x n) told) same ∙ ap (λ n. next_of product n Go (seeking_at x l) told) counts)))
 
   pub row_follows : Follows s r m
   row_follows = row_went.follows

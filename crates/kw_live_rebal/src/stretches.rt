@@ -9,7 +9,7 @@ ghost use Rattle.std.specs.Prelude.{◌≡◌};
 ghost use Rattle.kw_follow.specs.Following.{Follows};
 ghost use Rattle.kw_live_rebal.specs.Standing.{GoesOn};
 
-use kw_follow::{Cursor, Search, gather_cell, is_in_use, meet_next, write_row};
+use kw_follow::{Cursor, Search, gather_cell, is_in_use, reach_next, write_row};
 use kw_table::{Pass, Shared};
 use kw_world::activity::Activity;
 use kw_world::activity::rebalance::Rebalance;
@@ -29,7 +29,7 @@ pub(crate) fn gather_row<R: Wait>(rt: &R, shared: &Shared, pass: &mut Pass, loca
 {
     let mut cursor = Cursor::of(local);
     for _ in rt.forever() {
-        let Some(saw) = meet_next(shared, pass, local, cursor) else {
+        let Some(saw) = reach_next(shared, pass, local, cursor) else {
             return;
         };
         cursor = gather_cell(shared, pass, local, saw);

@@ -3,10 +3,10 @@
 //! The next event of the pass is of this kind, on this word and with these numbers: that is what
 //! each call asks, and what the table of events says for what the pass's seat knows. It is so with
 //! the choice that the call is given, or with `Go` for a kind whose events here are made by that
-//! choice alone. A call that begins has a value below `VALUE_END`. The answer is what the operation tells
-//! the seat: the word that it found, and 0 for a store. Afterwards the pass has seen all events up
-//! to and with this one, which is the only new one of its own. No kind takes memory, and none is
-//! ever refused.
+//! choice alone. A call that begins has a value below `VALUE_END`. The answer is what the operation
+//! tells the seat: the word that it found, and 0 for a store. Afterwards the pass has seen all
+//! events up to and with this one, which is the only new one of its own. No kind takes memory, and
+//! none is ever refused.
 //!
 //! The functions differ in the kind and in the action alone, so each body is the macro below: one
 //! atomic operation on one word.

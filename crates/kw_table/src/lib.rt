@@ -6,12 +6,12 @@
 //! has seen, its own ones among them, what its seat knows after them, and the opening of the run.
 //! All of it but the number is for the proofs alone and takes no time and no room.
 //!
-//! `opening` makes a table and its passes, `kinds` and `rebalance_kinds` have a step for each kind of
-//! event that comes often and `steps` the one that takes any, and `meeting` lets passes see what others have
-//! seen. `pass` and `shared` hold the two types, `numbers` what a caller may ask of them, and
-//! `rule` the rule and what a step tells its caller. `warming` loads rows ahead of walks, for speed
-//! alone. Each step is one atomic operation on one word. Whoever stands above needs the contracts
-//! of these calls alone, and goes on by the laws over valid lists of events.
+//! `opening` makes a table and its passes, `kinds` and `rebalance_kinds` have a step for each kind
+//! of event that comes often and `steps` the one that takes any, and `meeting` lets passes see what
+//! others have seen. `pass` and `shared` hold the two types, `numbers` what a caller may ask of
+//! them, and `rule` the rule and what a step tells its caller. `warming` loads rows ahead of walks,
+//! for speed alone. Each step is one atomic operation on one word. Whoever stands above needs the
+//! contracts of these calls alone, and goes on by the laws over valid lists of events.
 #![tactic(auto)]
 
 mod kinds;

@@ -1,6 +1,9 @@
-use Rattle.std.proofs.Common.{rules, ◌∙◌, refl}
-use Rattle.kw_follow.proofs.BuildsOn.{builds_none, builds_trans}
-use Rattle.kw_follow.proofs.RowGathering.{begins_gathering}
+use Rattle.std.proofs.Common.{rules, ◌∙◌, refl, subst, sym}
+use Rattle.kw_world.specs.declared.local.Local.{Local}
+use Rattle.kw_follow.specs.BuildsOn.{IsBuildingOn}
+use Rattle.kw_follow.proofs.RowGathering.{begins_gathering, past_list_ends}
+use Rattle.kw_follow.proofs.Advancing.{advances_none}
+use Rattle.kw_follow.proofs.Reaching.{advances_trans}
 use Rattle.kw_live_rebal.proofs.Building.{stretch_goes_on}
 use Rattle.kw_live_rebal.proofs.stretches.gather_row.Goals as goal
 
@@ -8,26 +11,26 @@ pub loop-init : goal.loop-init
 loop-init g c = record {
   can_next = search rules;
   is_finite = search rules;
-  on = builds_none (begins_gathering _ _ c.of-cursor.ensures c.requires.activity c.requires.follows);
+  on = advances_none (begins_gathering _ _ c.of-cursor.ensures c.requires.activity c.requires.follows);
   tidies = refl;
 }
 
-pub meet_next-requires : goal.meet_next-requires
-meet_next-requires g c = c.loop.invariant.on.reaches.follows
+pub reach_next-requires : goal.reach_next-requires
+reach_next-requires g c = c.loop.invariant.on.follows
 
 pub gather_cell-cursor-requires : goal.gather_cell-cursor-requires
-gather_cell-cursor-requires g c = c.in-Some-meet_next.ensures.saw.reaches.follows
+gather_cell-cursor-requires g c = c.in-Some-reach_next.ensures.saw.follows
 
 pub loop-preserved : goal.loop-preserved
 loop-preserved g c = record {
   can_next = search rules;
   is_finite = search rules;
-  on = builds_trans c.loop.invariant.on (builds_trans c.in-Some-meet_next.ensures.saw c.gather_cell-cursor.ensures.builds);
-  tidies = c.gather_cell-cursor.ensures.tidies ∙ (c.in-Some-meet_next.ensures.tidies ∙ c.loop.invariant.tidies);
+  on = advances_trans c.loop.invariant.on (advances_trans c.in-Some-reach_next.ensures.saw c.gather_cell-cursor.ensures.on);
+  tidies = c.gather_cell-cursor.ensures.tidies ∙ (c.in-Some-reach_next.ensures.tidies ∙ c.loop.invariant.tidies);
 }
 
 pub returns-in_default-clause-follows : goal.returns-in_default-clause-follows
-returns-in_default-clause-follows g c = c.in_default.ensures.over.reaches.follows
+returns-in_default-clause-follows g c = c.in_default.ensures.over.follows
 
 pub returns-in_default-clause-on : goal.returns-in_default-clause-on
-returns-in_default-clause-on g c = stretch_goes_on (builds_trans c.loop.invariant.on c.in_default.ensures.over) (c.in_default.ensures.tidies ∙ c.loop.invariant.tidies) c.in_default.ensures.stands
+returns-in_default-clause-on g c = stretch_goes_on (advances_trans c.loop.invariant.on c.in_default.ensures.over) (c.in_default.ensures.tidies ∙ c.loop.invariant.tidies) (subst (λ (l : Local). IsBuildingOn l.activity) (sym c.in_default.ensures.left) (past_list_ends c.loop.cursor c.loop.local).stands)

@@ -1,11 +1,11 @@
 use Rattle.std.proofs.Common.{◌≡◌, ◌-◌}
-use Rattle.kw_follow.specs.BuildsOn.{Builds}
 use Rattle.kw_follow.specs.Searches.{seeking_at}
+use Rattle.kw_follow.specs.Reaching.{Advances}
 use Rattle.kw_live_rebal.proofs.stretches.seek_row.Given as goal
 
 abbrev pub invariant-loop-search : goal.invariant-loop-search
 invariant-loop-search l = record {
-  on : Builds l.shared l.fn.pass l.pass (seeking_at l.search l.local);
+  on : Advances l.shared l.fn.pass l.pass (seeking_at l.search l.local);
   same : l.local ≡ l.fn.local;
 }
 

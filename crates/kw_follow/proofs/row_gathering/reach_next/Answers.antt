@@ -4,20 +4,20 @@ use Rattle.kw_world.specs.declared.activity.rebalance.gather.Gather.TheVariants 
 use Rattle.kw_world.specs.declared.local.Local.{Local}
 use Rattle.kw_follow.specs.BuildsOn.{taking_at}
 use Rattle.kw_follow.proofs.BuildEvents.{asks_taken_link}
-use Rattle.kw_follow.proofs.RowGathering.{has_place, link_reached, list_ends, list_over}
-use Rattle.kw_follow.proofs.row_gathering.meet_next.Goals as goal
+use Rattle.kw_follow.proofs.RowGathering.{has_place, link_reached, list_left, list_over, past_list_ends}
+use Rattle.kw_follow.proofs.row_gathering.reach_next.Goals as goal
 
 pub load_after-link-requires : goal.load_after-link-requires
 load_after-link-requires c = asks_taken_link _ _ (taking_at Gather.Link c.args.cursor c.args.local.now) _ c.requires refl c.link_name-name.ensures
 
-pub reach_holding-requires : goal.reach_holding-requires
-reach_holding-requires c = (has_place c.args.local.now c.args.cursor c.requires).walked
+pub reach-requires : goal.reach-requires
+reach-requires c = (has_place c.args.local.now c.args.cursor c.requires).walked
 
 pub returns-in-Some-clause-saw : goal.returns-in-Some-clause-saw
-returns-in-Some-clause-saw c = link_reached c.args.local.now c.args.cursor c.reach_holding.result c.reach_holding.new.local c.in-Some.cell c.reach_holding.ensures.cursor c.reach_holding.ensures.local (sym c.unpack_cell_link.ensures.value ∙ c.in-Some.is) c.requires c.load_after-link.ensures
+returns-in-Some-clause-saw c = link_reached c.args.local.now c.args.cursor c.reach.result c.reach.new.local c.in-Some.cell c.reach.ensures.cursor c.reach.ensures.local (sym c.unpack_cell_link.ensures.value ∙ c.in-Some.is) c.requires c.load_after-link.ensures
 
 pub returns-in-Some-clause-tidies : goal.returns-in-Some-clause-tidies
-returns-in-Some-clause-tidies c = ap (λ (l : Local). l.tidies) c.reach_holding.ensures.local
+returns-in-Some-clause-tidies c = ap (λ (l : Local). l.tidies) c.reach.ensures.local
 
 pub take_from-requires-clause-walked : goal.take_from-requires-clause-walked
 take_from-requires-clause-walked c = subst (λ (l : Local). l.walked ≤ CELLS) (sym c.write.ensures) (has_place c.args.local.now c.args.cursor c.requires).walked
@@ -31,8 +31,10 @@ take_from-requires-clause-needed c = subst (λ (l : Local). length l.rebalance.n
 pub returns-in-None-clause-over : goal.returns-in-None-clause-over
 returns-in-None-clause-over c = list_over c.args.local.now c.args.cursor c.write.new.local c.take_from.new.local c.take_from.result c.write.ensures c.take_from.ensures c.requires c.load_after-link.ensures
 
-pub returns-in-None-clause-stands : goal.returns-in-None-clause-stands
-returns-in-None-clause-stands c = (list_ends c.write.new.local c.take_from.new.local c.take_from.result _ (sym c.unpack_cell_link.ensures.value ∙ c.in-None.is) c.take_from.ensures).stands
+pub returns-in-None-clause-left : goal.returns-in-None-clause-left
+returns-in-None-clause-left c = list_left c.args.local.now c.args.cursor c.write.new.local c.take_from.new.local c.take_from.result _ (sym c.unpack_cell_link.ensures.value ∙ c.in-None.is) c.take_from.ensures c.write.ensures
 
 pub returns-in-None-clause-tidies : goal.returns-in-None-clause-tidies
-returns-in-None-clause-tidies c = (list_ends c.write.new.local c.take_from.new.local c.take_from.result _ (sym c.unpack_cell_link.ensures.value ∙ c.in-None.is) c.take_from.ensures).tidies ∙ ap (λ (l : Local). l.tidies) c.write.ensures
+returns-in-None-clause-tidies c =
+    let left = list_left c.args.local.now c.args.cursor c.write.new.local c.take_from.new.local c.take_from.result _ (sym c.unpack_cell_link.ensures.value ∙ c.in-None.is) c.take_from.ensures c.write.ensures in
+    ap (λ (l : Local). l.tidies) left ∙ (past_list_ends c.args.cursor c.args.local.now).tidies
