@@ -17,7 +17,7 @@ pub mod RestingCall
 pub mod Reaching
 pub mod Moving
 pub mod Untidied
-pub mod BuildsOn
+pub mod Advancing
 pub mod RowWriting
 pub mod RowGathering
 pub mod SeekEvents
