@@ -5,15 +5,17 @@ memory was wanted.
   tools/refuse_memory.py                        the program that ./kiwi builds
   tools/refuse_memory.py --program 'COMMAND'    another program, with the same words
 
-First each allocation of a run is refused in turn: a small library that is loaded before the C
-library (made here by `cc`) counts the calls that ask for memory, and gives nothing to the one whose
-number it was told. Then the run is made under limits of its address space, from 1 MB up in 64 steps
-of 1 MB. A run that began must end with status 0 and the whole output, or with status 6, nothing
-written, and `out of memory` on standard error. Where the limit is so low that the system does not
-even start the program, no run began; such limits are counted apart.
+There is a run of each command. First each allocation of a run is refused in turn: a small library
+that is loaded before the C library (made here by `cc`) counts the calls that ask for memory, and
+gives nothing to the one whose number it was told. Then the run is made under limits of its address
+space, from 1 MB up in 64 steps of 1 MB, of which some must be too low and some high enough. A run
+that began must end with status 0 and the whole output, or with status 6, nothing written, and `out
+of memory` on standard error. Where the limit is so low that the system does not even start the
+program, no run began, as that library sees; such limits are counted apart.
 
-It is no part of the gate: what it tries depends on the C library. The last line says how many runs
-passed; the status is 1 where one did not."""
+The program itself is run and not the launcher, whose own allocations would be refused too. It is no
+part of the gate: what it tries depends on the C library. The last line says how many runs passed;
+the status is 1 where one did not."""
 
 import argparse
 import os
@@ -22,24 +24,35 @@ import shlex
 import subprocess
 import sys
 import tempfile
-from collections import Counter
+from collections import Counter, namedtuple
 from pathlib import Path
 
-KIWI = str(Path(__file__).resolve().parent.parent / "kiwi")
+from check_program import BLOCK, RECORD, SCRIPTS, THREE
+from kiwi_map import KIWI
+
+PROGRAM = KIWI.parent / "crates" / "kw_program" / "out" / "kw_program"
 MEGABYTE = 1 << 20
 STEPS = 64
 
-# A `long` of C, in which the library counts.
-COUNT_BYTES = 8
+# A `long` of C: in the file that the library shares with us the first one is how many calls there
+# were, and the second one is not 0 where the program began.
+LONG = 8
 
-# Lines of four workers, who are refused at other places from run to run, and a list, whose pairs
-# take memory while they are gathered.
-PUTS = b"".join(b"put %d %d\n" % (key, key - 90) for key in range(100, 124))
-LINES = PUTS + b"wait\nsum 100 123\ncount 100 123\nlist 100 101\n"
-PRINTED = 24 * b"ok\n" + b"516\n24\n100=10 101=11\n"
-WORDS = ["replay", "--workers", "4"]
+Run = namedtuple("Run", "words given printed")
 
-DONE = (0, PRINTED, b"")
+# A script in which a put finds its row full and replaces it.
+FULL = "a_put_that_finds_its_row_full_replaces_it"
+
+# The lines of `replay` are those of four workers, who are refused at other places from run to run,
+# and then a list, whose pairs take memory while they are gathered.
+RUNS = (
+    Run("replay --workers 4", BLOCK, 24 * b"ok\n" + b"516\n24\n100=10 101=11\n"),
+    Run("gen 1 3", b"", THREE),
+    Run("simulate", (SCRIPTS / "given" / FULL).read_bytes(), (SCRIPTS / "printed" / FULL).read_bytes()),
+    Run("simulate --record", (SCRIPTS / "given" / FULL).read_bytes(), (SCRIPTS / "recorded" / FULL).read_bytes()),
+    Run("judge", RECORD, b"yes\n"),
+)
+
 WANTED = (6, b"", b"out of memory\n")
 
 LIBRARY = r"""
@@ -55,11 +68,13 @@ LIBRARY = r"""
 static atomic_long *calls;
 static long refused = -1;
 
-/* The calls before this are the loader's, and are neither counted nor refused. */
+/* The calls before this are the loader's, and are neither counted nor refused. That the program
+   began is told first, which takes no memory. */
 __attribute__((constructor)) static void begin(void) {
   const char *number = getenv("REFUSE_CALL"), *path = getenv("REFUSE_COUNT");
   int file = path ? open(path, O_RDWR) : -1;
-  if (file < 0) return;
+  long began = 1;
+  if (file < 0 || pwrite(file, &began, sizeof began, sizeof *calls) < 0) return;
   void *count = mmap(NULL, sizeof *calls, PROT_READ | PROT_WRITE, MAP_SHARED, file, 0);
   close(file);
   if (count == MAP_FAILED) return;
@@ -91,77 +106,100 @@ int posix_memalign(void **out, size_t align, size_t size) {
 """
 
 
-def run(program, environment=None, limit=None):
-    """What the run wrote, said and ended with, in an address space of so many bytes."""
+class Trial:
+    """A program whose runs have the library loaded."""
 
-    def narrow():
-        resource.setrlimit(resource.RLIMIT_AS, (limit, limit))
+    def __init__(self, program, folder):
+        source, library, self.count = (Path(folder) / name for name in ("refuse.c", "refuse.so", "count"))
+        source.write_text(LIBRARY, encoding="utf-8")
+        subprocess.run(["cc", "-shared", "-fPIC", "-O1", "-o", library, source], check=True)
+        self.program = program
+        self.loaded = {"LD_PRELOAD": str(library), "REFUSE_COUNT": str(self.count)}
 
-    done = subprocess.run(
-        shlex.split(program) + WORDS,
-        input=LINES,
-        capture_output=True,
-        env={**os.environ, **(environment or {})},
-        preexec_fn=narrow if limit else None,
-        check=False,
-        timeout=60,
-    )
-    return done.returncode, done.stdout, done.stderr
+    def end(self, run, refused=None, limit=None):
+        """What a run ends with, writes and says, where this allocation is refused, or its address
+        space has so many bytes."""
+
+        def narrow():
+            resource.setrlimit(resource.RLIMIT_AS, (limit, limit))
+
+        self.count.write_bytes(bytes(2 * LONG))
+        done = subprocess.run(
+            self.program + run.words.split(),
+            input=run.given,
+            capture_output=True,
+            env={**os.environ, **self.loaded, **({"REFUSE_CALL": str(refused)} if refused else {})},
+            preexec_fn=narrow if limit else None,
+            check=False,
+            timeout=60,
+        )
+        return done.returncode, done.stdout, done.stderr
+
+    def told(self, place):
+        """A number that the library wrote in the last run."""
+        return int.from_bytes(self.count.read_bytes()[place * LONG :][:LONG], sys.byteorder)
+
+    def began(self):
+        return self.told(1) != 0
 
 
-def allocations(program, folder):
-    """The runs of which one allocation is refused, each with its end."""
-    source, library, count = (Path(folder) / name for name in ("refuse.c", "refuse.so", "count"))
-    source.write_text(LIBRARY, encoding="utf-8")
-    subprocess.run(["cc", "-shared", "-fPIC", "-O1", "-o", library, source], check=True)
-    loaded = {"LD_PRELOAD": str(library), "REFUSE_COUNT": str(count)}
-    count.write_bytes(bytes(COUNT_BYTES))
-    if run(program, loaded) != DONE:
-        sys.exit("the run with no allocation refused did not print what is expected")
-    calls = int.from_bytes(count.read_bytes(), sys.byteorder)
+def refusals(trial, run):
+    """The ends of a run of which each allocation is refused in turn."""
+    if trial.end(run) != (0, run.printed, b""):
+        sys.exit(f"`{run.words}` with no allocation refused does not print what is expected")
+    calls = trial.told(0)
     if calls == 0:
         sys.exit("no allocation was seen: the program does not ask the C library for memory")
-    print(f"a run makes {calls} allocations")
     for call in range(1, calls + 1):
-        count.write_bytes(bytes(COUNT_BYTES))
-        yield f"allocation {call}", run(program, {**loaded, "REFUSE_CALL": str(call)})
+        yield f"with allocation {call} of {calls} refused", trial.end(run, refused=call)
 
 
-def spaces(program):
-    """The runs in a narrow address space, each with its end."""
+def spaces(trial, run):
+    """The ends of a run in a narrow address space."""
     for step in range(1, STEPS + 1):
-        yield f"{step} MB", run(program, limit=step * MEGABYTE)
+        yield f"in {step} MB", trial.end(run, limit=step * MEGABYTE)
 
 
-def not_started(end):
-    """The loader says that it did not start the program, or the process was killed before it
-    wrote."""
-    status, written, said = end
-    return written == b"" and (status < 0 or (status == 127 and b"error while loading" in said))
+def kind_of(trial, run, end):
+    """How a run ended, or None where it must not end so."""
+    if end == (0, run.printed, b""):
+        return "all done"
+    if end == WANTED:
+        return "out of memory"
+    # (the loader says that it does not start the program, or the process is killed)
+    status, written, _ = end
+    return "not started" if not trial.began() and written == b"" and (status < 0 or status == 127) else None
+
+
+def tried(trial, run, what, ends, needed=()):
+    """How many runs of a kind passed and how many failed, with a line of what they came to. There
+    must be some of each kind that is needed."""
+    kinds = Counter()
+    for name, end in ends:
+        kind = kind_of(trial, run, end)
+        kinds[kind] += 1
+        if kind is None:
+            print(f"`{run.words}` {name}: {end}")
+    failed = kinds.pop(None, 0) + sum(kind not in kinds for kind in needed)
+    print(f"`{run.words}`, {what}: " + ", ".join(f"{count} {kind}" for kind, count in sorted(kinds.items())))
+    return Counter(passed=kinds.total(), failed=failed)
 
 
 def main():
     plain = argparse.RawDescriptionHelpFormatter
     options = argparse.ArgumentParser(description=__doc__, formatter_class=plain)
-    options.add_argument("--program", help="the command that is run, if not ./kiwi", default=KIWI)
+    options.add_argument("--program", help="the command that is run, if not the program of ./kiwi")
     program = options.parse_args().program
-    ends, failed = Counter(), 0
+    if not program:
+        subprocess.run([KIWI, "build"], check=True)
+    total = Counter()
     with tempfile.TemporaryDirectory() as folder:
-        for kind, runs in (("refused", allocations(program, folder)), ("narrow", spaces(program))):
-            for name, end in runs:
-                if end == DONE:
-                    ends[kind, "all done"] += 1
-                elif end == WANTED:
-                    ends[kind, "out of memory"] += 1
-                elif kind == "narrow" and not_started(end):
-                    ends[kind, "not started"] += 1
-                else:
-                    failed += 1
-                    print(f"{name}: {end}")
-    for (kind, told), count in sorted(ends.items()):
-        print(f"{kind}: {count} {told}")
-    print(f"{sum(ends.values())} runs passed, {failed} failed")
-    return 1 if failed else 0
+        trial = Trial(shlex.split(program) if program else [str(PROGRAM)], folder)
+        for run in RUNS:
+            total += tried(trial, run, "each allocation refused", refusals(trial, run), ["out of memory"])
+            total += tried(trial, run, "in narrow address spaces", spaces(trial, run), ["out of memory", "all done"])
+    print(f"{total['passed']} runs passed, {total['failed']} failed")
+    return 1 if total["failed"] else 0
 
 
 if __name__ == "__main__":

@@ -44,7 +44,7 @@ impl Gate for NoGate {
 ///
 /// The worker is the number of the pass, which is one of this map and idle, as it is afterwards.
 /// The lines are picked from the block one by one, so that none are copied. The only error is the
-/// want of memory; the pass has then made the calls of the first lines.
+/// want of memory; which calls the pass has made is not said then.
 pub fn work<R: Wait, G: Gate>(
     rt: &R,
     alloc: Global,

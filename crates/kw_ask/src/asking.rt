@@ -43,6 +43,7 @@ pub fn ask<R: Wait>(
     ensures goes { GoesTo kiwi.now pass.old pass.new }
     ensures answers { IfOk result (λ answer. LineAnswered pass.old pass.new call form answer) }
     ensures stopped { OnErr result (Calls pass.old pass.new call reply.Stopped) }
+    ensures lists { OnErr result (form ≡ Form.List) }
 {
     match call {
         Call::Put(key, value) => Ok(put(rt, kiwi, pass, key, value)),

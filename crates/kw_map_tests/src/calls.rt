@@ -9,7 +9,6 @@ use crate::gatherers::Roomy;
 use kw_map::{CountGather, Kiwi, Pass, PutEnd, ScanEnd, Stop, SumGather};
 use kw_model::memory::Memory;
 use std::alloc::Global;
-use std::process::Abort;
 use std::sync::Wait;
 use std::test::Fail;
 
@@ -197,46 +196,46 @@ fn a_scan_over_rows_takes_each_key_as_it_is_last(rt: HostRuntime) -> Result<(), 
     Ok(())
 }
 
-/// Puts and deletes one key up to where its row is full, on a map of which the clock or the epoch
-/// is spent; and expects that this is what a sum gives then.
-fn expect_refused<R: Wait + Abort>(
-    rt: &R,
-    alloc: Global,
-    clock: u64,
-    epoch: u64,
-    summed: Result<u128, ScanEnd>,
-) -> Result<(), Fail>
-    requires { IsOpening product
-        (record { rows = 64; seats = 1; clock = clock; epoch = epoch }) }
-{
-    let (kiwi, mut pass) = open_one(alloc, 64, clock, epoch)?;
-    let first = kiwi.put(rt, &mut pass, 5, 50);
-    let begun = kiwi.get(&mut pass, 5);
-    let made = [
-        put_again(rt, &kiwi, &mut pass, 5, 51, 114),
-        kiwi.put(rt, &mut pass, 5, 114),
-        kiwi.delete(rt, &mut pass, 5),
-    ];
-    let found = kiwi.get(&mut pass, 5);
-    let sum = sum_of(&kiwi, &mut pass, 0, 9);
-    let spent = Err(PutEnd::Spent);
-    assert_eq!(rt; (first, begun), (Ok(()), Some(50)));
-    assert_eq!(rt; (made, found), ([Ok(()), spent, spent], Some(113)));
-    assert_eq!(rt; sum, summed);
+// Clock and epoch begin at their end or one before it. One before its end the clock serves one
+// scan, and the epoch one replacement of a row. A put needs neither as long as its row has room: a
+// row has room for 64 puts, and one that is replaced for 63 more of the same key.
+#[test]
+fn counters_at_their_end_refuse_only_what_needs_them(rt: HostRuntime) -> Result<(), Fail> {
+    let spent = Err(ScanEnd::Spent);
+    for (clock, epoch, before, first_refused, after) in [
+        (SPENT, 1, spent, 114, spent),
+        (SPENT - 1, 1, Ok(0), 114, spent),
+        (1, SPENT, Ok(0), 114, Ok(113)),
+        (1, SPENT - 1, Ok(0), 177, Ok(176)),
+        (SPENT - 1, SPENT - 1, Ok(0), 114, spent),
+        (SPENT, SPENT, spent, 114, spent),
+    ] {
+        assert!(rt; 1 <= clock && clock <= SPENT && 1 <= epoch && epoch <= SPENT);
+        let (kiwi, mut pass) = open_one(rt.alloc(), 64, clock, epoch)?;
+        let sum = sum_of(&kiwi, &mut pass, 0, 9);
+        let put = kiwi.put(&rt, &mut pass, 5, 50);
+        let found = kiwi.get(&mut pass, 5);
+        assert_eq!(rt;
+            (sum, put, found),
+            (before, Ok(()), Some(50)),
+            "with the clock at {clock} and the epoch at {epoch}"
+        );
+        let made = [
+            put_again(&rt, &kiwi, &mut pass, 5, 51, first_refused),
+            kiwi.put(&rt, &mut pass, 5, u64::from(first_refused)),
+            kiwi.delete(&rt, &mut pass, 5),
+        ];
+        let found = kiwi.get(&mut pass, 5);
+        let sum = sum_of(&kiwi, &mut pass, 0, 9);
+        let last = u64::from(first_refused).checked_sub(1);
+        let refused = Err(PutEnd::Spent);
+        assert_eq!(rt;
+            (made, found, sum),
+            ([Ok(()), refused, refused], last, after),
+            "with the clock at {clock} and the epoch at {epoch}"
+        );
+    }
     Ok(())
-}
-
-// The puts that the row has room for are made, which are 64; a full row is not replaced.
-#[test]
-fn only_what_needs_a_version_is_refused_where_they_are_spent(rt: HostRuntime) -> Result<(), Fail> {
-    let (kiwi, mut pass) = open_one(rt.alloc(), 64, SPENT, 1)?;
-    assert_eq!(rt; sum_of(&kiwi, &mut pass, 0, 9), Err(ScanEnd::Spent));
-    expect_refused(&rt, rt.alloc(), SPENT, 1, Err(ScanEnd::Spent))
-}
-
-#[test]
-fn only_a_full_row_is_refused_where_the_epochs_are_spent(rt: HostRuntime) -> Result<(), Fail> {
-    expect_refused(&rt, rt.alloc(), 1, SPENT, Ok(113))
 }
 
 #[test]
