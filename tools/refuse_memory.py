@@ -8,10 +8,10 @@ memory was wanted.
 There is a run of each command. First each allocation of a run is refused in turn: a small library
 that is loaded before the C library (made here by `cc`) counts the calls that ask for memory, and
 gives nothing to the one whose number it was told. Then the run is made under limits of its address
-space, from 1 MB up in 64 steps of 1 MB, of which some must be too low and some high enough. A run
-that began must end with status 0 and the whole output, or with status 6, nothing written, and `out
-of memory` on standard error. Where the limit is so low that the system does not even start the
-program, no run began, as that library sees; such limits are counted apart.
+space, from 1 MB up in 64 steps: some must be too low for it, and some high enough. A run that began
+must end with status 0 and the whole output, or with status 6, nothing written, and `out of memory`
+on standard error. Where the limit is so low that the system does not even start the program, no run
+began, as that library sees; such limits are counted apart.
 
 The program itself is run and not the launcher, whose own allocations would be refused too. It is no
 part of the gate: what it tries depends on the C library. The last line says how many runs passed;
@@ -31,14 +31,16 @@ from check_program import BLOCK, RECORD, SCRIPTS, THREE
 from kiwi_map import KIWI
 
 PROGRAM = KIWI.parent / "crates" / "kw_program" / "out" / "kw_program"
-MEGABYTE = 1 << 20
+KILOBYTE, MEGABYTE = 1 << 10, 1 << 20
 STEPS = 64
 
 # A `long` of C: in the file that the library shares with us the first one is how many calls there
 # were, and the second one is not 0 where the program began.
 LONG = 8
 
-Run = namedtuple("Run", "words given printed")
+# A run, and how far apart the limits of its address space are: a map of all rows takes much more
+# than a script or a record does.
+Run = namedtuple("Run", "words given printed step", defaults=(128 * KILOBYTE,))
 
 # A script in which a put finds its row full and replaces it.
 FULL = "a_put_that_finds_its_row_full_replaces_it"
@@ -46,8 +48,8 @@ FULL = "a_put_that_finds_its_row_full_replaces_it"
 # The lines of `replay` are those of four workers, who are refused at other places from run to run,
 # and then a list, whose pairs take memory while they are gathered.
 RUNS = (
-    Run("replay --workers 4", BLOCK, 24 * b"ok\n" + b"516\n24\n100=10 101=11\n"),
-    Run("gen 1 3", b"", THREE),
+    Run("replay --workers 4", BLOCK, 24 * b"ok\n" + b"516\n24\n100=10 101=11\n", 2 * MEGABYTE),
+    Run("gen 1 3", b"", THREE, 2 * MEGABYTE),
     Run("simulate", (SCRIPTS / "given" / FULL).read_bytes(), (SCRIPTS / "printed" / FULL).read_bytes()),
     Run("simulate --record", (SCRIPTS / "given" / FULL).read_bytes(), (SCRIPTS / "recorded" / FULL).read_bytes()),
     Run("judge", RECORD, b"yes\n"),
@@ -156,8 +158,8 @@ def refusals(trial, run):
 
 def spaces(trial, run):
     """The ends of a run in a narrow address space."""
-    for step in range(1, STEPS + 1):
-        yield f"in {step} MB", trial.end(run, limit=step * MEGABYTE)
+    for limit in range(MEGABYTE, MEGABYTE + STEPS * run.step, run.step):
+        yield f"in {limit // KILOBYTE} KB", trial.end(run, limit=limit)
 
 
 def kind_of(trial, run, end):
