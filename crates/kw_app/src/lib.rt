@@ -10,8 +10,8 @@
 //!   replies to generated lines. `printed` is what they make, and `crew` has who answers lines.
 //! - `running`, `rounds`, `sharing` and `working` run lines on the concurrent map: all blocks, one
 //!   block, its passes, one worker; `kw_ask`, a crate of its own, asks one line. Block after block,
-//!   each worker answers the lines that are dealt to it, in a thread of its own where others have
-//!   lines too; then all passes meet, so that all have seen one list of events, and the next block
+//!   each worker answers the lines that are dealt to it, in a thread of its own where they are
+//!   worth one; then all passes meet, so that all have seen one list of events, and the next block
 //!   begins. That workers run beside each other is no clause, and that a put ends is none: tests
 //!   show it.
 //! - `outcome` and `fault` say how a run ended, and `faultless` that a run on streams that never

@@ -1,9 +1,9 @@
 //! One block, answered by all workers beside each other.
 //!
-//! Each pass answers the lines of the block that are dealt to it, those that have any in threads
-//! beside each other. When all have ended, the passes meet: all have then seen one list of events.
-//! Only after that are the answers collected, so a block's calls have all ended before anything of
-//! a later one.
+//! Each pass answers the lines of the block that are dealt to it, those that have enough of them in
+//! threads beside each other. When all have ended, the passes meet: all have then seen one list of
+//! events. Only after that are the answers collected, so a block's calls have all ended before
+//! anything of a later one.
 ghost use Rattle.std.specs.Prelude.{◌≡◌, All, IfOk, Ok, vec_len};
 ghost use Rattle.kw_map.specs.Meetings.{AtEach, MeetsAt, front_seen};
 ghost use Rattle.kw_table.specs.Passes.{IsPassOf, opening_of};
@@ -63,7 +63,7 @@ fn met(kiwi: &Kiwi, passes: Vec<Pass>) -> Vec<Pass>
 }
 
 /// Answers one block: the passes, which then have all seen one list of events, and the answers in
-/// line order. A block whose lines are all one worker's starts no thread.
+/// line order. A block of few lines, or one whose lines are all one worker's, starts no thread.
 ///
 /// There is a pass for each worker of the block, numbered from 0, and all are idle and have seen
 /// one list, as they are and have afterwards. The only error is the want of memory.

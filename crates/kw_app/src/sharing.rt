@@ -1,11 +1,11 @@
 //! Which passes of a block get a thread.
 //!
-//! Only passes that have lines of the block are worth one. So the passes are cut into groups in
-//! which one at most has lines, each group gets a thread, and in it the passes stand as they stood
-//! before: put together, the groups are the list of the passes again. Where all lines are one
-//! worker's, the passes are gone through where they are, and no thread is made. No reply depends on
-//! how the groups are cut, so no clause says it; tests show that workers with lines run beside each
-//! other.
+//! A thread is worth its start only for some lines. So the passes are cut into groups that have
+//! enough of them, each group gets a thread, and in it the passes stand as they stood before: put
+//! together, the groups are the list of the passes again. Where there is one group, as in each
+//! block of few lines, the passes are gone through where they are, and no thread is made. No reply
+//! depends on how the groups are cut, so no clause says it; tests show that workers with lines run
+//! beside each other.
 ghost use Rattle.std.specs.Prelude.{◌≡◌, ◌++◌, All, IfOk};
 ghost use Rattle.std.specs.List.{flat_map};
 ghost use Rattle.kw_map.specs.Kiwi.{IsIdle};
@@ -23,7 +23,12 @@ use std::sync::Wait;
 use std::thread;
 use std::thread::Threads;
 
-/// What all passes do: those that have lines of the block beside each other.
+/// How many lines a group has at least before the next one is begun. To start a thread and to wait
+/// for its end takes as long as some fifty lines do, so with much fewer than twice as many the
+/// threads take longer than one thread for all.
+const LEAST_LINES: usize = 128;
+
+/// What all passes do: those that have enough lines of the block beside each other.
 pub(crate) fn finish_all<R: Threads + Wait + Sync, G: Gate + Sync>(
     rt: &R,
     alloc: Global,
@@ -36,10 +41,11 @@ pub(crate) fn finish_all<R: Threads + Wait + Sync, G: Gate + Sync>(
     requires lines { All IsLine block.now.lines }
     ensures { IfOk result (λ dones. AreDone kiwi.now block.now passes.items dones.items) }
 {
-    if is_one_part(block) {
+    let least = least_lines(gate);
+    if block.len() / 2 < least {
         return finish_in_turn(rt, alloc, kiwi, block, passes, gate);
     }
-    let groups = grouped(alloc, block, passes)?;
+    let groups = grouped(alloc, block, passes, least)?;
     let parts = thread::map_vec(
         rt,
         groups,
@@ -74,44 +80,50 @@ fn finish_in_turn<R: Wait, G: Gate>(
     Ok(dones)
 }
 
-/// Whether all lines of the block are one worker's.
-fn is_one_part(block: &Block<'_>) -> bool {
-    let workers = block.workers();
-    for at in 1..block.len() {
-        if block.line(at).worker(workers) != block.line(0).worker(workers) {
-            return false;
-        }
-    }
-    true
+/// How many lines are worth a thread. A gate that may hold a worker up has each worker that has
+/// lines beside the others.
+fn least_lines<G: Gate>(gate: &G) -> usize {
+    if gate.holds_up() { 1 } else { LEAST_LINES }
 }
 
-/// Whether a line of the block is dealt to the pass.
-fn has_lines(block: &Block<'_>, pass: &Pass) -> bool {
+/// How many lines of the block are dealt to the pass, counted no further than to `most`.
+fn lines_up_to(block: &Block<'_>, pass: &Pass, most: usize) -> usize {
     let workers = block.workers();
+    let mut lines = 0;
     for at in 0..block.len() {
+        if lines >= most {
+            return lines;
+        }
         if block.line(at).worker(workers) == pass.number() {
-            return true;
+            lines += 1;
         }
     }
-    false
+    lines
 }
 
-/// The passes in groups, in their order. One pass at most of a group has lines.
+/// The passes in groups, in their order. Each group but the last has `least` lines or more, and
+/// would have fewer without its last pass that has lines.
 fn grouped(
     alloc: Global,
     block: &Block<'_>,
     passes: Vec<Pass>,
+    least: usize,
 ) -> Result<Vec<Vec<Pass>>, AllocError>
     ensures { IfOk result (λ groups. flat_map (λ group. group.items) groups.items
         ≡ passes.items) }
 {
     let mut groups = Vec::new(alloc);
     let mut group = Vec::new(alloc);
-    let mut is_taken = false;
+    let mut filled: usize = 0;
     for pass in passes {
-        let takes = has_lines(block, &pass);
-        group = begun(alloc, &mut groups, group, is_taken && takes)?;
-        is_taken = is_taken || takes;
+        let lines = lines_up_to(block, &pass, least);
+        let is_due = filled >= least && lines > 0;
+        group = begun(alloc, &mut groups, group, is_due)?;
+        filled = if is_due {
+            lines
+        } else {
+            filled.saturating_add(lines)
+        };
         group.push(pass)?;
     }
     groups.push(group)?;

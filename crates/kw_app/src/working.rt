@@ -27,6 +27,12 @@ pub trait Gate {
 
     /// The worker has answered the line.
     fn after(&self, worker: u32, line: u32);
+
+    /// Whether it may hold a worker up until another one has got on. Then workers that have lines
+    /// of a block are beside each other, however few the lines are.
+    fn holds_up(&self) -> bool {
+        true
+    }
 }
 
 /// A gate that does nothing.
@@ -37,6 +43,10 @@ impl Gate for NoGate {
     fn before(&self, _worker: u32, _line: u32) {}
 
     fn after(&self, _worker: u32, _line: u32) {}
+
+    fn holds_up(&self) -> bool {
+        false
+    }
 }
 
 /// Makes the calls of the block's lines that are dealt to the pass, in order, and gives their

@@ -1,4 +1,5 @@
-//! What a gate is told before and after each line, by which two workers wait for each other.
+//! What a gate is told before and after each line, by which two workers wait for each other, and in
+//! which blocks they are beside each other where no gate may hold one up.
 use crate::runs::{NO_FAULTS, expect_end, ran_past};
 use kw_app::outcome::Status;
 use kw_app::working::Gate;
@@ -143,5 +144,85 @@ fn a_gate_is_told_before_a_line_is_asked_and_after_it_is_answered(
     expect_end(&rt, &ended, Status::Done, 0, b"ok\nnone\n0\n", 0);
     assert_eq!(rt; gate.given_up.load(Ordering::SeqCst), 0);
     assert_eq!(rt; gate.ended.load(Ordering::SeqCst), 1);
+    Ok(())
+}
+
+// Holds nobody up, but for what another gate does that it tells of each line.
+#[derive(Drop)]
+struct Unasked<G> {
+    told: G,
+}
+
+impl<G: Gate> Gate for Unasked<G> {
+    fn before(&self, worker: u32, line: u32) {
+        self.told.before(worker, line);
+    }
+
+    fn after(&self, worker: u32, line: u32) {
+        self.told.after(worker, line);
+    }
+
+    fn holds_up(&self) -> bool {
+        false
+    }
+}
+
+// The lines that were begun, as the digits of a number.
+#[derive(Drop)]
+struct Begun {
+    lines: AtomicU64,
+}
+
+impl Gate for Begun {
+    fn before(&self, _worker: u32, line: u32) {
+        let begun = self.lines.load(Ordering::SeqCst);
+        self.lines.store(
+            begun.wrapping_mul(10).wrapping_add(u64::from(line)),
+            Ordering::SeqCst,
+        );
+    }
+
+    fn after(&self, _worker: u32, _line: u32) {}
+}
+
+// Worker 0 has the lines 1, 3 and 6, and worker 1 the lines 2, 4 and 7.
+#[test]
+fn few_lines_are_answered_by_one_worker_after_the_other(rt: HostRuntime) -> Result<(), Fail> {
+    let gate = Unasked {
+        told: Begun {
+            lines: AtomicU64::new(0),
+        },
+    };
+    let input = b"put 0 1\nput 1 2\nget 0\nget 1\nwait\nget 2\nget 3\n";
+    let words = ["replay", "--workers", "2"];
+    let ended = ran_past(&rt, rt.alloc(), &words, input, NO_FAULTS, &gate)?;
+    expect_end(
+        &rt,
+        &ended,
+        Status::Done,
+        0,
+        b"ok\nok\n1\n2\nnone\nnone\n",
+        0,
+    );
+    assert_eq!(rt; gate.told.lines.load(Ordering::SeqCst), 132467);
+    Ok(())
+}
+
+// 128 lines of each of two workers, which wait for each other before lines 1 and 2
+#[test]
+fn workers_that_have_many_lines_run_beside_each_other(rt: HostRuntime) -> Result<(), Fail> {
+    let gate = Unasked {
+        told: Meeting::new(),
+    };
+    let mut input = Vec::new(rt.alloc());
+    let mut printed = Vec::new(rt.alloc());
+    for _ in 0..128 {
+        input.extend_from_slice(b"put 0 1\nput 1 1\n")?;
+        printed.extend_from_slice(b"ok\nok\n")?;
+    }
+    let words = ["replay", "--workers", "2"];
+    let ended = ran_past(&rt, rt.alloc(), &words, &input, NO_FAULTS, &gate)?;
+    expect_end(&rt, &ended, Status::Done, 0, &printed, 0);
+    assert_eq!(rt; gate.told.met.load(Ordering::SeqCst), 2);
     Ok(())
 }
