@@ -65,8 +65,9 @@ fi
 } >"$room/about"
 
 # The memory that ./kiwi asks for, for all programs alike.
+large=4194304
 kept=4294967296
-export GLIBC_TUNABLES="glibc.malloc.hugetlb=1:glibc.malloc.mmap_threshold=$kept:glibc.malloc.trim_threshold=$kept"
+export GLIBC_TUNABLES="glibc.malloc.hugetlb=1:glibc.malloc.mmap_threshold=$large:glibc.malloc.trim_threshold=$kept"
 
 # Lines that take as many bytes as they may, with so many sums in 100; the last one is whole.
 for percent in 0 1 10; do

@@ -32,6 +32,8 @@ pub fn replay<R: Threads + Wait + Sync, G: Gate + Sync>(
     // The room of the bytes is free again before the answers take any.
     drop(bytes);
     let (front, answers) = run_on_map(rt, alloc, crew, &items)?;
+    // Nor are the lines kept while their answers are printed.
+    drop(items);
     let text = print_beside(rt, alloc, &answers, crew.workers)?;
     let ending = Ending::of_answers(&answers);
     Ok(Printed {

@@ -24,12 +24,26 @@ use kw_map::kiwi::Kiwi;
 use kw_model::memory::Memory;
 use kw_work::block::Block;
 use kw_work::deal::deal;
-use std::alloc::Global;
+use std::alloc::{AllocError, Global};
 use std::sync::Wait;
 use std::thread::Threads;
 
-/// Answers the blocks in order. The answers of the first block are not copied: most inputs have
-/// many lines and few blocks.
+/// Room for the answers of all lines, where there are several blocks; else none, as the answers of
+/// one block are not copied. A list that grew would leave memory behind at each doubling.
+fn room(alloc: Global, blocks: &[Block<'_>]) -> Result<Vec<Answer>, AllocError>
+    ensures { IfOk result (λ answers. answers.items ≡ []) }
+{
+    if blocks.len() < 2 {
+        return Ok(Vec::new(alloc));
+    }
+    let mut lines: usize = 0;
+    for block in blocks {
+        lines = lines.saturating_add(block.len());
+    }
+    Vec::with_capacity(alloc, lines)
+}
+
+/// Answers the blocks in order.
 fn play_all<R: Threads + Wait + Sync, G: Gate + Sync>(
     rt: &R,
     alloc: Global,
@@ -47,7 +61,7 @@ fn play_all<R: Threads + Wait + Sync, G: Gate + Sync>(
         (map (λ block. block.lines) blocks.now) (front_seen both.0.items) both.1.items) }
 {
     let mut passes = passes;
-    let mut answers = Vec::new(alloc);
+    let mut answers = room(alloc, blocks)?;
     for block in blocks {
         let (next, more) = play(rt, alloc, kiwi, block, passes, crew.gate)?;
         passes = next;

@@ -16,8 +16,8 @@ loop-block-init g c =
     let n = c.args.crew.now.workers in
     let front : front_seen c.args.passes.items ≡ [] = front_is _ _ _ _ c.requires.together in record {
       together = subst (λ (E : List Event). AreTogether m n E c.args.passes.items) (sym front) c.requires.together;
-      ran = subst (λ (E : List Event). Ran m.opening n [] E c.new-answers.result.items) (sym front)
-          (subst (λ (a : List Answer). Ran m.opening n [] [] a) (sym c.new-answers.ensures.items) (ran_none m.opening n));
+      ran = subst (λ (E : List Event). Ran m.opening n [] E c.in_ok-answers.answers.items) (sym front)
+          (subst (λ (a : List Answer). Ran m.opening n [] [] a) (sym c.in_ok-answers.ensures) (ran_none m.opening n));
     }
 
 pub loop-block-preserved : goal.loop-block-preserved
@@ -28,7 +28,7 @@ loop-block-preserved g c =
     let workers : b.workers ≡ c.args.crew.now.workers = ap (λ (x : Dealt). x.workers) c.block-item.is ∙ c.requires.workers c.loop-block.block-index b lt in
     record {
       together = subst (λ n. AreTogether c.args.kiwi.now n (front_seen c.in_ok-next.next.items) c.in_ok-next.next.items) workers c.in_ok-next.ensures.together;
-      ran = ran_step _ _ _ _ b _ _ _ _ _ inv.together.some lt c.block-item.is workers c.in_ok-answers.ensures inv.ran c.in_ok-next.ensures.grew;
+      ran = ran_step _ _ _ _ b _ _ _ _ _ inv.together.some lt c.block-item.is workers c.in_ok-answers-2.ensures inv.ran c.in_ok-next.ensures.grew;
     }
 
 pub returns-clause-ran : goal.returns-clause-ran
