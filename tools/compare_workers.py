@@ -53,6 +53,7 @@ UPDATES = (b"put", b"del")
 LIST, SUM, COUNT = b"list", b"sum", b"count"
 REFUSAL = "no rows"
 NARROW = 64  # how many updates a block with range lines has at most
+MANY = 160  # with so many lines for each worker they are at work beside each other, and with few not
 READERS = ("sum", "count", "least", "greatest", "list", "list")
 
 # How many keys and updates an input has at most; how many puts for each delete; how many range
@@ -78,8 +79,9 @@ class Wrong(Exception):
     """A run that no map could give."""
 
 
-def random_block(rng, shape, left):
-    """The forms of a block of at most so many updates, and how many updates it has."""
+def random_block(rng, shape, left, workers):
+    """The forms of a block of at most so many updates, and how many updates it has. Half of the
+    blocks have so many get lines that all workers are at work beside each other."""
     if left and rng.random() >= shape.narrow:
         updates, ranges = rng.randrange(1, left + 1), 0
     elif left and (shape.full or rng.random() < 0.8):
@@ -88,7 +90,7 @@ def random_block(rng, shape, left):
     else:
         updates, ranges = 0, rng.randrange(shape.ranges + 1)
     forms = rng.choices(("put",) * shape.puts + ("del",), k=updates) + rng.choices(READERS, k=ranges)
-    forms += ["get"] * rng.randrange(1 + updates // 4)
+    forms += ["get"] * rng.choice((rng.randrange(1 + updates // 4), MANY * workers))
     rng.shuffle(forms)
     return forms, updates
 
@@ -98,7 +100,7 @@ def random_forms(rng, shape, workers):
     left = shape.updates * workers if shape.full else shape.updates if shape.refuses else rng.randrange(shape.updates + 1)
     forms, blocks = [], rng.choice((1, 3, 10))
     while left or blocks > 0:
-        block, updates = random_block(rng, shape, left)
+        block, updates = random_block(rng, shape, left, workers)
         forms += block + ["wait"]
         left, blocks = left - updates, blocks - 1
     return forms if rng.random() < 0.3 else forms[:-1]
