@@ -111,6 +111,14 @@ QUIET = b"".join(b"put %d %d\n" % (key, 10 * key) for key in range(1, 17)) + b"w
 QUIET += b"wait\nget 1\nget 9\nsum 0 99\ncount 0 99\nleast 0 99\ngreatest 0 99\nlist 15 16\n"
 QUIET_PRINTED = 24 * b"ok\n" + b"none\n90\n1000\n8\n90\n160\n15=150 16=160\n"
 
+# Points of two series, and the tables of their buckets of ten minutes, before one point goes and
+# after. As many points as the rows of a small map take, and one more, which no table has.
+POINTS = b"put 1 0 5\nput 1 9 7\nput 1 10 1\nput 2 3 4\ntable\ndel 1 9\ntable\n"
+BUCKETS = b"1 10 count 1 sum 1 least 1 greatest 1\n2 0 count 1 sum 4 least 4 greatest 4\nend 0\n"
+POINTS_TABLES = b"1 0 count 2 sum 12 least 5 greatest 7\n" + BUCKETS + b"1 0 count 1 sum 5 least 5 greatest 5\n" + BUCKETS
+MANY_POINTS = b"".join(b"put 0 %d 1\n" % minute for minute in range(1, 2050)) + b"table\n"
+MANY_TABLE = b"0 0 count 2048 sum 2048 least 1 greatest 1\nend 1\n"
+
 # What is said where a line was refused.
 SOME = b"some calls were refused\n"
 
@@ -178,7 +186,15 @@ CASES = (
     Case("a summary of more lines", "gen 1 10000", printed=TEN_THOUSAND),
     Case("a summary of more lines by workers", "gen 1 --workers 8 10000", printed=TEN_THOUSAND),
     Case("a summary where rows run out", "gen --rows 64 1 10000", printed=FEW_ROWS, said=SOME, status=8),
-    Case("no such command", "rollup", said=b"bad words\n", status=2),
+    Case("tables of points by two workers", "rollup --bucket 10 --workers 2", POINTS, printed=POINTS_TABLES),
+    Case("tables of points by one worker", "rollup --bucket 10", POINTS, printed=POINTS_TABLES),
+    Case("a table of no points", "rollup --bucket 60", b"table", printed=b"end 0\n"),
+    Case("points without a table", "rollup --bucket 60 --workers 4", b"put 1 1 1\ndel 1 1\n"),
+    Case("points that rows run out for", "rollup --bucket 1048576 --rows 64", MANY_POINTS, printed=MANY_TABLE, said=SOME, status=8),
+    Case("a series that is too great", "rollup --bucket 60", b"table\nput 4096 0 1\n", said=b"bad line 2\n", status=3),
+    Case("an output that is full of tables", "rollup --bucket 60", b"table\n", FULL, said=b"write fault\n", status=5),
+    Case("no such command", "table", said=b"bad words\n", status=2),
+    Case("tables of buckets of no width", "rollup", said=b"bad words\n", status=2),
     Case("a worker too many", "replay --workers 9", said=b"bad words\n", status=2),
     Case("too few rows", "replay --rows 63", said=b"bad words\n", status=2),
     Case("workers named twice", "replay --workers 1 --workers 1", said=b"bad words\n", status=2),
@@ -300,10 +316,10 @@ def usage_faults(program):
         run = ended(program, Case("", words))
         if (run[2] != 2) != is_good or (not is_good and run != (b"", b"bad words\n", 2)):
             faults.append(f"the usage {'allows' if is_good else 'does not allow'} `{words}`, and the program ends with {run[1:]}")
-    for line, is_good in line_cases():
-        run = ended(program, Case("", "replay", f"{line}\n".encode()))
+    for words, line, is_good in line_cases():
+        run = ended(program, Case("", words, f"{line}\n".encode()))
         if run[1:] != ((b"", 0) if is_good else (b"bad line 1\n", 3)):
-            faults.append(f"the usage {'has' if is_good else 'has not'} the line `{line}`, and the program ends with {run[1:]}")
+            faults.append(f"the usage {'has' if is_good else 'has not'} the line `{line}` of `{words}`, and the program ends with {run[1:]}")
     for words, printed, said, status in help_cases():
         run, wanted = ended([KIWI], Case("", words)), (printed.encode(), said.encode(), status)
         if run != wanted:

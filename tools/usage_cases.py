@@ -2,17 +2,19 @@
 of `usage.txt` is read here, and each command that it names must be one for the program, with the
 least and the greatest of each number, and no other words.
 
-A command's line has its own word first, then words for numbers (as `START`), options in brackets
-(as `[--rows R]`), flags in brackets (as `[--record]`), and `<` before what its input is. The lines
-`X is from A to B` say what each number may be. The last line but one of the text names the lines of
-`replay`, with a letter for each number."""
+A command's line has its own word first, then words for numbers (as `START`), options that must
+stand (as `--bucket G`), options in brackets (as `[--rows R]`), flags in brackets (as `[--record]`),
+and `<` before what its input is. The lines `X is from A to B` say what each number may be. The
+lines `a line of X:` name the lines of an input, with a letter for each number."""
 
 import re
 from pathlib import Path
 
 USAGE = Path(__file__).resolve().parent / "usage.txt"
 RANGE = re.compile(r"  (\w+) is from (\d+) to (\d+)\b")
-LINES = "  a line of LINES: "
+LINES = re.compile(r"  a line of (\w+): (.*)")
+# The words with which lines of an input are tried.
+LINES_OF = {"LINES": "replay", "POINTS": "rollup --bucket 60"}
 # The commands of the launcher alone, of which the program knows nothing.
 OF_THE_LAUNCHER = ("build", "try", "help")
 
@@ -21,7 +23,9 @@ class Command:
     """A command as its line in the usage has it."""
 
     def __init__(self, line):
-        words = line.split(" < ")[0].split()
+        open_part = re.sub(r"\[.*?\]", "", line.split(" < ")[0])
+        self.needed = re.findall(r"(--\w+) (\w+)", open_part)
+        words = re.sub(r"--\w+ \w+", "", open_part).split()
         self.name = words[1].rstrip(",")
         bracketed = re.findall(r"\[(.*?)\]", line)
         self.options = [it.split() for it in bracketed if " " in it]
@@ -31,7 +35,7 @@ class Command:
     def words(self, pick, ranges, options=None, flags=None):
         """The words of a call: `pick` takes one number from a range."""
         words = [self.name, *(str(pick(ranges[it])) for it in self.numbers)]
-        for option, number in self.options if options is None else options:
+        for option, number in [*self.needed, *(self.options if options is None else options)]:
             words += [option, str(pick(ranges[number]))]
         return words + (self.flags if flags is None else flags)
 
@@ -59,6 +63,12 @@ def bad_words(command, ranges, every):
     """Words that the usage does not allow: a number outside its range, a part twice, one of another
     command, a number too few or too many."""
     bare = command.words(min, ranges, [], [])
+    for place, (option, number) in enumerate(command.needed):
+        at = len(bare) - 2 * (len(command.needed) - place)
+        least, most = ranges[number]
+        yield from ([*bare[: at + 1], str(it), *bare[at + 2 :]] for it in (least - 1, most + 1) if it >= 0)
+        yield [*bare[:at], *bare[at + 2 :]]
+        yield [*bare, option, str(least)]
     for option, number in command.options:
         least, most = ranges[number]
         yield from ([*bare, option, str(it)] for it in (least - 1, most + 1) if it >= 0)
@@ -72,9 +82,9 @@ def bad_words(command, ranges, every):
         yield [*bare[:place], *bare[place + 1 :]]
     yield [*bare, "1"]
     yield [*bare, "help"]
-    own = [*(option for option, _ in command.options), *command.flags]
+    own = [*(option for option, _ in command.needed + command.options), *command.flags]
     for other in every:
-        yield from ([*bare, option, str(ranges[number][0])] for option, number in other.options if option not in own)
+        yield from ([*bare, option, str(ranges[number][0])] for option, number in other.needed + other.options if option not in own)
         yield from ([*bare, flag] for flag in other.flags if flag not in own)
 
 
@@ -92,14 +102,14 @@ def word_cases():
 
 
 def line_cases():
-    """Each line of `replay` that the usage names, and others of the same forms with a number too
-    few or too many, with whether it is one."""
-    forms = next(line for line in USAGE.read_text().splitlines() if line.startswith(LINES)).removeprefix(LINES).split(", ")
-    for form in forms:
-        word, *letters = form.split()
-        for count in range(len(letters) + 2):
-            yield " ".join([word, *count * ["1"]]), count == len(letters)
-    yield "rollup 1 1", False
+    """Each line of an input that the usage names, and others of the same forms with a number too
+    few or too many: the words of the command that is given it, the line, and whether it is one."""
+    for name, forms in LINES.findall(USAGE.read_text()):
+        for form in forms.split(", "):
+            word, *letters = form.split()
+            for count in range(len(letters) + 2):
+                yield LINES_OF[name], " ".join([word, *count * ["1"]]), count == len(letters)
+        yield LINES_OF[name], "rollup 1 1", False
 
 
 def help_cases():
@@ -107,7 +117,7 @@ def help_cases():
     says, and its status."""
     text = USAGE.read_text()
     parts = re.findall(r"^  (kiwi (\w+).*\n(?:      .*\n)*)", text, re.MULTILINE)
-    for words in ("", "rollup", "try", "try rollup", "try build", "build 1", "--rows 64"):
+    for words in ("", "table", "try", "try table", "try build", "build 1", "--rows 64"):
         yield words, "", text, 2
     for words in ("help", "-h", "--help"):
         yield words, text, "", 0

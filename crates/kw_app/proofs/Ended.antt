@@ -13,6 +13,7 @@ use Rattle.kw_app.specs.declared.outcome.Outcome.{Outcome}
 use Rattle.kw_app.specs.declared.outcome.Status.TheVariants as status
 use Rattle.kw_app.specs.Ends.{IsBadInput, IsPrinted, IsFirstOutside, IsToldBad, Reads}
 use Rattle.kw_app.proofs.Scripts.{same_outside, simulated_or_bad}
+use Rattle.kw_app.proofs.Points.{roll_items_or_bad, same_bad_roll_line}
 use Rattle.kw_app.proofs.Records.{record_or_bad, same_bad_record_line}
 
 -- what has a text has no bad line
@@ -21,6 +22,7 @@ printed_or_bad (command.Replay w r) front end bytes printed at range good bad = 
 printed_or_bad (command.Simulate r b) front end bytes printed at range good bad = simulated_or_bad b r bytes printed at (omega (arith, range.1)) good.2 bad
 printed_or_bad command.Judge front end bytes printed at range good bad = record_or_bad bytes good.1.written at good.1.text bad
 printed_or_bad (command.Gen s n w r) front end bytes printed at range good bad = bad
+printed_or_bad (command.Rollup g w r) front end bytes printed at range good bad = roll_items_or_bad bytes good.items at good.lines bad
 
 -- there is one first bad line at most
 one_bad : (c : Command) (bytes : List ℕ) (m n : ℕ) → IsFirstOutside c bytes m → IsFirstOutside c bytes n → m ≡ n
@@ -28,6 +30,7 @@ one_bad (command.Replay w r) bytes m n h k = same_bad bytes m n h k
 one_bad (command.Simulate r b) bytes m n h k = same_outside b r bytes m n h k
 one_bad command.Judge bytes m n h k = same_bad_record_line bytes m n h k
 one_bad (command.Gen s i w r) bytes m n h k = absurd h
+one_bad (command.Rollup g w r) bytes m n h k = same_bad_roll_line bytes m n h k
 
 -- an input that has a text is not bad
 pub good_is_not_bad : (c : Command) (front : Option Pass) (end : Ending) (bytes printed : List ℕ) (outcome : Outcome) → AreInRange c → length bytes ≤ MOST_BYTES → IsPrinted c front end bytes printed → IsToldBad c outcome bytes

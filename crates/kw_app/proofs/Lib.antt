@@ -1,6 +1,7 @@
 pub mod Lines
 pub mod Scripts
 pub mod Records
+pub mod Points
 pub mod Ended
 pub mod Streams
 pub mod Each
@@ -18,4 +19,5 @@ pub mod LineOrders
 pub mod AnswerForms
 pub mod Headlines
 pub mod QuietGenerated
+pub mod Scans
 pub mod RunEnds

@@ -138,6 +138,8 @@ tells_as (command.Simulate r b) (Some all) front end A B each h = record { short
 tells_as command.Judge None front end A B each h = tt
 tells_as command.Judge (Some all) front end A B each h = record { short = h.short; printed = h.printed; is_printed = h.is_printed; writes = each h.printed h.writes }
 tells_as (command.Gen s n w r) left front end A B each h = record { printed = h.printed; is_summary = h.is_summary; writes = each h.printed h.writes }
+tells_as (command.Rollup g w r) None front end A B each h = tt
+tells_as (command.Rollup g w r) (Some all) front end A B each h = record { short = h.short; printed = h.printed; is_printed = h.is_printed; writes = each h.printed h.writes }
 
 -- an input that has a text is not bad
 good_is_told : (c : Command) (left : Option (List ℕ)) (front : Option Pass) (end : Ending) (Writes : List ℕ → Type 0) (o : Outcome) → AreInRange c → Tells c left front end Writes
@@ -149,6 +151,8 @@ good_is_told (command.Simulate r b) (Some all) front end Writes o range h = good
 good_is_told command.Judge None front end Writes o range h = tt
 good_is_told command.Judge (Some all) front end Writes o range h = good_is_not_bad command.Judge front end all h.printed o range h.short h.is_printed
 good_is_told (command.Gen s n w r) left front end Writes o range h = unread_is_told (command.Gen s n w r) left o (λ none. none)
+good_is_told (command.Rollup g w r) None front end Writes o range h = tt
+good_is_told (command.Rollup g w r) (Some all) front end Writes o range h = good_is_not_bad (command.Rollup g w r) front end all h.printed o range h.short h.is_printed
 
 -- a text that a command came to was written
 pub text_is_written : {S K : Type 0} (left : S → Option (List ℕ)) (faults : S → ℕ) (written : K → Option (List ℕ)) (counted : K → ℕ) (c : Command) (p : Printed) (o : Outcome) (s t : S) (k l : K)

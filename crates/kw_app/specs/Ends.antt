@@ -6,6 +6,7 @@ use Rattle.kw_io.specs.Bytes.{AppendsPrefix}
 use Rattle.kw_line.specs.declared.parse.TheConstants.{MOST_BYTES}
 use Rattle.kw_line.specs.Line as line
 use Rattle.kw_judge.specs.Record as written
+use Rattle.kw_rollup.specs.Lines as points
 use Rattle.kw_command.specs.declared.command.Command.{Command}
 use Rattle.kw_command.specs.declared.command.Command.TheVariants as command
 use Rattle.kw_app.specs.declared.input.InputError.{InputError}
@@ -21,6 +22,7 @@ use Rattle.kw_app.specs.Inputs.{IfNamed}
 use Rattle.kw_app.specs.Replay.{IsReplayed}
 use Rattle.kw_app.specs.Gen.{Summarizes}
 use Rattle.kw_app.specs.Judging.{IsJudged}
+use Rattle.kw_app.specs.Rolling.{IsRolled}
 use Rattle.kw_app.specs.Simulating.{IsSimulated, IsOutsideScript}
 
 -- the command reads an input
@@ -29,6 +31,7 @@ Reads (command.Replay w r) = Unit {0}
 Reads (command.Simulate r b) = Unit {0}
 Reads command.Judge = Unit {0}
 Reads (command.Gen s n w r) = ⊥
+Reads (command.Rollup g w r) = Unit {0}
 
 -- the command asks the concurrent map, which may refuse a call
 abbrev pub AsksMap : Command → Type 0
@@ -36,6 +39,7 @@ AsksMap (command.Replay w r) = Unit {0}
 AsksMap (command.Simulate r b) = ⊥
 AsksMap command.Judge = ⊥
 AsksMap (command.Gen s n w r) = Unit {0}
+AsksMap (command.Rollup g w r) = Unit {0}
 
 -- what may be said of a command's text: that a reply is a refusal only where the concurrent map was
 -- asked, and that a record is not good only where one was judged
@@ -45,13 +49,14 @@ MayEnd c ending.Refused = AsksMap c
 MayEnd c ending.NotLegal = c ≡ command.Judge
 
 -- the text that a command prints of these bytes, each line of which is in its grammar; the pass
--- that shows the run of `replay` on the concurrent map; and what is said of the text: that a reply
--- is a refusal, or that the record which was judged is not good
+-- that shows the run of `replay` or `rollup` on the concurrent map; and what is said of the text:
+-- that a call was refused, or that the record which was judged is not good
 abbrev pub IsPrinted : Command → Option Pass → Ending → List ℕ → List ℕ → Type 0
 IsPrinted (command.Replay w r) front end bytes printed = IsReplayed w r bytes printed front end
 IsPrinted (command.Simulate r b) front end bytes printed = (front ≡ None) × (end ≡ ending.Done) × IsSimulated b r bytes printed
 IsPrinted command.Judge front end bytes printed = (front ≡ None) × IsJudged bytes printed end
 IsPrinted (command.Gen s n w r) front end bytes printed = ⊥
+IsPrinted (command.Rollup g w r) front end bytes printed = IsRolled g w r bytes printed front end
 
 -- this line of the bytes, counted from 1, is the first that is not in the command's grammar; line 0
 -- says that a script's record would have too many calls
@@ -60,6 +65,7 @@ IsFirstOutside (command.Replay w r) bytes at = line.IsFirstBadLine bytes at
 IsFirstOutside (command.Simulate r b) bytes at = IsOutsideScript b r bytes at
 IsFirstOutside command.Judge bytes at = written.IsFirstBad bytes at
 IsFirstOutside (command.Gen s n w r) bytes at = ⊥
+IsFirstOutside (command.Rollup g w r) bytes at = points.IsFirstBadRollLine bytes at
 
 -- the command reads, and its input is too long, which is said as line 0, or this line is the first
 -- that is not in the grammar
@@ -81,6 +87,7 @@ Tells (command.Replay w r) left front end Writes = IfSome left (Prints (command.
 Tells (command.Simulate r b) left front end Writes = IfSome left (Prints (command.Simulate r b) front end Writes)
 Tells command.Judge left front end Writes = IfSome left (Prints command.Judge front end Writes)
 Tells (command.Gen s n w r) left front end Writes = Summarizes s n w r front end Writes
+Tells (command.Rollup g w r) left front end Writes = IfSome left (Prints (command.Rollup g w r) front end Writes)
 
 -- the outcome names this line of bad input, or a read failed before, or memory was wanted
 abbrev pub TellsBad : Outcome → ℕ → Type 0

@@ -14,4 +14,8 @@ pub mod Replay
 pub mod Generated
 pub mod Summary
 pub mod Gen
+pub mod Asked
+pub mod Tables
+pub mod Rolled
+pub mod Rolling
 pub mod Ends

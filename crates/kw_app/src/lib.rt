@@ -7,7 +7,8 @@
 //! - `perform` looks at the command, `input` reads its input whole.
 //! - `replay` makes the text of the replies to an input's lines, `simulating` that of a script, and
 //!   `judging` that of a verdict; `gen_command`, `generate` and `summary` the summary of the
-//!   replies to generated lines. `printed` is what they make, and `crew` has who answers lines.
+//!   replies to generated lines; `rolling`, `asked` and `tables` the tables of metric points.
+//!   `printed` is what they make, and `crew` has who answers lines.
 //! - `running`, `rounds`, `sharing` and `working` run lines on the concurrent map: all blocks, one
 //!   block, its passes, one worker; `kw_ask`, a crate of its own, asks one line. Block after block,
 //!   each worker answers the lines that are dealt to it, in a thread of its own where they are
@@ -20,6 +21,7 @@
 //! The tests are in `kw_app_tests`, since a crate with tests is proved twice.
 #![tactic(auto)]
 
+mod asked;
 mod crew;
 pub mod fault;
 pub mod faultless;
@@ -31,10 +33,12 @@ pub mod outcome;
 mod perform;
 mod printed;
 mod replay;
+mod rolling;
 mod rounds;
 pub mod run;
 mod running;
 mod sharing;
 mod simulating;
 mod summary;
+mod tables;
 pub mod working;

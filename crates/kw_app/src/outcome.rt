@@ -44,7 +44,8 @@ impl Status {
 pub struct Outcome {
     pub status: Status,
     pub line: u32,
-    /// Where text of `replay` or `gen` was written, the pass that has seen all events of the run.
+    /// Where text of `replay`, `gen` or `rollup` was written, the pass that has seen all events of
+    /// the run.
     /// No bytes of the text depend on it.
     pub front: Option<Pass>,
 }

@@ -11,6 +11,7 @@ use crate::input::{InputError, read_input};
 use crate::judging::judged;
 use crate::printed::Printed;
 use crate::replay::replay;
+use crate::rolling::rolled;
 use crate::simulating::simulated;
 use crate::working::Gate;
 use kw_command::command::Command;
@@ -63,6 +64,19 @@ pub fn perform<R: Threads + Wait + Sync, S: Source, G: Gate + Sync>(
                 gate,
             };
             Ok(summarized(rt, alloc, start, count, &crew)?)
+        }
+        Command::Rollup {
+            bucket,
+            workers,
+            rows,
+        } => {
+            let crew = Crew {
+                workers,
+                rows,
+                gate,
+            };
+            let bytes = read_input(alloc, source)?;
+            rolled(rt, alloc, bucket, &crew, bytes)
         }
     }
 }

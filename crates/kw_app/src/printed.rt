@@ -48,6 +48,6 @@ pub struct Printed {
     pub text: Vec<u8>,
     /// What is to be said of it.
     pub ending: Ending,
-    /// The pass that has seen all events of the run, of `replay` and of `gen`.
+    /// The pass that has seen all events of the run, of `replay`, `gen` and `rollup`.
     pub front: Option<Pass>,
 }

@@ -35,11 +35,12 @@ pub fn run<R: Threads + Wait + Sync, S: Source, K: Sink, G: Gate + Sync>(
     gate: &G,
 ) -> Outcome
     // The text of the command was written, whole or up to a fault: for `replay` the replies to the
-    // lines in order, for `simulate` the output of the script or the record of its calls, for
-    // `judge` the verdict on the record, for `gen` the summary of the replies to the lines it made.
-    // The replies come from the concurrent map. The pass in `front` shows the run, for any number
-    // of workers, and the replies are those of one thread in an order of the lines that keeps what
-    // came before what, where a refusal changes nothing. At every other status nothing was written.
+    // lines in order, for `rollup` the tables among its lines, for `simulate` the output of the
+    // script or the record of its calls, for `judge` the verdict on the record, for `gen` the
+    // summary of the replies to the lines it made. The replies come from the concurrent map. The
+    // pass in `front` shows the run, for any number of workers, and the replies are those of one
+    // thread in an order of the lines that keeps what came before what, where a refusal changes
+    // nothing. At every other status nothing was written.
     ensures writes { WritesText K.written K.faults (Means words.now) (S.left source.old)
         result sink.old sink.new }
 

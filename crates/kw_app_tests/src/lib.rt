@@ -5,9 +5,9 @@
 //!
 //! `faults` has the tables of reads and writes that fail and of room that runs out, `lines` those
 //! of inputs that are cut short and of lines outside the grammar, `alone` one worker beside the
-//! plain list, `gates` what a gate is told, and `generator` the lines that `gen` makes. The tests
-//! stand in a crate of their own, since a crate that has tests is proved twice, with them and
-//! without.
+//! plain list, `gates` what a gate is told, `generator` the lines that `gen` makes, and `tables`
+//! the tables of `rollup`. The tests stand in a crate of their own, since a crate that has tests is
+//! proved twice, with them and without.
 #![tactic(auto)]
 
 #[cfg(test)]
@@ -22,3 +22,5 @@ mod generator;
 mod lines;
 #[cfg(test)]
 mod runs;
+#[cfg(test)]
+mod tables;

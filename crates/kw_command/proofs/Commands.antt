@@ -11,7 +11,7 @@ use Rattle.kw_command.specs.declared.command.Name.{Name}
 use Rattle.kw_command.specs.declared.command.Name.TheVariants as name
 use Rattle.kw_command.specs.declared.command.TheConstants.{MOST_START, MOST_LINES}
 use Rattle.kw_command.specs.declared.words.Arguments.{Arguments}
-use Rattle.kw_command.specs.Words.{Part, number, workers, rows, recorded, part_words, numbers, number_in, AreNumbers, Makes, Means, command_word}
+use Rattle.kw_command.specs.Words.{Part, number, workers, rows, bucket, recorded, part_words, numbers, number_in, AreNumbers, Makes, Means, command_word}
 use Rattle.kw_command.specs.Reading.{with_number, then_with, reads, no_arguments, first_name, name_of, picked}
 use Rattle.kw_command.proofs.Meaning.{adds, cut_of, then_flag, alone_flag, alone_number}
 use Rattle.kw_command.proofs.Options.{picks, makes, command_name}
@@ -19,10 +19,15 @@ use Rattle.kw_command.proofs.Options.{picks, makes, command_name}
 -- ---- a number is no option's name, and not the flag
 
 abbrev pub IsPlain : List ℕ → Type 0
-IsPlain w = (bytes_eq w (codes "--workers") ≡ false) × (bytes_eq w (codes "--rows") ≡ false) × (bytes_eq w (codes "--record") ≡ false)
+IsPlain w = (bytes_eq w (codes "--workers") ≡ false) × (bytes_eq w (codes "--rows") ≡ false) × (bytes_eq w (codes "--bucket") ≡ false) × (bytes_eq w (codes "--record") ≡ false)
 
 no_name : (least most n : ℕ) (w : List ℕ) → number_in least most w ≡ Some n → IsPlain w
-no_name least most n w h = (at (codes "--workers") refl (bytes_eq w (codes "--workers")) refl, at (codes "--rows") refl (bytes_eq w (codes "--rows")) refl, at (codes "--record") refl (bytes_eq w (codes "--record")) refl)
+no_name least most n w h = (
+  at (codes "--workers") refl (bytes_eq w (codes "--workers")) refl,
+  at (codes "--rows") refl (bytes_eq w (codes "--rows")) refl,
+  at (codes "--bucket") refl (bytes_eq w (codes "--bucket")) refl,
+  at (codes "--record") refl (bytes_eq w (codes "--record")) refl,
+)
   where
     at : (other : List ℕ) → number_in least most other ≡ None → (b : Bool) → bytes_eq w other ≡ b → b ≡ false
     at other e false f = refl
@@ -45,12 +50,13 @@ numbers_plain parts (command.Replay w r) h = none_plain (numbers parts) h.0
 numbers_plain parts (command.Simulate r b) h = none_plain (numbers parts) h.0
 numbers_plain parts command.Judge h = none_plain (numbers parts) (ap numbers h)
 numbers_plain parts (command.Gen s n w r) h = are_plain (numbers parts) s n h.0
+numbers_plain parts (command.Rollup g w r) h = none_plain (numbers parts) h.0
 
 -- ---- the words of parts are read as these parts
 
 pub reads-number : (o : Option Arguments) (w : List ℕ) (ws : List (List ℕ)) → IsPlain w → reads o (w ∷ ws) ≡ reads (then_with with_number o w) ws
-reads-number o w [] h = alone_number o w h.2
-reads-number o w (x ∷ ws) h = rw (h.0, h.1) (ap (λ (s : Option Arguments). reads s (x ∷ ws)) (alone_number o w h.2))
+reads-number o w [] h = alone_number o w h.3
+reads-number o w (x ∷ ws) h = rw (h.0, h.1, h.2) (ap (λ (s : Option Arguments). reads s (x ∷ ws)) (alone_number o w h.3))
 
 pub reads-flag : (o : Option Arguments) (ws : List (List ℕ)) → reads o (codes "--record" ∷ ws) ≡ reads (then_flag o) ws
 reads-flag o [] = alone_flag o (codes "--record") refl
@@ -61,6 +67,7 @@ reads-parts o [] h = refl
 reads-parts o (number w ∷ parts) h = reads-number o w (flat_map part_words parts) h.0 ∙ reads-parts (then_with with_number o w) parts h.1
 reads-parts o (workers w ∷ parts) h = reads-parts _ parts h
 reads-parts o (rows w ∷ parts) h = reads-parts _ parts h
+reads-parts o (bucket w ∷ parts) h = reads-parts _ parts h
 reads-parts o (recorded ∷ parts) h = reads-flag o (flat_map part_words parts) ∙ reads-parts (then_flag o) parts h
 
 -- ---- the command of words
@@ -79,6 +86,7 @@ name_of-command_word (command.Replay w r) = refl
 name_of-command_word (command.Simulate r b) = refl
 name_of-command_word command.Judge = refl
 name_of-command_word (command.Gen s n w r) = refl
+name_of-command_word (command.Rollup g w r) = refl
 
 meaning_if : (ws : List (List ℕ)) (c : Command) → Means ws c → meaning ws ≡ Some c
 meaning_if ws c m =
@@ -93,27 +101,30 @@ name_word name.Replay = codes "replay"
 name_word name.Simulate = codes "simulate"
 name_word name.Judge = codes "judge"
 name_word name.Gen = codes "gen"
+name_word name.Rollup = codes "rollup"
 
 name_word-command_name : (c : Command) → name_word (command_name c) ≡ command_word c
 name_word-command_name (command.Replay w r) = refl
 name_word-command_name (command.Simulate r b) = refl
 name_word-command_name command.Judge = refl
 name_word-command_name (command.Gen s n w r) = refl
+name_word-command_name (command.Rollup g w r) = refl
 
 -- a word that names a command is its own word
 word_of_name : (w : List ℕ) (c : Command) → name_of w ≡ Some (command_name c) → w ≡ command_word c
-word_of_name w c e = at (bytes_eq w (codes "replay")) refl (bytes_eq w (codes "simulate")) refl (bytes_eq w (codes "judge")) refl (bytes_eq w (codes "gen")) refl e ∙ name_word-command_name c
+word_of_name w c e = at (bytes_eq w (codes "replay")) refl (bytes_eq w (codes "simulate")) refl (bytes_eq w (codes "judge")) refl (bytes_eq w (codes "gen")) refl (bytes_eq w (codes "rollup")) refl e ∙ name_word-command_name c
   where
     is : (n : Name) → w ≡ name_word n → Some n ≡ Some (command_name c) → w ≡ name_word (command_name c)
     is n f e = let same : n ≡ command_name c = cc in f ∙ ap name_word same
 
-    at : (p : Bool) → bytes_eq w (codes "replay") ≡ p → (q : Bool) → bytes_eq w (codes "simulate") ≡ q → (j : Bool) → bytes_eq w (codes "judge") ≡ j → (r : Bool) → bytes_eq w (codes "gen") ≡ r
-        → cond p (Some name.Replay) (cond q (Some name.Simulate) (cond j (Some name.Judge) (cond r (Some name.Gen) None))) ≡ Some (command_name c) → w ≡ name_word (command_name c)
-    at true f q g j k r h e = is name.Replay ((bytes_eq-Decides w (codes "replay")).0 f) e
-    at false f true g j k r h e = is name.Simulate ((bytes_eq-Decides w (codes "simulate")).0 g) e
-    at false f false g true k r h e = is name.Judge ((bytes_eq-Decides w (codes "judge")).0 k) e
-    at false f false g false k true h e = is name.Gen ((bytes_eq-Decides w (codes "gen")).0 h) e
-    at false f false g false k false h e = absurd cc
+    at : (p : Bool) → bytes_eq w (codes "replay") ≡ p → (q : Bool) → bytes_eq w (codes "simulate") ≡ q → (j : Bool) → bytes_eq w (codes "judge") ≡ j → (r : Bool) → bytes_eq w (codes "gen") ≡ r → (u : Bool) → bytes_eq w (codes "rollup") ≡ u
+        → cond p (Some name.Replay) (cond q (Some name.Simulate) (cond j (Some name.Judge) (cond r (Some name.Gen) (cond u (Some name.Rollup) None)))) ≡ Some (command_name c) → w ≡ name_word (command_name c)
+    at true f q g j k r h u i e = is name.Replay ((bytes_eq-Decides w (codes "replay")).0 f) e
+    at false f true g j k r h u i e = is name.Simulate ((bytes_eq-Decides w (codes "simulate")).0 g) e
+    at false f false g true k r h u i e = is name.Judge ((bytes_eq-Decides w (codes "judge")).0 k) e
+    at false f false g false k true h u i e = is name.Gen ((bytes_eq-Decides w (codes "gen")).0 h) e
+    at false f false g false k false h true i e = is name.Rollup ((bytes_eq-Decides w (codes "rollup")).0 i) e
+    at false f false g false k false h false i e = absurd cc
 
 means_if : (w : List ℕ) (ws : List (List ℕ)) (n : Name) (a : Arguments) (c : Command) → name_of w ≡ Some n → reads (Some no_arguments) ws ≡ Some a → picked n a ≡ Some c → Means (w ∷ ws) c
 means_if w ws n a c e f h =

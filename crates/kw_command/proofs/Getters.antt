@@ -10,7 +10,7 @@ use Rattle.std.proofs.lemmas.Str.Parse.{parse_digits}
 use Rattle.kw_command.specs.declared.words.Arguments.{Arguments}
 use Rattle.kw_command.specs.Words.{is_digits, is_known, number_in}
 use Rattle.kw_command.specs.Reading.{no_arguments, reads}
-use Rattle.kw_command.specs.Clap.{Field, start, count, workers, rows, id_of, flag_id, least_of, most_of, kiwi}
+use Rattle.kw_command.specs.Clap.{Field, start, count, workers, rows, bucket, id_of, flag_id, least_of, most_of, kiwi}
 use Rattle.kw_command.proofs.Numbers.{all_digits, own}
 use Rattle.kw_command.proofs.Walk.{Use, row_for, value_in, flag_in, flag_text, one_of-uses, one_of-flag, stands, kinds_from, fault_of-kiwi}
 use Rattle.kw_command.proofs.Parsed.{field_of, Fits, HasNumbers}
@@ -49,6 +49,7 @@ most_fits start = omega arith
 most_fits count = omega arith
 most_fits workers = omega arith
 most_fits rows = omega arith
+most_fits bucket = omega arith
 
 -- what is read of a word that writes a number in range
 read_of : {E : Type 0} (least most n : ℕ) (w : List ℕ) (gives : List ℕ → Result ℕ E → Type 0) → ((t : List ℕ) (x : Result ℕ E) → gives t x → ParsesUnsigned 32 10 t x) → most < 2 ^ 32
@@ -111,6 +112,7 @@ parsed ws e =
     fits count = tt
     fits workers = tt
     fits rows = tt
+    fits bucket = tt
 
 is_simple_kiwi : (is_simple kiwi ≡ true) × (is_simple_and_free kiwi ≡ true)
 is_simple_kiwi = (refl, refl)

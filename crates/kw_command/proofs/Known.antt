@@ -13,7 +13,8 @@ use Rattle.kw_command.specs.declared.words.TheConstants.{MOST_DIGITS}
 use Rattle.kw_command.specs.Words.{is_digits, is_known, number_in}
 use Rattle.kw_command.specs.Clap.{least_of, most_of}
 use Rattle.kw_command.proofs.Numbers.{all_digits, own}
-use Rattle.kw_command.proofs.Tokens.{Token, workers_name, rows_name, flag_name, plain, token_word, words_of, IsToken}
+use Rattle.kw_command.proofs.Walk.{workers_name, rows_name, bucket_name}
+use Rattle.kw_command.proofs.Tokens.{Token, named, flag_name, plain, token_word, words_of, IsToken}
 use Rattle.clap.specs.ValueTests.{is_numeral, is_signed_in, fits_i64}
 
 -- the parts of the test for digits
@@ -114,18 +115,25 @@ digits_token (x ∷ xs) e =
     }
 
 token_of : (w : List ℕ) → is_known w ≡ true → IsTokenOf w
-token_of w e = at (bytes_eq w (codes "replay")) refl (bytes_eq w (codes "simulate")) refl (bytes_eq w (codes "judge")) refl (bytes_eq w (codes "gen")) refl (bytes_eq w (codes "--workers")) refl (bytes_eq w (codes "--rows")) refl (bytes_eq w (codes "--record")) refl e
+token_of w e = at (bytes_eq w (codes "replay")) refl (bytes_eq w (codes "simulate")) refl (bytes_eq w (codes "judge")) refl (bytes_eq w (codes "gen")) refl (bytes_eq w (codes "rollup")) refl
+    (bytes_eq w (codes "--workers")) refl (bytes_eq w (codes "--rows")) refl (bytes_eq w (codes "--bucket")) refl (bytes_eq w (codes "--record")) refl e
   where
-    at : (a : Bool) → bytes_eq w (codes "replay") ≡ a → (b : Bool) → bytes_eq w (codes "simulate") ≡ b → (j : Bool) → bytes_eq w (codes "judge") ≡ j → (c : Bool) → bytes_eq w (codes "gen") ≡ c → (d : Bool) → bytes_eq w (codes "--workers") ≡ d
-        → (r : Bool) → bytes_eq w (codes "--rows") ≡ r → (s : Bool) → bytes_eq w (codes "--record") ≡ s → (a || (b || (j || (c || (d || (r || (s || is_digits w))))))) ≡ true → IsTokenOf w
-    at true f b g j k c h d i r l s m e = record { token = plain 114 (codes "eplay"); word = (bytes_eq-Decides w (codes "replay")).0 f; is = (refl, λ f. refl) }
-    at false f true g j k c h d i r l s m e = record { token = plain 115 (codes "imulate"); word = (bytes_eq-Decides w (codes "simulate")).0 g; is = (refl, λ f. refl) }
-    at false f false g true k c h d i r l s m e = record { token = plain 106 (codes "udge"); word = (bytes_eq-Decides w (codes "judge")).0 k; is = (refl, λ f. refl) }
-    at false f false g false k true h d i r l s m e = record { token = plain 103 (codes "en"); word = (bytes_eq-Decides w (codes "gen")).0 h; is = (refl, λ f. refl) }
-    at false f false g false k false h true i r l s m e = record { token = workers_name; word = (bytes_eq-Decides w (codes "--workers")).0 i; is = tt }
-    at false f false g false k false h false i true l s m e = record { token = rows_name; word = (bytes_eq-Decides w (codes "--rows")).0 l; is = tt }
-    at false f false g false k false h false i false l true m e = record { token = flag_name; word = (bytes_eq-Decides w (codes "--record")).0 m; is = tt }
-    at false f false g false k false h false i false l false m e = digits_token w e
+    same : (other : List ℕ) → bytes_eq w other ≡ true → w ≡ other
+    same other e = (bytes_eq-Decides w other).0 e
+
+    at : (a : Bool) → bytes_eq w (codes "replay") ≡ a → (b : Bool) → bytes_eq w (codes "simulate") ≡ b → (j : Bool) → bytes_eq w (codes "judge") ≡ j → (c : Bool) → bytes_eq w (codes "gen") ≡ c → (u : Bool) → bytes_eq w (codes "rollup") ≡ u
+        → (d : Bool) → bytes_eq w (codes "--workers") ≡ d → (r : Bool) → bytes_eq w (codes "--rows") ≡ r → (t : Bool) → bytes_eq w (codes "--bucket") ≡ t → (s : Bool) → bytes_eq w (codes "--record") ≡ s
+        → (a || (b || (j || (c || (u || (d || (r || (t || (s || is_digits w))))))))) ≡ true → IsTokenOf w
+    at true f b g j k c h u q d i r l t v s m e = record { token = plain 114 (codes "eplay"); word = same (codes "replay") f; is = (refl, λ f. refl) }
+    at false f true g j k c h u q d i r l t v s m e = record { token = plain 115 (codes "imulate"); word = same (codes "simulate") g; is = (refl, λ f. refl) }
+    at false f false g true k c h u q d i r l t v s m e = record { token = plain 106 (codes "udge"); word = same (codes "judge") k; is = (refl, λ f. refl) }
+    at false f false g false k true h u q d i r l t v s m e = record { token = plain 103 (codes "en"); word = same (codes "gen") h; is = (refl, λ f. refl) }
+    at false f false g false k false h true q d i r l t v s m e = record { token = plain 114 (codes "ollup"); word = same (codes "rollup") q; is = (refl, λ f. refl) }
+    at false f false g false k false h false q true i r l t v s m e = record { token = named workers_name; word = same (codes "--workers") i; is = tt }
+    at false f false g false k false h false q false i true l t v s m e = record { token = named rows_name; word = same (codes "--rows") l; is = tt }
+    at false f false g false k false h false q false i false l true v s m e = record { token = named bucket_name; word = same (codes "--bucket") v; is = tt }
+    at false f false g false k false h false q false i false l false v true m e = record { token = flag_name; word = same (codes "--record") m; is = tt }
+    at false f false g false k false h false q false i false l false v false m e = digits_token w e
 
 pub record AreTokensOf (ws : List (List ℕ)) : Type 0 where
   pub tokens : List Token

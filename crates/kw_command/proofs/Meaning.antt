@@ -4,8 +4,8 @@ use Rattle.std.specs.List.{flat_map}
 use Rattle.std.specs.Str.{bytes_eq}
 use Rattle.std.proofs.lemmas.Slice.Eq.{bytes_eq-Decides}
 use Rattle.kw_command.specs.declared.words.Arguments.{Arguments}
-use Rattle.kw_command.specs.Words.{Part, number, workers, rows, recorded, part_words}
-use Rattle.kw_command.specs.Reading.{with_workers, with_rows, with_number, with_flag, with_alone, then_with, reads}
+use Rattle.kw_command.specs.Words.{Part, number, workers, rows, bucket, recorded, part_words}
+use Rattle.kw_command.specs.Reading.{with_workers, with_rows, with_bucket, with_number, with_flag, with_alone, then_with, reads}
 
 -- ---- the words read one after the other, and the parts that they are
 
@@ -29,6 +29,7 @@ adds o [] = o
 adds o (number w ∷ parts) = adds (then_with with_number o w) parts
 adds o (workers w ∷ parts) = adds (then_with with_workers o w) parts
 adds o (rows w ∷ parts) = adds (then_with with_rows o w) parts
+adds o (bucket w ∷ parts) = adds (then_with with_bucket o w) parts
 adds o (recorded ∷ parts) = adds (then_flag o) parts
 
 -- where there are none any more, there stay none
@@ -37,6 +38,7 @@ adds_none [] = refl
 adds_none (number w ∷ parts) = adds_none parts
 adds_none (workers w ∷ parts) = adds_none parts
 adds_none (rows w ∷ parts) = adds_none parts
+adds_none (bucket w ∷ parts) = adds_none parts
 adds_none (recorded ∷ parts) = adds_none parts
 
 same_either_way : {X : Type 0} (b : Bool) (x y z : X) → x ≡ z → y ≡ z → cond b x y ≡ z
@@ -48,7 +50,8 @@ reads_none [] = refl
 reads_none (w ∷ []) = refl
 reads_none (w ∷ x ∷ ws) =
     same_either_way (bytes_eq w (codes "--workers")) _ _ None (reads_none ws)
-    (same_either_way (bytes_eq w (codes "--rows")) _ _ None (reads_none ws) (reads_none (x ∷ ws)))
+    (same_either_way (bytes_eq w (codes "--rows")) _ _ None (reads_none ws)
+    (same_either_way (bytes_eq w (codes "--bucket")) _ _ None (reads_none ws) (reads_none (x ∷ ws))))
 
 -- words are parts, which add what reading the words adds
 pub record IsCut (o : Option Arguments) (ws : List (List ℕ)) (b : Option Arguments) : Type 0 where
@@ -61,6 +64,9 @@ more_workers o b w x ws e c = record { parts = workers x ∷ c.parts; cut = ap (
 
 more_rows : (o b : Option Arguments) (w x : List ℕ) (ws : List (List ℕ)) → w ≡ codes "--rows" → IsCut (then_with with_rows o x) ws b → IsCut o (w ∷ x ∷ ws) b
 more_rows o b w x ws e c = record { parts = rows x ∷ c.parts; cut = ap (λ (l : List ℕ). l ∷ x ∷ ws) e ∙ ap (λ (l : List (List ℕ)). codes "--rows" ∷ x ∷ l) c.cut; adds_are = c.adds_are }
+
+more_bucket : (o b : Option Arguments) (w x : List ℕ) (ws : List (List ℕ)) → w ≡ codes "--bucket" → IsCut (then_with with_bucket o x) ws b → IsCut o (w ∷ x ∷ ws) b
+more_bucket o b w x ws e c = record { parts = bucket x ∷ c.parts; cut = ap (λ (l : List ℕ). l ∷ x ∷ ws) e ∙ ap (λ (l : List (List ℕ)). codes "--bucket" ∷ x ∷ l) c.cut; adds_are = c.adds_are }
 
 more_numbers : (o b : Option Arguments) (w : List ℕ) (ws : List (List ℕ)) → IsCut (then_with with_number o w) ws b → IsCut o (w ∷ ws) b
 more_numbers o b w ws c = record { parts = number w ∷ c.parts; cut = ap (λ (l : List (List ℕ)). w ∷ l) c.cut; adds_are = c.adds_are }
@@ -76,16 +82,17 @@ more_alone o b w ws c = at (bytes_eq w (codes "--record")) refl
     at true e = more_flags o b w ws ((bytes_eq-Decides w (codes "--record")).0 e) (subst (λ (x : Option Arguments). IsCut x ws b) (alone_flag o w e) c)
     at false e = more_numbers o b w ws (subst (λ (x : Option Arguments). IsCut x ws b) (alone_number o w e) c)
 
-cut_by : (o b : Option Arguments) (w x : List ℕ) (ws : List (List ℕ)) (p q : Bool) → bytes_eq w (codes "--workers") ≡ p → bytes_eq w (codes "--rows") ≡ q
+cut_by : (o : Option Arguments) (w x : List ℕ) (ws : List (List ℕ)) (p q r : Bool) → bytes_eq w (codes "--workers") ≡ p → bytes_eq w (codes "--rows") ≡ q → bytes_eq w (codes "--bucket") ≡ r
     → IsCut (then_with with_workers o x) ws (reads (then_with with_workers o x) ws) → IsCut (then_with with_rows o x) ws (reads (then_with with_rows o x) ws)
-    → IsCut (then_with with_alone o w) (x ∷ ws) (reads (then_with with_alone o w) (x ∷ ws))
-    → IsCut o (w ∷ x ∷ ws) (cond p (reads (then_with with_workers o x) ws) (cond q (reads (then_with with_rows o x) ws) (reads (then_with with_alone o w) (x ∷ ws))))
-cut_by o b w x ws true q e f h i j = more_workers o _ w x ws ((bytes_eq-Decides w (codes "--workers")).0 e) h
-cut_by o b w x ws false true e f h i j = more_rows o _ w x ws ((bytes_eq-Decides w (codes "--rows")).0 f) i
-cut_by o b w x ws false false e f h i j = more_alone o _ w (x ∷ ws) j
+    → IsCut (then_with with_bucket o x) ws (reads (then_with with_bucket o x) ws) → IsCut (then_with with_alone o w) (x ∷ ws) (reads (then_with with_alone o w) (x ∷ ws))
+    → IsCut o (w ∷ x ∷ ws) (cond p (reads (then_with with_workers o x) ws) (cond q (reads (then_with with_rows o x) ws) (cond r (reads (then_with with_bucket o x) ws) (reads (then_with with_alone o w) (x ∷ ws)))))
+cut_by o w x ws true q r e f g h i k j = more_workers o _ w x ws ((bytes_eq-Decides w (codes "--workers")).0 e) h
+cut_by o w x ws false true r e f g h i k j = more_rows o _ w x ws ((bytes_eq-Decides w (codes "--rows")).0 f) i
+cut_by o w x ws false false true e f g h i k j = more_bucket o _ w x ws ((bytes_eq-Decides w (codes "--bucket")).0 g) k
+cut_by o w x ws false false false e f g h i k j = more_alone o _ w (x ∷ ws) j
 
 pub cut_of : (o : Option Arguments) (ws : List (List ℕ)) → IsCut o ws (reads o ws)
 cut_of o [] = record { parts = []; cut = refl; adds_are = refl }
 cut_of o (w ∷ []) = more_alone o _ w [] (record { parts = []; cut = refl; adds_are = refl })
-cut_of o (w ∷ x ∷ ws) = cut_by o o w x ws (bytes_eq w (codes "--workers")) (bytes_eq w (codes "--rows")) refl refl
-    (cut_of (then_with with_workers o x) ws) (cut_of (then_with with_rows o x) ws) (cut_of (then_with with_alone o w) (x ∷ ws))
+cut_of o (w ∷ x ∷ ws) = cut_by o w x ws (bytes_eq w (codes "--workers")) (bytes_eq w (codes "--rows")) (bytes_eq w (codes "--bucket")) refl refl refl
+    (cut_of (then_with with_workers o x) ws) (cut_of (then_with with_rows o x) ws) (cut_of (then_with with_bucket o x) ws) (cut_of (then_with with_alone o w) (x ∷ ws))

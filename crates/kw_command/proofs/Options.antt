@@ -6,10 +6,10 @@ use Rattle.kw_command.specs.declared.command.Command.{Command}
 use Rattle.kw_command.specs.declared.command.Command.TheVariants as command
 use Rattle.kw_command.specs.declared.command.Name.{Name}
 use Rattle.kw_command.specs.declared.command.Name.TheVariants as name
-use Rattle.kw_command.specs.declared.command.TheConstants.{MOST_WORKERS, DEFAULT_WORKERS, FEWEST_ROWS, DEFAULT_ROWS, SIMULATED_ROWS, MOST_START, MOST_LINES}
+use Rattle.kw_command.specs.declared.command.TheConstants.{MOST_WORKERS, DEFAULT_WORKERS, FEWEST_ROWS, DEFAULT_ROWS, SIMULATED_ROWS, MOST_START, MOST_LINES, MOST_BUCKET}
 use Rattle.kw_command.specs.declared.words.Arguments.{Arguments}
-use Rattle.kw_command.specs.Words.{Part, number, workers, rows, recorded, numbers, all_workers, all_rows, all_flags, number_in, IsOption, IsFlag, AreNumbers, Makes}
-use Rattle.kw_command.specs.Reading.{once, with_workers, with_rows, with_number, then_with, no_arguments, picked, picked_from}
+use Rattle.kw_command.specs.Words.{Part, number, workers, rows, bucket, recorded, numbers, all_workers, all_rows, all_buckets, all_flags, number_in, IsOption, IsGiven, IsFlag, AreNumbers, Makes}
+use Rattle.kw_command.specs.Reading.{once, with_workers, with_rows, with_bucket, with_number, then_with, no_arguments, picked, picked_from}
 use Rattle.kw_command.proofs.Meaning.{adds, then_flag}
 
 -- what is known of an option after one more word that it is given, or none where it is one too many
@@ -43,84 +43,109 @@ filled_flag o [] = o
 filled_flag o (w ∷ ws) = filled_flag (fill_flag o) ws
 
 -- the arguments with what is known of each
-abbrev pub joined : Option (Option ℕ × Option ℕ) → Option (Option ℕ) → Option (Option ℕ) → Option Bool → Option Arguments
-joined None w r b = None
-joined (Some n) None r b = None
-joined (Some n) (Some w) None b = None
-joined (Some n) (Some w) (Some r) None = None
-joined (Some n) (Some w) (Some r) (Some b) = Some (record { start = n.0; count = n.1; workers = w; rows = r; recorded = b })
+abbrev pub joined : Option (Option ℕ × Option ℕ) → Option (Option ℕ) → Option (Option ℕ) → Option (Option ℕ) → Option Bool → Option Arguments
+joined None w r g b = None
+joined (Some n) None r g b = None
+joined (Some n) (Some w) None g b = None
+joined (Some n) (Some w) (Some r) None b = None
+joined (Some n) (Some w) (Some r) (Some g) None = None
+joined (Some n) (Some w) (Some r) (Some g) (Some b) = Some (record { start = n.0; count = n.1; workers = w; rows = r; bucket = g; recorded = b })
 
-no_workers : (n : Option (Option ℕ × Option ℕ)) (r : Option (Option ℕ)) (b : Option Bool) → None ≡ joined n None r b
-no_workers None r b = refl
-no_workers (Some n) r b = refl
+no_workers : (n : Option (Option ℕ × Option ℕ)) (r g : Option (Option ℕ)) (b : Option Bool) → None ≡ joined n None r g b
+no_workers None r g b = refl
+no_workers (Some n) r g b = refl
 
-no_rows : (n : Option (Option ℕ × Option ℕ)) (w : Option (Option ℕ)) (b : Option Bool) → None ≡ joined n w None b
-no_rows None w b = refl
-no_rows (Some n) None b = refl
-no_rows (Some n) (Some w) b = refl
+no_rows : (n : Option (Option ℕ × Option ℕ)) (w g : Option (Option ℕ)) (b : Option Bool) → None ≡ joined n w None g b
+no_rows None w g b = refl
+no_rows (Some n) None g b = refl
+no_rows (Some n) (Some w) g b = refl
 
-no_flag : (n : Option (Option ℕ × Option ℕ)) (w r : Option (Option ℕ)) → None ≡ joined n w r None
-no_flag None w r = refl
-no_flag (Some n) None r = refl
-no_flag (Some n) (Some w) None = refl
-no_flag (Some n) (Some w) (Some r) = refl
+no_bucket : (n : Option (Option ℕ × Option ℕ)) (w r : Option (Option ℕ)) (b : Option Bool) → None ≡ joined n w r None b
+no_bucket None w r b = refl
+no_bucket (Some n) None r b = refl
+no_bucket (Some n) (Some w) None b = refl
+no_bucket (Some n) (Some w) (Some r) b = refl
+
+no_flag : (n : Option (Option ℕ × Option ℕ)) (w r g : Option (Option ℕ)) → None ≡ joined n w r g None
+no_flag None w r g = refl
+no_flag (Some n) None r g = refl
+no_flag (Some n) (Some w) None g = refl
+no_flag (Some n) (Some w) (Some r) None = refl
+no_flag (Some n) (Some w) (Some r) (Some g) = refl
 
 -- one more word, for each kind of part
-add_workers : (n : Option (Option ℕ × Option ℕ)) (w r : Option (Option ℕ)) (b : Option Bool) (x : List ℕ) → then_with with_workers (joined n w r b) x ≡ joined n (fill w 1 MOST_WORKERS x) r b
-add_workers None w r b x = refl
-add_workers (Some n) None r b x = refl
-add_workers (Some n) (Some w) None b x = no_rows (Some n) (fill (Some w) 1 MOST_WORKERS x) b
-add_workers (Some n) (Some w) (Some r) None x = no_flag (Some n) (fill (Some w) 1 MOST_WORKERS x) (Some r)
-add_workers (Some n) (Some w) (Some r) (Some b) x = at (once w 1 MOST_WORKERS x)
+add_workers : (n : Option (Option ℕ × Option ℕ)) (w r g : Option (Option ℕ)) (b : Option Bool) (x : List ℕ) → then_with with_workers (joined n w r g b) x ≡ joined n (fill w 1 MOST_WORKERS x) r g b
+add_workers None w r g b x = refl
+add_workers (Some n) None r g b x = refl
+add_workers (Some n) (Some w) None g b x = no_rows (Some n) (fill (Some w) 1 MOST_WORKERS x) g b
+add_workers (Some n) (Some w) (Some r) None b x = no_bucket (Some n) (fill (Some w) 1 MOST_WORKERS x) (Some r) b
+add_workers (Some n) (Some w) (Some r) (Some g) None x = no_flag (Some n) (fill (Some w) 1 MOST_WORKERS x) (Some r) (Some g)
+add_workers (Some n) (Some w) (Some r) (Some g) (Some b) x = at (once w 1 MOST_WORKERS x)
   where
-    at : (o : Option ℕ) → option_map (λ k. record { start = n.0; count = n.1; workers = Some k; rows = r; recorded = b }) o ≡ joined (Some n) (option_map (λ k. Some k) o) (Some r) (Some b)
+    at : (o : Option ℕ) → option_map (λ k. record { start = n.0; count = n.1; workers = Some k; rows = r; bucket = g; recorded = b }) o ≡ joined (Some n) (option_map (λ k. Some k) o) (Some r) (Some g) (Some b)
     at None = refl
     at (Some k) = refl
 
-add_rows : (n : Option (Option ℕ × Option ℕ)) (w r : Option (Option ℕ)) (b : Option Bool) (x : List ℕ) → then_with with_rows (joined n w r b) x ≡ joined n w (fill r FEWEST_ROWS MOST_ROWS x) b
-add_rows None w r b x = refl
-add_rows (Some n) None r b x = refl
-add_rows (Some n) (Some w) None b x = refl
-add_rows (Some n) (Some w) (Some r) None x = no_flag (Some n) (Some w) (fill (Some r) FEWEST_ROWS MOST_ROWS x)
-add_rows (Some n) (Some w) (Some r) (Some b) x = at (once r FEWEST_ROWS MOST_ROWS x)
+add_rows : (n : Option (Option ℕ × Option ℕ)) (w r g : Option (Option ℕ)) (b : Option Bool) (x : List ℕ) → then_with with_rows (joined n w r g b) x ≡ joined n w (fill r FEWEST_ROWS MOST_ROWS x) g b
+add_rows None w r g b x = refl
+add_rows (Some n) None r g b x = refl
+add_rows (Some n) (Some w) None g b x = refl
+add_rows (Some n) (Some w) (Some r) None b x = no_bucket (Some n) (Some w) (fill (Some r) FEWEST_ROWS MOST_ROWS x) b
+add_rows (Some n) (Some w) (Some r) (Some g) None x = no_flag (Some n) (Some w) (fill (Some r) FEWEST_ROWS MOST_ROWS x) (Some g)
+add_rows (Some n) (Some w) (Some r) (Some g) (Some b) x = at (once r FEWEST_ROWS MOST_ROWS x)
   where
-    at : (o : Option ℕ) → option_map (λ k. record { start = n.0; count = n.1; workers = w; rows = Some k; recorded = b }) o ≡ joined (Some n) (Some w) (option_map (λ k. Some k) o) (Some b)
+    at : (o : Option ℕ) → option_map (λ k. record { start = n.0; count = n.1; workers = w; rows = Some k; bucket = g; recorded = b }) o ≡ joined (Some n) (Some w) (option_map (λ k. Some k) o) (Some g) (Some b)
     at None = refl
     at (Some k) = refl
 
-add_number : (n : Option (Option ℕ × Option ℕ)) (w r : Option (Option ℕ)) (b : Option Bool) (x : List ℕ) → then_with with_number (joined n w r b) x ≡ joined (fill_pair n x) w r b
-add_number None w r b x = refl
-add_number (Some n) None r b x = no_workers (fill_pair (Some n) x) r b
-add_number (Some n) (Some w) None b x = no_rows (fill_pair (Some n) x) (Some w) b
-add_number (Some n) (Some w) (Some r) None x = no_flag (fill_pair (Some n) x) (Some w) (Some r)
-add_number (Some (None, m)) (Some w) (Some r) (Some b) x = at (number_in 0 MOST_START x)
+add_bucket : (n : Option (Option ℕ × Option ℕ)) (w r g : Option (Option ℕ)) (b : Option Bool) (x : List ℕ) → then_with with_bucket (joined n w r g b) x ≡ joined n w r (fill g 1 MOST_BUCKET x) b
+add_bucket None w r g b x = refl
+add_bucket (Some n) None r g b x = refl
+add_bucket (Some n) (Some w) None g b x = refl
+add_bucket (Some n) (Some w) (Some r) None b x = refl
+add_bucket (Some n) (Some w) (Some r) (Some g) None x = no_flag (Some n) (Some w) (Some r) (fill (Some g) 1 MOST_BUCKET x)
+add_bucket (Some n) (Some w) (Some r) (Some g) (Some b) x = at (once g 1 MOST_BUCKET x)
   where
-    at : (o : Option ℕ) → option_map (λ k. record { start = Some k; count = m; workers = w; rows = r; recorded = b }) o ≡ joined (option_map (λ s. (Some s, m)) o) (Some w) (Some r) (Some b)
-    at None = refl
-    at (Some k) = refl
-add_number (Some (Some s, m)) (Some w) (Some r) (Some b) x = at (once m 1 MOST_LINES x)
-  where
-    at : (o : Option ℕ) → option_map (λ k. record { start = Some s; count = Some k; workers = w; rows = r; recorded = b }) o ≡ joined (option_map (λ k. (Some s, Some k)) o) (Some w) (Some r) (Some b)
+    at : (o : Option ℕ) → option_map (λ k. record { start = n.0; count = n.1; workers = w; rows = r; bucket = Some k; recorded = b }) o ≡ joined (Some n) (Some w) (Some r) (option_map (λ k. Some k) o) (Some b)
     at None = refl
     at (Some k) = refl
 
-add_flag : (n : Option (Option ℕ × Option ℕ)) (w r : Option (Option ℕ)) (b : Option Bool) → then_flag (joined n w r b) ≡ joined n w r (fill_flag b)
-add_flag None w r b = refl
-add_flag (Some n) None r b = refl
-add_flag (Some n) (Some w) None b = refl
-add_flag (Some n) (Some w) (Some r) None = refl
-add_flag (Some n) (Some w) (Some r) (Some true) = refl
-add_flag (Some n) (Some w) (Some r) (Some false) = refl
+add_number : (n : Option (Option ℕ × Option ℕ)) (w r g : Option (Option ℕ)) (b : Option Bool) (x : List ℕ) → then_with with_number (joined n w r g b) x ≡ joined (fill_pair n x) w r g b
+add_number None w r g b x = refl
+add_number (Some n) None r g b x = no_workers (fill_pair (Some n) x) r g b
+add_number (Some n) (Some w) None g b x = no_rows (fill_pair (Some n) x) (Some w) g b
+add_number (Some n) (Some w) (Some r) None b x = no_bucket (fill_pair (Some n) x) (Some w) (Some r) b
+add_number (Some n) (Some w) (Some r) (Some g) None x = no_flag (fill_pair (Some n) x) (Some w) (Some r) (Some g)
+add_number (Some (None, m)) (Some w) (Some r) (Some g) (Some b) x = at (number_in 0 MOST_START x)
+  where
+    at : (o : Option ℕ) → option_map (λ k. record { start = Some k; count = m; workers = w; rows = r; bucket = g; recorded = b }) o ≡ joined (option_map (λ s. (Some s, m)) o) (Some w) (Some r) (Some g) (Some b)
+    at None = refl
+    at (Some k) = refl
+add_number (Some (Some s, m)) (Some w) (Some r) (Some g) (Some b) x = at (once m 1 MOST_LINES x)
+  where
+    at : (o : Option ℕ) → option_map (λ k. record { start = Some s; count = Some k; workers = w; rows = r; bucket = g; recorded = b }) o ≡ joined (option_map (λ k. (Some s, Some k)) o) (Some w) (Some r) (Some g) (Some b)
+    at None = refl
+    at (Some k) = refl
+
+add_flag : (n : Option (Option ℕ × Option ℕ)) (w r g : Option (Option ℕ)) (b : Option Bool) → then_flag (joined n w r g b) ≡ joined n w r g (fill_flag b)
+add_flag None w r g b = refl
+add_flag (Some n) None r g b = refl
+add_flag (Some n) (Some w) None g b = refl
+add_flag (Some n) (Some w) (Some r) None b = refl
+add_flag (Some n) (Some w) (Some r) (Some g) None = refl
+add_flag (Some n) (Some w) (Some r) (Some g) (Some true) = refl
+add_flag (Some n) (Some w) (Some r) (Some g) (Some false) = refl
 
 -- parts add to each option what it is given
-pub adds-joined : (n : Option (Option ℕ × Option ℕ)) (w r : Option (Option ℕ)) (b : Option Bool) (parts : List Part)
-    → adds (joined n w r b) parts
-    ≡ joined (filled_pair n (numbers parts)) (filled w 1 MOST_WORKERS (all_workers parts)) (filled r FEWEST_ROWS MOST_ROWS (all_rows parts)) (filled_flag b (all_flags parts))
-adds-joined n w r b [] = refl
-adds-joined n w r b (number x ∷ parts) = ap (λ (o : Option Arguments). adds o parts) (add_number n w r b x) ∙ adds-joined (fill_pair n x) w r b parts
-adds-joined n w r b (workers x ∷ parts) = ap (λ (o : Option Arguments). adds o parts) (add_workers n w r b x) ∙ adds-joined n (fill w 1 MOST_WORKERS x) r b parts
-adds-joined n w r b (rows x ∷ parts) = ap (λ (o : Option Arguments). adds o parts) (add_rows n w r b x) ∙ adds-joined n w (fill r FEWEST_ROWS MOST_ROWS x) b parts
-adds-joined n w r b (recorded ∷ parts) = ap (λ (o : Option Arguments). adds o parts) (add_flag n w r b) ∙ adds-joined n w r (fill_flag b) parts
+pub adds-joined : (n : Option (Option ℕ × Option ℕ)) (w r g : Option (Option ℕ)) (b : Option Bool) (parts : List Part)
+    → adds (joined n w r g b) parts
+    ≡ joined (filled_pair n (numbers parts)) (filled w 1 MOST_WORKERS (all_workers parts)) (filled r FEWEST_ROWS MOST_ROWS (all_rows parts)) (filled g 1 MOST_BUCKET (all_buckets parts)) (filled_flag b (all_flags parts))
+adds-joined n w r g b [] = refl
+adds-joined n w r g b (number x ∷ parts) = ap (λ (o : Option Arguments). adds o parts) (add_number n w r g b x) ∙ adds-joined (fill_pair n x) w r g b parts
+adds-joined n w r g b (workers x ∷ parts) = ap (λ (o : Option Arguments). adds o parts) (add_workers n w r g b x) ∙ adds-joined n (fill w 1 MOST_WORKERS x) r g b parts
+adds-joined n w r g b (rows x ∷ parts) = ap (λ (o : Option Arguments). adds o parts) (add_rows n w r g b x) ∙ adds-joined n w (fill r FEWEST_ROWS MOST_ROWS x) g b parts
+adds-joined n w r g b (bucket x ∷ parts) = ap (λ (o : Option Arguments). adds o parts) (add_bucket n w r g b x) ∙ adds-joined n w r (fill g 1 MOST_BUCKET x) b parts
+adds-joined n w r g b (recorded ∷ parts) = ap (λ (o : Option Arguments). adds o parts) (add_flag n w r g b) ∙ adds-joined n w r g (fill_flag b) parts
 
 -- ---- which words an option may be given
 
@@ -151,6 +176,20 @@ pub known_of : (least most default : ℕ) (ws : List (List ℕ)) (n : ℕ) → I
 known_of least most default [] n h = (None, refl, h)
 known_of least most default (w ∷ []) n h = (Some n, ap (option_map (λ k. Some k)) h, refl)
 known_of least most default (w ∷ x ∷ ws) n h = absurd h
+
+-- an option that must stand was given once where its number is known, and the other way round
+pub given_is : (least most : ℕ) (ws : List (List ℕ)) (n : ℕ) → filled (Some None) least most ws ≡ Some (Some n) → IsGiven least most ws n
+given_is least most [] n e = cc
+given_is least most (w ∷ ws) n e = at ws (option_is least most 0 (w ∷ ws) (Some n) e)
+  where
+    at : (vs : List (List ℕ)) → IsOption least most 0 (w ∷ vs) n → IsGiven least most (w ∷ vs) n
+    at [] h = h
+    at (v ∷ vs) h = h
+
+pub given_known : (least most : ℕ) (ws : List (List ℕ)) (n : ℕ) → IsGiven least most ws n → filled (Some None) least most ws ≡ Some (Some n)
+given_known least most [] n h = absurd h
+given_known least most (w ∷ []) n h = ap (option_map (λ k. Some k)) h
+given_known least most (w ∷ x ∷ ws) n h = absurd h
 
 -- an option that was not given is not known, and one that is not known was not given
 pub none_given : (least most : ℕ) (ws : List (List ℕ)) → filled (Some None) least most ws ≡ Some None → ws ≡ []
@@ -251,16 +290,13 @@ command_name (command.Replay w r) = name.Replay
 command_name (command.Simulate r b) = name.Simulate
 command_name command.Judge = name.Judge
 command_name (command.Gen s n w r) = name.Gen
+command_name (command.Rollup g w r) = name.Rollup
 
 -- what parts add, where each option is known
-adds_known : (parts : List Part) (n : Option ℕ × Option ℕ) (w r : Option ℕ) (b : Bool) → filled_pair (Some (None, None)) (numbers parts) ≡ Some n
-    → filled (Some None) 1 MOST_WORKERS (all_workers parts) ≡ Some w → filled (Some None) FEWEST_ROWS MOST_ROWS (all_rows parts) ≡ Some r → filled_flag (Some false) (all_flags parts) ≡ Some b
-    → adds (Some no_arguments) parts ≡ Some (record { start = n.0; count = n.1; workers = w; rows = r; recorded = b })
-adds_known parts n w r b e f g h =
-    adds-joined (Some (None, None)) (Some None) (Some None) (Some false) parts
-    ∙ (ap (λ (x : Option (Option ℕ × Option ℕ)). joined x (filled (Some None) 1 MOST_WORKERS (all_workers parts)) (filled (Some None) FEWEST_ROWS MOST_ROWS (all_rows parts)) (filled_flag (Some false) (all_flags parts))) e
-    ∙ (ap (λ (x : Option (Option ℕ)). joined (Some n) x (filled (Some None) FEWEST_ROWS MOST_ROWS (all_rows parts)) (filled_flag (Some false) (all_flags parts))) f
-    ∙ (ap (λ (x : Option (Option ℕ)). joined (Some n) (Some w) x (filled_flag (Some false) (all_flags parts))) g ∙ ap (joined (Some n) (Some w) (Some r)) h)))
+adds_known : (parts : List Part) (n : Option ℕ × Option ℕ) (w r g : Option ℕ) (b : Bool) → filled_pair (Some (None, None)) (numbers parts) ≡ Some n
+    → filled (Some None) 1 MOST_WORKERS (all_workers parts) ≡ Some w → filled (Some None) FEWEST_ROWS MOST_ROWS (all_rows parts) ≡ Some r → filled (Some None) 1 MOST_BUCKET (all_buckets parts) ≡ Some g
+    → filled_flag (Some false) (all_flags parts) ≡ Some b → adds (Some no_arguments) parts ≡ Some (record { start = n.0; count = n.1; workers = w; rows = r; bucket = g; recorded = b })
+adds_known parts n w r g b e f h i j = adds-joined (Some (None, None)) (Some None) (Some None) (Some None) (Some false) parts ∙ rw (e, f, h, i, j)
 
 -- parts that make a command add the arguments of which it is picked
 pub record IsPicked (parts : List Part) (c : Command) : Type 0 where
@@ -273,15 +309,15 @@ picks parts (command.Replay w r) h =
     let known_workers = known_of 1 MOST_WORKERS DEFAULT_WORKERS (all_workers parts) w h.1 in
     let known_rows = known_of FEWEST_ROWS MOST_ROWS DEFAULT_ROWS (all_rows parts) r h.2 in
     record {
-      arguments = record { start = None; count = None; workers = known_workers.0; rows = known_rows.0; recorded = false };
-      adds_are = adds_known parts (None, None) known_workers.0 known_rows.0 false (ap (filled_pair (Some (None, None))) h.0) known_workers.1 known_rows.1 (ap (filled_flag (Some false)) h.3);
+      arguments = record { start = None; count = None; workers = known_workers.0; rows = known_rows.0; bucket = None; recorded = false };
+      adds_are = adds_known parts (None, None) known_workers.0 known_rows.0 None false (ap (filled_pair (Some (None, None))) h.0) known_workers.1 known_rows.1 (ap (filled (Some None) 1 MOST_BUCKET) h.3) (ap (filled_flag (Some false)) h.4);
       picked_is = ap (λ (x : ℕ). Some (command.Replay x (unwrap_or known_rows.0 DEFAULT_ROWS))) (sym known_workers.2) ∙ ap (λ (x : ℕ). Some (command.Replay w x)) (sym known_rows.2);
     }
 picks parts (command.Simulate r b) h =
     let known_rows = known_of FEWEST_ROWS MOST_ROWS SIMULATED_ROWS (all_rows parts) r h.2 in
     record {
-      arguments = record { start = None; count = None; workers = None; rows = known_rows.0; recorded = b };
-      adds_are = adds_known parts (None, None) None known_rows.0 b (ap (filled_pair (Some (None, None))) h.0) (ap (filled (Some None) 1 MOST_WORKERS) h.1) known_rows.1 (flag_known (all_flags parts) b h.3);
+      arguments = record { start = None; count = None; workers = None; rows = known_rows.0; bucket = None; recorded = b };
+      adds_are = adds_known parts (None, None) None known_rows.0 None b (ap (filled_pair (Some (None, None))) h.0) (ap (filled (Some None) 1 MOST_WORKERS) h.1) known_rows.1 (ap (filled (Some None) 1 MOST_BUCKET) h.3) (flag_known (all_flags parts) b h.4);
       picked_is = ap (λ (x : ℕ). Some (command.Simulate x b)) (sym known_rows.2);
     }
 picks parts command.Judge h = record { arguments = no_arguments; adds_are = ap (adds (Some no_arguments)) h; picked_is = refl }
@@ -289,9 +325,17 @@ picks parts (command.Gen s n w r) h =
     let known_workers = known_of 1 MOST_WORKERS DEFAULT_WORKERS (all_workers parts) w h.1 in
     let known_rows = known_of FEWEST_ROWS MOST_ROWS DEFAULT_ROWS (all_rows parts) r h.2 in
     record {
-      arguments = record { start = Some s; count = Some n; workers = known_workers.0; rows = known_rows.0; recorded = false };
-      adds_are = adds_known parts (Some s, Some n) known_workers.0 known_rows.0 false (numbers_known (numbers parts) s n h.0) known_workers.1 known_rows.1 (ap (filled_flag (Some false)) h.3);
+      arguments = record { start = Some s; count = Some n; workers = known_workers.0; rows = known_rows.0; bucket = None; recorded = false };
+      adds_are = adds_known parts (Some s, Some n) known_workers.0 known_rows.0 None false (numbers_known (numbers parts) s n h.0) known_workers.1 known_rows.1 (ap (filled (Some None) 1 MOST_BUCKET) h.3) (ap (filled_flag (Some false)) h.4);
       picked_is = ap (λ (x : ℕ). Some (command.Gen s n x (unwrap_or known_rows.0 DEFAULT_ROWS))) (sym known_workers.2) ∙ ap (λ (x : ℕ). Some (command.Gen s n w x)) (sym known_rows.2);
+    }
+picks parts (command.Rollup g w r) h =
+    let known_workers = known_of 1 MOST_WORKERS DEFAULT_WORKERS (all_workers parts) w h.1 in
+    let known_rows = known_of FEWEST_ROWS MOST_ROWS DEFAULT_ROWS (all_rows parts) r h.2 in
+    record {
+      arguments = record { start = None; count = None; workers = known_workers.0; rows = known_rows.0; bucket = Some g; recorded = false };
+      adds_are = adds_known parts (None, None) known_workers.0 known_rows.0 (Some g) false (ap (filled_pair (Some (None, None))) h.0) known_workers.1 known_rows.1 (given_known 1 MOST_BUCKET (all_buckets parts) g h.3) (ap (filled_flag (Some false)) h.4);
+      picked_is = ap (λ (x : ℕ). Some (command.Rollup g x (unwrap_or known_rows.0 DEFAULT_ROWS))) (sym known_workers.2) ∙ ap (λ (x : ℕ). Some (command.Rollup g w x)) (sym known_rows.2);
     }
 
 -- what is known of each option in arguments that parts add
@@ -299,68 +343,84 @@ record Known (parts : List Part) (a : Arguments) : Type 0 where
   pub pair : filled_pair (Some (None, None)) (numbers parts) ≡ Some (a.start, a.count)
   pub of_workers : filled (Some None) 1 MOST_WORKERS (all_workers parts) ≡ Some a.workers
   pub of_rows : filled (Some None) FEWEST_ROWS MOST_ROWS (all_rows parts) ≡ Some a.rows
+  pub of_bucket : filled (Some None) 1 MOST_BUCKET (all_buckets parts) ≡ Some a.bucket
   pub of_flag : filled_flag (Some false) (all_flags parts) ≡ Some a.recorded
 
-known_if : (parts : List Part) (a : Arguments) (n : Option (Option ℕ × Option ℕ)) (w r : Option (Option ℕ)) (b : Option Bool) → filled_pair (Some (None, None)) (numbers parts) ≡ n
-    → filled (Some None) 1 MOST_WORKERS (all_workers parts) ≡ w → filled (Some None) FEWEST_ROWS MOST_ROWS (all_rows parts) ≡ r → filled_flag (Some false) (all_flags parts) ≡ b
-    → joined n w r b ≡ Some a → Known parts a
-known_if parts a None w r b e f g i h = absurd cc
-known_if parts a (Some n) None r b e f g i h = absurd cc
-known_if parts a (Some n) (Some w) None b e f g i h = absurd cc
-known_if parts a (Some n) (Some w) (Some r) None e f g i h = absurd cc
-known_if parts a (Some n) (Some w) (Some r) (Some b) e f g i h =
-    let is : record { start = n.0; count = n.1; workers = w; rows = r; recorded = b } ≡ a = cc in
+known_if : (parts : List Part) (a : Arguments) (n : Option (Option ℕ × Option ℕ)) (w r g : Option (Option ℕ)) (b : Option Bool) → filled_pair (Some (None, None)) (numbers parts) ≡ n
+    → filled (Some None) 1 MOST_WORKERS (all_workers parts) ≡ w → filled (Some None) FEWEST_ROWS MOST_ROWS (all_rows parts) ≡ r → filled (Some None) 1 MOST_BUCKET (all_buckets parts) ≡ g
+    → filled_flag (Some false) (all_flags parts) ≡ b → joined n w r g b ≡ Some a → Known parts a
+known_if parts a None w r g b e f i j k h = absurd cc
+known_if parts a (Some n) None r g b e f i j k h = absurd cc
+known_if parts a (Some n) (Some w) None g b e f i j k h = absurd cc
+known_if parts a (Some n) (Some w) (Some r) None b e f i j k h = absurd cc
+known_if parts a (Some n) (Some w) (Some r) (Some g) None e f i j k h = absurd cc
+known_if parts a (Some n) (Some w) (Some r) (Some g) (Some b) e f i j k h =
+    let is : record { start = n.0; count = n.1; workers = w; rows = r; bucket = g; recorded = b } ≡ a = cc in
     record {
       pair = e ∙ ap (λ (x : Arguments). Some (x.start, x.count)) is;
       of_workers = f ∙ ap (λ (x : Arguments). Some x.workers) is;
-      of_rows = g ∙ ap (λ (x : Arguments). Some x.rows) is;
-      of_flag = i ∙ ap (λ (x : Arguments). Some x.recorded) is;
+      of_rows = i ∙ ap (λ (x : Arguments). Some x.rows) is;
+      of_bucket = j ∙ ap (λ (x : Arguments). Some x.bucket) is;
+      of_flag = k ∙ ap (λ (x : Arguments). Some x.recorded) is;
     }
 
 -- where nothing of any kind stands there are no parts
-nothing : (parts : List Part) → numbers parts ≡ [] → all_workers parts ≡ [] → all_rows parts ≡ [] → all_flags parts ≡ [] → parts ≡ []
-nothing [] e f g h = refl
-nothing (number w ∷ parts) e f g h = absurd cc
-nothing (workers w ∷ parts) e f g h = absurd cc
-nothing (rows w ∷ parts) e f g h = absurd cc
-nothing (recorded ∷ parts) e f g h = absurd cc
+nothing : (parts : List Part) → numbers parts ≡ [] → all_workers parts ≡ [] → all_rows parts ≡ [] → all_buckets parts ≡ [] → all_flags parts ≡ [] → parts ≡ []
+nothing [] e f g h i = refl
+nothing (number w ∷ parts) e f g h i = absurd cc
+nothing (workers w ∷ parts) e f g h i = absurd cc
+nothing (rows w ∷ parts) e f g h i = absurd cc
+nothing (bucket w ∷ parts) e f g h i = absurd cc
+nothing (recorded ∷ parts) e f g h i = absurd cc
 
-makes_from : (parts : List Part) (n : Name) (s m w r : Option ℕ) (b : Bool) (c : Command) → filled_pair (Some (None, None)) (numbers parts) ≡ Some (s, m)
-    → filled (Some None) 1 MOST_WORKERS (all_workers parts) ≡ Some w → filled (Some None) FEWEST_ROWS MOST_ROWS (all_rows parts) ≡ Some r → filled_flag (Some false) (all_flags parts) ≡ Some b
-    → picked_from n s m w r b ≡ Some c → Makes parts c × (command_name c ≡ n)
-makes_from parts name.Replay None None w r false c e f g i h =
+makes_from : (parts : List Part) (n : Name) (s m w r g : Option ℕ) (b : Bool) (c : Command) → filled_pair (Some (None, None)) (numbers parts) ≡ Some (s, m)
+    → filled (Some None) 1 MOST_WORKERS (all_workers parts) ≡ Some w → filled (Some None) FEWEST_ROWS MOST_ROWS (all_rows parts) ≡ Some r → filled (Some None) 1 MOST_BUCKET (all_buckets parts) ≡ Some g
+    → filled_flag (Some false) (all_flags parts) ≡ Some b → picked_from n s m w r g b ≡ Some c → Makes parts c × (command_name c ≡ n)
+makes_from parts name.Replay None None w r None false c e f i j k h =
     let is : command.Replay (unwrap_or w DEFAULT_WORKERS) (unwrap_or r DEFAULT_ROWS) ≡ c = cc in
     subst (λ (x : Command). Makes parts x × (command_name x ≡ name.Replay)) is
-    ((none_stand (numbers parts) None e, option_is 1 MOST_WORKERS DEFAULT_WORKERS (all_workers parts) w f, option_is FEWEST_ROWS MOST_ROWS DEFAULT_ROWS (all_rows parts) r g, no_flag_given (all_flags parts) i), refl)
-makes_from parts name.Replay None None w r true c e f g i h = absurd cc
-makes_from parts name.Replay None (Some m) w r b c e f g i h = absurd cc
-makes_from parts name.Replay (Some s) m w r b c e f g i h = absurd cc
-makes_from parts name.Simulate None None None r b c e f g i h =
+    ((none_stand (numbers parts) None e, option_is 1 MOST_WORKERS DEFAULT_WORKERS (all_workers parts) w f, option_is FEWEST_ROWS MOST_ROWS DEFAULT_ROWS (all_rows parts) r i, none_given 1 MOST_BUCKET (all_buckets parts) j, no_flag_given (all_flags parts) k), refl)
+makes_from parts name.Replay None None w r None true c e f i j k h = absurd cc
+makes_from parts name.Replay None None w r (Some g) b c e f i j k h = absurd cc
+makes_from parts name.Replay None (Some m) w r g b c e f i j k h = absurd cc
+makes_from parts name.Replay (Some s) m w r g b c e f i j k h = absurd cc
+makes_from parts name.Simulate None None None r None b c e f i j k h =
     let is : command.Simulate (unwrap_or r SIMULATED_ROWS) b ≡ c = cc in
     subst (λ (x : Command). Makes parts x × (command_name x ≡ name.Simulate)) is
-    ((none_stand (numbers parts) None e, none_given 1 MOST_WORKERS (all_workers parts) f, option_is FEWEST_ROWS MOST_ROWS SIMULATED_ROWS (all_rows parts) r g, flag_is (all_flags parts) b i), refl)
-makes_from parts name.Simulate None None (Some w) r b c e f g i h = absurd cc
-makes_from parts name.Simulate None (Some m) w r b c e f g i h = absurd cc
-makes_from parts name.Simulate (Some s) m w r b c e f g i h = absurd cc
-makes_from parts name.Judge None None None None false c e f g i h =
+    ((none_stand (numbers parts) None e, none_given 1 MOST_WORKERS (all_workers parts) f, option_is FEWEST_ROWS MOST_ROWS SIMULATED_ROWS (all_rows parts) r i, none_given 1 MOST_BUCKET (all_buckets parts) j, flag_is (all_flags parts) b k), refl)
+makes_from parts name.Simulate None None None r (Some g) b c e f i j k h = absurd cc
+makes_from parts name.Simulate None None (Some w) r g b c e f i j k h = absurd cc
+makes_from parts name.Simulate None (Some m) w r g b c e f i j k h = absurd cc
+makes_from parts name.Simulate (Some s) m w r g b c e f i j k h = absurd cc
+makes_from parts name.Judge None None None None None false c e f i j k h =
     let is : command.Judge ≡ c = cc in
     subst (λ (x : Command). Makes parts x × (command_name x ≡ name.Judge)) is
-    (nothing parts (none_stand (numbers parts) None e) (none_given 1 MOST_WORKERS (all_workers parts) f) (none_given FEWEST_ROWS MOST_ROWS (all_rows parts) g) (no_flag_given (all_flags parts) i), refl)
-makes_from parts name.Judge None None None None true c e f g i h = absurd cc
-makes_from parts name.Judge None None None (Some r) b c e f g i h = absurd cc
-makes_from parts name.Judge None None (Some w) r b c e f g i h = absurd cc
-makes_from parts name.Judge None (Some m) w r b c e f g i h = absurd cc
-makes_from parts name.Judge (Some s) m w r b c e f g i h = absurd cc
-makes_from parts name.Gen (Some s) (Some m) w r false c e f g i h =
+    (nothing parts (none_stand (numbers parts) None e) (none_given 1 MOST_WORKERS (all_workers parts) f) (none_given FEWEST_ROWS MOST_ROWS (all_rows parts) i) (none_given 1 MOST_BUCKET (all_buckets parts) j) (no_flag_given (all_flags parts) k), refl)
+makes_from parts name.Judge None None None None None true c e f i j k h = absurd cc
+makes_from parts name.Judge None None None None (Some g) b c e f i j k h = absurd cc
+makes_from parts name.Judge None None None (Some r) g b c e f i j k h = absurd cc
+makes_from parts name.Judge None None (Some w) r g b c e f i j k h = absurd cc
+makes_from parts name.Judge None (Some m) w r g b c e f i j k h = absurd cc
+makes_from parts name.Judge (Some s) m w r g b c e f i j k h = absurd cc
+makes_from parts name.Gen (Some s) (Some m) w r None false c e f i j k h =
     let is : command.Gen s m (unwrap_or w DEFAULT_WORKERS) (unwrap_or r DEFAULT_ROWS) ≡ c = cc in
     subst (λ (x : Command). Makes parts x × (command_name x ≡ name.Gen)) is
-    ((numbers_are (numbers parts) s m e, option_is 1 MOST_WORKERS DEFAULT_WORKERS (all_workers parts) w f, option_is FEWEST_ROWS MOST_ROWS DEFAULT_ROWS (all_rows parts) r g, no_flag_given (all_flags parts) i), refl)
-makes_from parts name.Gen (Some s) (Some m) w r true c e f g i h = absurd cc
-makes_from parts name.Gen (Some s) None w r b c e f g i h = absurd cc
-makes_from parts name.Gen None m w r b c e f g i h = absurd cc
+    ((numbers_are (numbers parts) s m e, option_is 1 MOST_WORKERS DEFAULT_WORKERS (all_workers parts) w f, option_is FEWEST_ROWS MOST_ROWS DEFAULT_ROWS (all_rows parts) r i, none_given 1 MOST_BUCKET (all_buckets parts) j, no_flag_given (all_flags parts) k), refl)
+makes_from parts name.Gen (Some s) (Some m) w r None true c e f i j k h = absurd cc
+makes_from parts name.Gen (Some s) (Some m) w r (Some g) b c e f i j k h = absurd cc
+makes_from parts name.Gen (Some s) None w r g b c e f i j k h = absurd cc
+makes_from parts name.Gen None m w r g b c e f i j k h = absurd cc
+makes_from parts name.Rollup None None w r (Some g) false c e f i j k h =
+    let is : command.Rollup g (unwrap_or w DEFAULT_WORKERS) (unwrap_or r DEFAULT_ROWS) ≡ c = cc in
+    subst (λ (x : Command). Makes parts x × (command_name x ≡ name.Rollup)) is
+    ((none_stand (numbers parts) None e, option_is 1 MOST_WORKERS DEFAULT_WORKERS (all_workers parts) w f, option_is FEWEST_ROWS MOST_ROWS DEFAULT_ROWS (all_rows parts) r i, given_is 1 MOST_BUCKET (all_buckets parts) g j, no_flag_given (all_flags parts) k), refl)
+makes_from parts name.Rollup None None w r (Some g) true c e f i j k h = absurd cc
+makes_from parts name.Rollup None None w r None b c e f i j k h = absurd cc
+makes_from parts name.Rollup None (Some m) w r g b c e f i j k h = absurd cc
+makes_from parts name.Rollup (Some s) m w r g b c e f i j k h = absurd cc
 
 -- parts that add the arguments of which a command is picked make it
 pub makes : (parts : List Part) (n : Name) (a : Arguments) (c : Command) → adds (Some no_arguments) parts ≡ Some a → picked n a ≡ Some c → Makes parts c × (command_name c ≡ n)
 makes parts n a c e h =
-    let known = known_if parts a _ _ _ _ refl refl refl refl (sym (adds-joined (Some (None, None)) (Some None) (Some None) (Some false) parts) ∙ e) in
-    makes_from parts n a.start a.count a.workers a.rows a.recorded c known.pair known.of_workers known.of_rows known.of_flag h
+    let known = known_if parts a _ _ _ _ _ refl refl refl refl refl (sym (adds-joined (Some (None, None)) (Some None) (Some None) (Some None) (Some false) parts) ∙ e) in
+    makes_from parts n a.start a.count a.workers a.rows a.bucket a.recorded c known.pair known.of_workers known.of_rows known.of_bucket known.of_flag h

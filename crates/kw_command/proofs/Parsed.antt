@@ -7,8 +7,8 @@ use Rattle.std.proofs.lemmas.List.{append-nil, map-append}
 use Rattle.kw_command.specs.declared.words.Arguments.{Arguments}
 use Rattle.kw_command.specs.Words.{number_in}
 use Rattle.kw_command.specs.Reading.{once}
-use Rattle.kw_command.specs.Clap.{Field, start, count, workers, rows, id_of, flag_id, least_of, most_of, parser_of}
-use Rattle.kw_command.proofs.Walk.{rules, Use, given, flag, Open, row_for, same, value_in, flag_in, has_row-uses, has_row-flag, value_in-snoc, value_in-flag, flag_in-snoc, flag_in-flag, row_added, open_use, stands, waits, open_kinds, end_kinds}
+use Rattle.kw_command.specs.Clap.{Field, start, count, workers, rows, bucket, id_of, flag_id, least_of, most_of, parser_of}
+use Rattle.kw_command.proofs.Walk.{rules, Use, given, flag, Open, row_for, same, value_in, flag_in, has_row-uses, has_row-flag, value_in-snoc, value_in-flag, flag_in-snoc, flag_in-flag, row_added, open_use, Named, workers_name, rows_name, bucket_name, named_field, stands, waits, open_kinds, end_kinds}
 use Rattle.clap.specs.ValueTests.{accepts}
 use Rattle.clap.specs.Kinds.{Kinds, or_else}
 use Rattle.clap.specs.Walk.{Row, Rule, Text, finished, has_row, settled_rows, default_rows, is_empty, more_values, reading_by, with_default, with_values, without}
@@ -24,12 +24,14 @@ field_of start a = a.start
 field_of count a = a.count
 field_of workers a = a.workers
 field_of rows a = a.rows
+field_of bucket a = a.bucket
 
 abbrev pub with_value : Field → ℕ → Arguments → Arguments
 with_value start n a = record a { start = Some n }
 with_value count n a = record a { count = Some n }
 with_value workers n a = record a { workers = Some n }
 with_value rows n a = record a { rows = Some n }
+with_value bucket n a = record a { bucket = Some n }
 
 -- the arguments with the open use
 abbrev pub add : Arguments → Option Open → Option Arguments
@@ -58,42 +60,61 @@ field-with start start n a = refl
 field-with start count n a = refl
 field-with start workers n a = refl
 field-with start rows n a = refl
+field-with start bucket n a = refl
 field-with count start n a = refl
 field-with count count n a = refl
 field-with count workers n a = refl
 field-with count rows n a = refl
+field-with count bucket n a = refl
 field-with workers start n a = refl
 field-with workers count n a = refl
 field-with workers workers n a = refl
 field-with workers rows n a = refl
+field-with workers bucket n a = refl
 field-with rows start n a = refl
 field-with rows count n a = refl
 field-with rows workers n a = refl
 field-with rows rows n a = refl
+field-with rows bucket n a = refl
+field-with bucket start n a = refl
+field-with bucket count n a = refl
+field-with bucket workers n a = refl
+field-with bucket rows n a = refl
+field-with bucket bucket n a = refl
 
 same_flag : (f : Field) (n : ℕ) (a : Arguments) → (with_value f n a).recorded ≡ a.recorded
 same_flag start n a = refl
 same_flag count n a = refl
 same_flag workers n a = refl
 same_flag rows n a = refl
+same_flag bucket n a = refl
 
 same_is : (f g : Field) → same f g ≡ true → f ≡ g
 same_is start start e = refl
 same_is start count e = absurd cc
 same_is start workers e = absurd cc
 same_is start rows e = absurd cc
+same_is start bucket e = absurd cc
 same_is count start e = absurd cc
 same_is count count e = refl
 same_is count workers e = absurd cc
 same_is count rows e = absurd cc
+same_is count bucket e = absurd cc
 same_is workers start e = absurd cc
 same_is workers count e = absurd cc
 same_is workers workers e = refl
 same_is workers rows e = absurd cc
+same_is workers bucket e = absurd cc
 same_is rows start e = absurd cc
 same_is rows count e = absurd cc
 same_is rows workers e = absurd cc
 same_is rows rows e = refl
+same_is rows bucket e = absurd cc
+same_is bucket start e = absurd cc
+same_is bucket count e = absurd cc
+same_is bucket workers e = absurd cc
+same_is bucket rows e = absurd cc
+same_is bucket bucket e = refl
 
 -- one more use, of an argument that had none
 fits-more : (f g : Field) (v : Text) (n : ℕ) (us : List Use) (a : Arguments) → value_in f us ≡ None → number_in (least_of f) (most_of f) v ≡ Some n → Fits g (value_in g us) (field_of g a)
@@ -128,6 +149,7 @@ open_kinds-use start v us = refl
 open_kinds-use count v us = refl
 open_kinds-use workers v us = refl
 open_kinds-use rows v us = refl
+open_kinds-use bucket v us = refl
 
 settled_rows-use : (f : Field) (v : Text) (us : List Use) → settled_rows rules (open_use (Some (f, v))) (map row_for us)
     ≡ with_values (id_of f) reading.WithoutMinus CommandLine (v ∷ []) (without (id_of f) (map row_for us))
@@ -135,6 +157,7 @@ settled_rows-use start v us = refl
 settled_rows-use count v us = refl
 settled_rows-use workers v us = refl
 settled_rows-use rows v us = refl
+settled_rows-use bucket v us = refl
 
 pub record IsFine (us : List Use) (o : Option Open) (a : Arguments) : Type 0 where
   pub found : List Use
@@ -195,6 +218,7 @@ holds_flag us a h e = (numbers, flag_in-flag true us (h.1 ∙ ap flag_use e))
     same_field count = refl
     same_field workers = refl
     same_field rows = refl
+    same_field bucket = refl
 
     numbers : HasNumbers (us ++ flag true ∷ []) (record a { recorded = true })
     numbers f = subst (λ (o : Option Text). Fits f o (field_of f (record a { recorded = true }))) (sym (value_in-flag f true us)) (subst (Fits f (value_in f us)) (same_field f) (h.0 f))
@@ -207,10 +231,10 @@ ended us = cond (is_some (flag_in us)) us (us ++ flag false ∷ [])
 
 -- the rules of the numbers, which have no default, and that of the flag
 abbrev number_rules : List Rule
-number_rules = take 4 rules
+number_rules = take 5 rules
 
 abbrev flag_rules : List Rule
-flag_rules = drop 4 rules
+flag_rules = drop 5 rules
 
 no_defaults : (all rest : List Rule) → AllByRecursion (λ r. r.defaults ≡ []) all → (made : List Row)
     → (defaults_fault made (all ++ rest) ≡ defaults_fault made rest) × (fold with_default made (all ++ rest) ≡ fold with_default made rest)
@@ -232,7 +256,7 @@ no_defaults (r ∷ all) rest h made =
     no_fault false = rw h.0
 
 rules_have_none : AllByRecursion (λ r. r.defaults ≡ []) number_rules
-rules_have_none = (refl, (refl, (refl, (refl, tt))))
+rules_have_none = (refl, (refl, (refl, (refl, (refl, tt)))))
 
 -- the flag's default is a value that it may have
 flag_fault : (made : List Row) → defaults_fault made flag_rules ≡ []
@@ -285,5 +309,7 @@ ended_flag us a h = at a.recorded refl
         ap (λ (o : Option Bool). flag_in (cond (is_some o) us (us ++ flag false ∷ []))) is ∙ flag_in-flag false us is
 
 -- an option's name at the end has no value
-pub end-waits : (us : List Use) (p : ℕ) → (end_kinds (waits us workers p) ≡ kind.InvalidValue ∷ []) × (end_kinds (waits us rows p) ≡ kind.InvalidValue ∷ [])
-end-waits us p = (refl, refl)
+pub end-waits : (n : Named) (us : List Use) (p : ℕ) → end_kinds (waits us (named_field n) p) ≡ kind.InvalidValue ∷ []
+end-waits workers_name us p = refl
+end-waits rows_name us p = refl
+end-waits bucket_name us p = refl

@@ -4,14 +4,14 @@ use mathlib.Core.Logic.{⊎_elim}
 use Rattle.std.specs.Prelude.{option_map, fold}
 use Rattle.std.specs.List.{AllByRecursion}
 use Rattle.kw_command.specs.declared.words.Arguments.{Arguments}
-use Rattle.kw_command.specs.declared.command.TheConstants.{MOST_WORKERS, FEWEST_ROWS, MOST_START, MOST_LINES}
-use Rattle.kw_words.specs.declared.sizes.TheConstants.{MOST_ROWS}
-use Rattle.kw_command.specs.Reading.{once, with_workers, with_rows, with_second, with_number, with_alone, then_with, reads}
-use Rattle.kw_command.proofs.Meaning.{reads_none, then_flag}
+use Rattle.kw_command.specs.declared.command.TheConstants.{MOST_START, MOST_LINES}
+use Rattle.kw_command.specs.Words.{number_in}
+use Rattle.kw_command.specs.Reading.{once, with_workers, with_rows, with_bucket, with_second, with_number, then_with, reads}
+use Rattle.kw_command.proofs.Meaning.{reads_none, then_flag, alone_number}
 use Rattle.kw_command.proofs.Commands.{IsPlain, reads-number, reads-flag}
-use Rattle.kw_command.specs.Clap.{start, count, workers, rows}
-use Rattle.kw_command.proofs.Walk.{shape, rules, Use, Open, flag, row_for, flag_in, flag_word_reached, flag_kinds, flag_kinds_first, repeat_kinds, stands, waits, open_kinds, workers_reached, rows_reached, workers_kinds, rows_kinds, workers_value, rows_value, workers_value_kinds, rows_value_kinds, workers_then_name, rows_then_name, first_number, second_number, first_kinds, second_kinds, third_kinds, kinds_from}
-use Rattle.kw_command.proofs.Parsed.{with_value, add, HasNumbers, Holds, holds_flag, flag_use, ended, ended_numbers, ended_flag, Agrees, OpenAgrees, IsFine, IsBad, settle, end-stands, finished-stands, end-waits}
+use Rattle.kw_command.specs.Clap.{start, count, least_of, most_of}
+use Rattle.kw_command.proofs.Walk.{shape, rules, Use, Open, flag, row_for, flag_in, flag_word_reached, flag_kinds, flag_kinds_first, repeat_kinds, Named, workers_name, rows_name, bucket_name, named_word, named_field, stands, waits, open_kinds, name_met, name_kinds, value_met, value_kinds, name_then_name, name_then_flag, first_number, second_number, first_kinds, second_kinds, third_kinds, kinds_from}
+use Rattle.kw_command.proofs.Parsed.{field_of, with_value, add, HasNumbers, Holds, holds_flag, flag_use, ended, ended_numbers, ended_flag, Agrees, OpenAgrees, IsFine, IsBad, settle, end-stands, finished-stands, end-waits}
 use Rattle.clap.specs.Kinds.{Kinds, or_else}
 use Rattle.clap.specs.Walk.{Text, Walk, finished, walked}
 use Rattle.clap.specs.Faults.{turn_fault}
@@ -19,20 +19,17 @@ use Rattle.clap.specs.declared.error.kind.ErrorKind.TheVariants as kind
 
 -- the name of an option, the flag, or another word, which does not begin with a hyphen
 pub data Token : Type 0 where
-  workers_name : Token
-  rows_name : Token
+  named : Named → Token
   flag_name : Token
   plain : ℕ → List ℕ → Token
 
 abbrev pub token_word : Token → Text
-token_word workers_name = codes "--workers"
-token_word rows_name = codes "--rows"
+token_word (named n) = named_word n
 token_word flag_name = codes "--record"
 token_word (plain x xs) = x ∷ xs
 
 abbrev pub IsToken : Token → Type 0
-IsToken workers_name = Unit {0}
-IsToken rows_name = Unit {0}
+IsToken (named n) = Unit {0}
 IsToken flag_name = Unit {0}
 IsToken (plain x xs) = ((x == 45) ≡ false) × Agrees (x ∷ xs)
 
@@ -64,19 +61,21 @@ still_at first a b e f h = (e ∙ h.0, f ∙ h.1)
 still_at second a b e f h = (ap is_some e ∙ h.0, f ∙ h.1)
 still_at third a b e f h = (ap is_some e ∙ h.0, ap is_some f ∙ h.1)
 
-after_workers : (p : Place) (a : Arguments) (v : Text) → IsAt p a → Placed p a (Some (workers, v))
-after_workers p a v h b e = at (once a.workers 1 MOST_WORKERS v) e
-  where
-    at : (k : Option ℕ) → option_map (λ n. with_value workers n a) k ≡ Some b → IsAt p b
-    at None e = absurd cc
-    at (Some n) e = let is : with_value workers n a ≡ b = cc in still_at p a b (ap (λ (x : Arguments). x.start) (sym is)) (ap (λ (x : Arguments). x.count) (sym is)) h
+-- an option leaves the two numbers as they are
+numbers_stay : (n : Named) (m : ℕ) (a : Arguments) → ((with_value (named_field n) m a).start ≡ a.start) × ((with_value (named_field n) m a).count ≡ a.count)
+numbers_stay workers_name m a = (refl, refl)
+numbers_stay rows_name m a = (refl, refl)
+numbers_stay bucket_name m a = (refl, refl)
 
-after_rows : (p : Place) (a : Arguments) (v : Text) → IsAt p a → Placed p a (Some (rows, v))
-after_rows p a v h b e = at (once a.rows FEWEST_ROWS MOST_ROWS v) e
+after_name : (n : Named) (p : Place) (a : Arguments) (v : Text) → IsAt p a → Placed p a (Some (named_field n, v))
+after_name n p a v h b e = at (once (field_of (named_field n) a) (least_of (named_field n)) (most_of (named_field n)) v) e
   where
-    at : (k : Option ℕ) → option_map (λ n. with_value rows n a) k ≡ Some b → IsAt p b
+    at : (k : Option ℕ) → option_map (λ m. with_value (named_field n) m a) k ≡ Some b → IsAt p b
     at None e = absurd cc
-    at (Some n) e = let is : with_value rows n a ≡ b = cc in still_at p a b (ap (λ (x : Arguments). x.start) (sym is)) (ap (λ (x : Arguments). x.count) (sym is)) h
+    at (Some m) e =
+        let is : with_value (named_field n) m a ≡ b = cc in
+        let stay = numbers_stay n m a in
+        still_at p a b (ap (λ (x : Arguments). x.start) (sym is) ∙ stay.0) (ap (λ (x : Arguments). x.count) (sym is) ∙ stay.1) h
 
 after_first : (a : Arguments) (v : Text) → IsAt first a → Placed second a (Some (start, v))
 after_first a v h b e = at (once a.start 0 MOST_START v) e
@@ -107,30 +106,46 @@ number_third a v h = rw h.0 (at a.count h.1)
     at None e = absurd cc
     at (Some m) e = refl
 
+-- the number of an option
+abbrev with_named : Named → Arguments → Text → Option Arguments
+with_named workers_name = with_workers
+with_named rows_name = with_rows
+with_named bucket_name = with_bucket
+
+with_named-adds : (n : Named) (a : Arguments) (v : Text) → with_named n a v ≡ add a (Some (named_field n, v))
+with_named-adds workers_name a v = refl
+with_named-adds rows_name a v = refl
+with_named-adds bucket_name a v = refl
+
 -- the name of an option is no number, nor is the flag
-name_is_none : (o : Option ℕ) (least most : ℕ) → (once o least most (codes "--workers") ≡ None) × (once o least most (codes "--rows") ≡ None) × (once o least most (codes "--record") ≡ None)
-name_is_none None least most = (refl, refl, refl)
-name_is_none (Some n) least most = (refl, refl, refl)
+name_is_none : (n : Named) (o : Option ℕ) (least most : ℕ) → once o least most (named_word n) ≡ None
+name_is_none workers_name None least most = refl
+name_is_none rows_name None least most = refl
+name_is_none bucket_name None least most = refl
+name_is_none n (Some m) least most = refl
 
-no_workers : (a : Arguments) → (with_workers a (codes "--workers") ≡ None) × (with_workers a (codes "--rows") ≡ None) × (with_workers a (codes "--record") ≡ None)
-no_workers a = (ap (option_map (λ n. record a { workers = Some n })) (name_is_none a.workers 1 MOST_WORKERS).0, ap (option_map (λ n. record a { workers = Some n })) (name_is_none a.workers 1 MOST_WORKERS).1, ap (option_map (λ n. record a { workers = Some n })) (name_is_none a.workers 1 MOST_WORKERS).2)
+flag_is_none : (o : Option ℕ) (least most : ℕ) → once o least most (codes "--record") ≡ None
+flag_is_none None least most = refl
+flag_is_none (Some m) least most = refl
 
-no_rows : (a : Arguments) → (with_rows a (codes "--workers") ≡ None) × (with_rows a (codes "--rows") ≡ None) × (with_rows a (codes "--record") ≡ None)
-no_rows a = (ap (option_map (λ n. record a { rows = Some n })) (name_is_none a.rows FEWEST_ROWS MOST_ROWS).0, ap (option_map (λ n. record a { rows = Some n })) (name_is_none a.rows FEWEST_ROWS MOST_ROWS).1, ap (option_map (λ n. record a { rows = Some n })) (name_is_none a.rows FEWEST_ROWS MOST_ROWS).2)
+-- so an option is given none where a name or the flag stands for its number
+given_none : (n : Named) (a : Arguments) (v : Text) → ((o : Option ℕ) (least most : ℕ) → once o least most v ≡ None) → with_named n a v ≡ None
+given_none n a v none =
+    let f = named_field n in
+    with_named-adds n a v ∙ ap (option_map (λ m. with_value f m a)) (none (field_of f a) (least_of f) (most_of f))
 
-no_number : (a : Arguments) → (with_number a (codes "--workers") ≡ None) × (with_number a (codes "--rows") ≡ None)
-no_number a = (at a.start, also a.start)
+no_number : (n : Named) (a : Arguments) → with_number a (named_word n) ≡ None
+no_number n a = at a.start
   where
-    at : (s : Option ℕ) → cond (is_some s) (with_second a (codes "--workers")) None ≡ None
-    at None = refl
-    at (Some s) = ap (option_map (λ n. record a { count = Some n })) (name_is_none a.count 1 MOST_LINES).0
+    none_second : with_second a (named_word n) ≡ None
+    none_second = ap (option_map (λ m. record a { count = Some m })) (name_is_none n a.count 1 MOST_LINES)
 
-    also : (s : Option ℕ) → cond (is_some s) (with_second a (codes "--rows")) None ≡ None
-    also None = refl
-    also (Some s) = ap (option_map (λ n. record a { count = Some n })) (name_is_none a.count 1 MOST_LINES).1
+    at : (s : Option ℕ) → cond (is_some s) (with_second a (named_word n)) (option_map (λ m. record a { start = Some m }) (number_in 0 MOST_START (named_word n))) ≡ None
+    at None = ap (option_map (λ m. record a { start = Some m })) (name_is_none n None 0 MOST_START)
+    at (Some s) = none_second
 
 plain_word : (x : ℕ) (xs : Text) → (x == 45) ≡ false → IsPlain (x ∷ xs)
-plain_word x xs h = (rw h, rw h, rw h)
+plain_word x xs h = (rw h, rw h, rw h, rw h)
 
 -- ---- the walk and the reading, side by side
 
@@ -171,22 +186,18 @@ refused_at us o a n x ws e b = record {
 }
 
 -- a name settles the open use and waits for its value
-workers_to : (us : List Use) (o : Option Open) (a : Arguments) (n : ℕ) (ws : List Text) (f : IsFine us o a) → kinds_from (stands us o n) (codes "--workers" ∷ ws) ≡ kinds_from (waits f.found workers n) ws
-workers_to us o a n ws f = goes_on (stands us o n) (waits f.found workers n) (codes "--workers") ws (workers_kinds us o n ∙ f.no_kinds) (workers_reached us f.found o n f.rows_are)
+name_to : (n : Named) (us : List Use) (o : Option Open) (a : Arguments) (p : ℕ) (ws : List Text) (f : IsFine us o a) → kinds_from (stands us o p) (named_word n ∷ ws) ≡ kinds_from (waits f.found (named_field n) p) ws
+name_to n us o a p ws f = goes_on (stands us o p) (waits f.found (named_field n) p) (named_word n) ws (name_kinds n us o p ∙ f.no_kinds) (name_met n us f.found o p f.rows_are)
 
-rows_to : (us : List Use) (o : Option Open) (a : Arguments) (n : ℕ) (ws : List Text) (f : IsFine us o a) → kinds_from (stands us o n) (codes "--rows" ∷ ws) ≡ kinds_from (waits f.found rows n) ws
-rows_to us o a n ws f = goes_on (stands us o n) (waits f.found rows n) (codes "--rows") ws (rows_kinds us o n ∙ f.no_kinds) (rows_reached us f.found o n f.rows_are)
+reads-name_end : (n : Named) (s : Option Arguments) → reads s (named_word n ∷ []) ≡ then_with with_number s (named_word n)
+reads-name_end workers_name s = alone_number s (codes "--workers") refl
+reads-name_end rows_name s = alone_number s (codes "--rows") refl
+reads-name_end bucket_name s = alone_number s (codes "--bucket") refl
 
-workers_end : (us : List Use) (o : Option Open) (a : Arguments) (n : ℕ) → IsFine us o a → IsRefused us o a n (codes "--workers" ∷ [])
-workers_end us o a n f = record {
-  kinds = λ h. let bad : kind.InvalidValue ∷ [] ≡ [] = sym (workers_to us o a n [] f ∙ (end-waits f.found n).0) ∙ h in cc;
-  none = ap (λ (s : Option Arguments). then_with with_alone s (codes "--workers")) f.adds ∙ (no_number f.after).0;
-}
-
-rows_end : (us : List Use) (o : Option Open) (a : Arguments) (n : ℕ) → IsFine us o a → IsRefused us o a n (codes "--rows" ∷ [])
-rows_end us o a n f = record {
-  kinds = λ h. let bad : kind.InvalidValue ∷ [] ≡ [] = sym (rows_to us o a n [] f ∙ (end-waits f.found n).1) ∙ h in cc;
-  none = ap (λ (s : Option Arguments). then_with with_alone s (codes "--rows")) f.adds ∙ (no_number f.after).1;
+name_end : (n : Named) (us : List Use) (o : Option Open) (a : Arguments) (p : ℕ) → IsFine us o a → IsRefused us o a p (named_word n ∷ [])
+name_end n us o a p f = record {
+  kinds = λ h. let bad : kind.InvalidValue ∷ [] ≡ [] = sym (name_to n us o a p [] f ∙ end-waits n f.found p) ∙ h in cc;
+  none = reads-name_end n (add a o) ∙ (ap (λ (s : Option Arguments). then_with with_number s (named_word n)) f.adds ∙ no_number n f.after);
 }
 
 refused_value : (us : List Use) (o : Option Open) (a : Arguments) (n : ℕ) (x y : Text) (ws : List Text) (v : Walk) → kinds_from (stands us o n) (x ∷ y ∷ ws) ≡ kinds_from v (y ∷ ws) → turn_fault shape [] v y ≡ kind.InvalidValue ∷ []
@@ -196,11 +207,17 @@ refused_value us o a n x y ws v e f g = record {
   none = g;
 }
 
-workers_name_none : (o : Option Open) (a after : Arguments) (y : Text) (ws : List Text) → add a o ≡ Some after → with_workers after y ≡ None → reads (add a o) (codes "--workers" ∷ y ∷ ws) ≡ None
-workers_name_none o a after y ws e f = ap (λ (s : Option Arguments). reads (then_with with_workers s y) ws) e ∙ (ap (λ (s : Option Arguments). reads s ws) f ∙ reads_none ws)
+reads-name : (n : Named) (s : Option Arguments) (y : Text) (ws : List Text) → reads s (named_word n ∷ y ∷ ws) ≡ reads (then_with (with_named n) s y) ws
+reads-name workers_name s y ws = refl
+reads-name rows_name s y ws = refl
+reads-name bucket_name s y ws = refl
 
-rows_name_none : (o : Option Open) (a after : Arguments) (y : Text) (ws : List Text) → add a o ≡ Some after → with_rows after y ≡ None → reads (add a o) (codes "--rows" ∷ y ∷ ws) ≡ None
-rows_name_none o a after y ws e f = ap (λ (s : Option Arguments). reads (then_with with_rows s y) ws) e ∙ (ap (λ (s : Option Arguments). reads s ws) f ∙ reads_none ws)
+-- a name, and a word for its value, after arguments that are known
+reads-value : (n : Named) (o : Option Open) (a after : Arguments) (y : Text) (ws : List Text) → add a o ≡ Some after → reads (add a o) (named_word n ∷ y ∷ ws) ≡ reads (with_named n after y) ws
+reads-value n o a after y ws e = reads-name n (add a o) y ws ∙ ap (λ (s : Option Arguments). reads (then_with (with_named n) s y) ws) e
+
+no_value : (n : Named) (o : Option Open) (a after : Arguments) (y : Text) (ws : List Text) → add a o ≡ Some after → with_named n after y ≡ None → reads (add a o) (named_word n ∷ y ∷ ws) ≡ None
+no_value n o a after y ws e f = reads-value n o a after y ws e ∙ (ap (λ (s : Option Arguments). reads s ws) f ∙ reads_none ws)
 
 third_refused : (us : List Use) (o : Option Open) (a : Arguments) (x : ℕ) (xs : Text) (ws : List Text) → (x == 45) ≡ false → Placed third a o → IsRefused us o a 3 ((x ∷ xs) ∷ ws)
 third_refused us o a x xs ws h l = record {
@@ -261,44 +278,24 @@ placed_flag p a h b e = let is : record a { recorded = true } ≡ b = cc in stil
 pub read_all : (ts : List Token) (us : List Use) (o : Option Open) (a : Arguments) (p : Place) → AllByRecursion IsToken ts → Holds us a → OpenAgrees o → Placed p a o
     → IsRead us o a (place_number p) (words_of ts) ⊎ IsRefused us o a (place_number p) (words_of ts)
 read_all [] us o a p t h g l = at_end us o a (place_number p) (settle us o a h g)
-read_all (workers_name ∷ []) us o a p t h g l = ⊎_elim (λ f. inr (workers_end us o a (place_number p) f)) (λ b. inr (refused_at us o a (place_number p) (codes "--workers") [] (workers_kinds us o (place_number p)) b)) (settle us o a h g)
-read_all (rows_name ∷ []) us o a p t h g l = ⊎_elim (λ f. inr (rows_end us o a (place_number p) f)) (λ b. inr (refused_at us o a (place_number p) (codes "--rows") [] (rows_kinds us o (place_number p)) b)) (settle us o a h g)
-read_all (workers_name ∷ workers_name ∷ ts) us o a p t h g l = ⊎_elim
-    (λ f. inr (refused_value us o a (place_number p) (codes "--workers") (codes "--workers") (words_of ts) (waits f.found workers (place_number p)) (workers_to us o a (place_number p) (codes "--workers" ∷ words_of ts) f) (workers_then_name f.found (place_number p)).0 (workers_name_none o a f.after (codes "--workers") (words_of ts) f.adds (no_workers f.after).0)))
-    (λ b. inr (refused_at us o a (place_number p) (codes "--workers") (codes "--workers" ∷ words_of ts) (workers_kinds us o (place_number p)) b)) (settle us o a h g)
-read_all (workers_name ∷ rows_name ∷ ts) us o a p t h g l = ⊎_elim
-    (λ f. inr (refused_value us o a (place_number p) (codes "--workers") (codes "--rows") (words_of ts) (waits f.found workers (place_number p)) (workers_to us o a (place_number p) (codes "--rows" ∷ words_of ts) f) (workers_then_name f.found (place_number p)).1 (workers_name_none o a f.after (codes "--rows") (words_of ts) f.adds (no_workers f.after).1)))
-    (λ b. inr (refused_at us o a (place_number p) (codes "--workers") (codes "--rows" ∷ words_of ts) (workers_kinds us o (place_number p)) b)) (settle us o a h g)
-read_all (rows_name ∷ workers_name ∷ ts) us o a p t h g l = ⊎_elim
-    (λ f. inr (refused_value us o a (place_number p) (codes "--rows") (codes "--workers") (words_of ts) (waits f.found rows (place_number p)) (rows_to us o a (place_number p) (codes "--workers" ∷ words_of ts) f) (rows_then_name f.found (place_number p)).0 (rows_name_none o a f.after (codes "--workers") (words_of ts) f.adds (no_rows f.after).0)))
-    (λ b. inr (refused_at us o a (place_number p) (codes "--rows") (codes "--workers" ∷ words_of ts) (rows_kinds us o (place_number p)) b)) (settle us o a h g)
-read_all (rows_name ∷ rows_name ∷ ts) us o a p t h g l = ⊎_elim
-    (λ f. inr (refused_value us o a (place_number p) (codes "--rows") (codes "--rows") (words_of ts) (waits f.found rows (place_number p)) (rows_to us o a (place_number p) (codes "--rows" ∷ words_of ts) f) (rows_then_name f.found (place_number p)).1 (rows_name_none o a f.after (codes "--rows") (words_of ts) f.adds (no_rows f.after).1)))
-    (λ b. inr (refused_at us o a (place_number p) (codes "--rows") (codes "--rows" ∷ words_of ts) (rows_kinds us o (place_number p)) b)) (settle us o a h g)
-read_all (workers_name ∷ flag_name ∷ ts) us o a p t h g l = ⊎_elim
-    (λ f. inr (refused_value us o a (place_number p) (codes "--workers") (codes "--record") (words_of ts) (waits f.found workers (place_number p)) (workers_to us o a (place_number p) (codes "--record" ∷ words_of ts) f) (workers_then_name f.found (place_number p)).2 (workers_name_none o a f.after (codes "--record") (words_of ts) f.adds (no_workers f.after).2)))
-    (λ b. inr (refused_at us o a (place_number p) (codes "--workers") (codes "--record" ∷ words_of ts) (workers_kinds us o (place_number p)) b)) (settle us o a h g)
-read_all (rows_name ∷ flag_name ∷ ts) us o a p t h g l = ⊎_elim
-    (λ f. inr (refused_value us o a (place_number p) (codes "--rows") (codes "--record") (words_of ts) (waits f.found rows (place_number p)) (rows_to us o a (place_number p) (codes "--record" ∷ words_of ts) f) (rows_then_name f.found (place_number p)).2 (rows_name_none o a f.after (codes "--record") (words_of ts) f.adds (no_rows f.after).2)))
-    (λ b. inr (refused_at us o a (place_number p) (codes "--rows") (codes "--record" ∷ words_of ts) (rows_kinds us o (place_number p)) b)) (settle us o a h g)
+read_all (named n ∷ []) us o a p t h g l = ⊎_elim (λ f. inr (name_end n us o a (place_number p) f)) (λ b. inr (refused_at us o a (place_number p) (named_word n) [] (name_kinds n us o (place_number p)) b)) (settle us o a h g)
+read_all (named n ∷ named m ∷ ts) us o a p t h g l = ⊎_elim
+    (λ f. inr (refused_value us o a (place_number p) (named_word n) (named_word m) (words_of ts) (waits f.found (named_field n) (place_number p)) (name_to n us o a (place_number p) (named_word m ∷ words_of ts) f) (name_then_name n m f.found (place_number p)) (no_value n o a f.after (named_word m) (words_of ts) f.adds (given_none n f.after (named_word m) (name_is_none m)))))
+    (λ b. inr (refused_at us o a (place_number p) (named_word n) (named_word m ∷ words_of ts) (name_kinds n us o (place_number p)) b)) (settle us o a h g)
+read_all (named n ∷ flag_name ∷ ts) us o a p t h g l = ⊎_elim
+    (λ f. inr (refused_value us o a (place_number p) (named_word n) (codes "--record") (words_of ts) (waits f.found (named_field n) (place_number p)) (name_to n us o a (place_number p) (codes "--record" ∷ words_of ts) f) (name_then_flag n f.found (place_number p)) (no_value n o a f.after (codes "--record") (words_of ts) f.adds (given_none n f.after (codes "--record") flag_is_none))))
+    (λ b. inr (refused_at us o a (place_number p) (named_word n) (codes "--record" ∷ words_of ts) (name_kinds n us o (place_number p)) b)) (settle us o a h g)
 read_all (flag_name ∷ ts) us o a p t h g l = ⊎_elim
     (λ f. flag_reached us o a (place_number p) (words_of ts) f f.after.recorded refl
     (λ e. read_all ts (f.found ++ flag true ∷ []) None (record f.after { recorded = true }) p t.1 (holds_flag f.found f.after f.holds e) tt (placed_flag p f.after (l f.after f.adds))))
     (λ b. inr (flag_refused us o a (place_number p) (words_of ts) b)) (settle us o a h g)
-read_all (workers_name ∷ plain x xs ∷ ts) us o a p t h g l = ⊎_elim
-    (λ f. moved us f.found o (Some (workers, x ∷ xs)) a f.after (place_number p) (place_number p) (codes "--workers" ∷ (x ∷ xs) ∷ words_of ts) (words_of ts)
-    (workers_to us o a (place_number p) ((x ∷ xs) ∷ words_of ts) f ∙ goes_on (waits f.found workers (place_number p)) (stands f.found (Some (workers, x ∷ xs)) (place_number p)) (x ∷ xs) (words_of ts) (workers_value_kinds f.found (place_number p) x xs t.1.0.0) (workers_value f.found (place_number p) x xs t.1.0.0))
-    (walks_on (stands us o (place_number p)) (waits f.found workers (place_number p)) (codes "--workers") ((x ∷ xs) ∷ words_of ts) (workers_reached us f.found o (place_number p) f.rows_are) ∙ walks_on (waits f.found workers (place_number p)) (stands f.found (Some (workers, x ∷ xs)) (place_number p)) (x ∷ xs) (words_of ts) (workers_value f.found (place_number p) x xs t.1.0.0))
-    (ap (λ (s : Option Arguments). reads (then_with with_workers s (x ∷ xs)) (words_of ts)) f.adds)
-    (read_all ts f.found (Some (workers, x ∷ xs)) f.after p t.1.1 f.holds t.1.0.1 (after_workers p f.after (x ∷ xs) (l f.after f.adds))))
-    (λ b. inr (refused_at us o a (place_number p) (codes "--workers") ((x ∷ xs) ∷ words_of ts) (workers_kinds us o (place_number p)) b)) (settle us o a h g)
-read_all (rows_name ∷ plain x xs ∷ ts) us o a p t h g l = ⊎_elim
-    (λ f. moved us f.found o (Some (rows, x ∷ xs)) a f.after (place_number p) (place_number p) (codes "--rows" ∷ (x ∷ xs) ∷ words_of ts) (words_of ts)
-    (rows_to us o a (place_number p) ((x ∷ xs) ∷ words_of ts) f ∙ goes_on (waits f.found rows (place_number p)) (stands f.found (Some (rows, x ∷ xs)) (place_number p)) (x ∷ xs) (words_of ts) (rows_value_kinds f.found (place_number p) x xs t.1.0.0) (rows_value f.found (place_number p) x xs t.1.0.0))
-    (walks_on (stands us o (place_number p)) (waits f.found rows (place_number p)) (codes "--rows") ((x ∷ xs) ∷ words_of ts) (rows_reached us f.found o (place_number p) f.rows_are) ∙ walks_on (waits f.found rows (place_number p)) (stands f.found (Some (rows, x ∷ xs)) (place_number p)) (x ∷ xs) (words_of ts) (rows_value f.found (place_number p) x xs t.1.0.0))
-    (ap (λ (s : Option Arguments). reads (then_with with_rows s (x ∷ xs)) (words_of ts)) f.adds)
-    (read_all ts f.found (Some (rows, x ∷ xs)) f.after p t.1.1 f.holds t.1.0.1 (after_rows p f.after (x ∷ xs) (l f.after f.adds))))
-    (λ b. inr (refused_at us o a (place_number p) (codes "--rows") ((x ∷ xs) ∷ words_of ts) (rows_kinds us o (place_number p)) b)) (settle us o a h g)
+read_all (named n ∷ plain x xs ∷ ts) us o a p t h g l = ⊎_elim
+    (λ f. moved us f.found o (Some (named_field n, x ∷ xs)) a f.after (place_number p) (place_number p) (named_word n ∷ (x ∷ xs) ∷ words_of ts) (words_of ts)
+    (name_to n us o a (place_number p) ((x ∷ xs) ∷ words_of ts) f ∙ goes_on (waits f.found (named_field n) (place_number p)) (stands f.found (Some (named_field n, x ∷ xs)) (place_number p)) (x ∷ xs) (words_of ts) (value_kinds n f.found (place_number p) x xs t.1.0.0) (value_met n f.found (place_number p) x xs t.1.0.0))
+    (walks_on (stands us o (place_number p)) (waits f.found (named_field n) (place_number p)) (named_word n) ((x ∷ xs) ∷ words_of ts) (name_met n us f.found o (place_number p) f.rows_are) ∙ walks_on (waits f.found (named_field n) (place_number p)) (stands f.found (Some (named_field n, x ∷ xs)) (place_number p)) (x ∷ xs) (words_of ts) (value_met n f.found (place_number p) x xs t.1.0.0))
+    (reads-value n o a f.after (x ∷ xs) (words_of ts) f.adds ∙ ap (λ (s : Option Arguments). reads s (words_of ts)) (with_named-adds n f.after (x ∷ xs)))
+    (read_all ts f.found (Some (named_field n, x ∷ xs)) f.after p t.1.1 f.holds t.1.0.1 (after_name n p f.after (x ∷ xs) (l f.after f.adds))))
+    (λ b. inr (refused_at us o a (place_number p) (named_word n) ((x ∷ xs) ∷ words_of ts) (name_kinds n us o (place_number p)) b)) (settle us o a h g)
 read_all (plain x xs ∷ ts) us o a first t h g l = ⊎_elim
     (λ f. moved us f.found o (Some (start, x ∷ xs)) a f.after 1 2 ((x ∷ xs) ∷ words_of ts) (words_of ts)
     (goes_on (stands us o 1) (stands f.found (Some (start, x ∷ xs)) 2) (x ∷ xs) (words_of ts) (first_kinds us o x xs t.0.0 ∙ f.no_kinds) (first_number us f.found o x xs t.0.0 f.rows_are))

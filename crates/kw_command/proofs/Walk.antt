@@ -5,7 +5,7 @@ use Rattle.std.proofs.Common.{◌≡◌, ◌==◌, ℕ, Bool, true, false, ◌&&
 use Rattle.std.specs.Prelude.{option_map, option_and_then, find, fold}
 use Rattle.std.specs.Str.{bytes_eq}
 use Rattle.std.proofs.lemmas.List.{append-nil, map-append}
-use Rattle.kw_command.specs.Clap.{Field, start, count, workers, rows, id_of, flag_id, kiwi}
+use Rattle.kw_command.specs.Clap.{Field, start, count, workers, rows, bucket, id_of, flag_id, kiwi}
 use Rattle.clap.specs.Lexer.{without_minus}
 use Rattle.clap.specs.Kinds.{Kinds, or_else}
 use Rattle.clap.specs.Walk.{Row, Rule, Text, Walk, at_row, finished, has_row, idle, more_values, one_of, option, row_text, settled, settled_rows, walked, with_values, without}
@@ -45,6 +45,7 @@ same start start = true
 same count count = true
 same workers workers = true
 same rows rows = true
+same bucket bucket = true
 same _ _ = false
 
 pub ids : (f g : Field) → bytes_eq (id_of f) (id_of g) ≡ same f g
@@ -52,24 +53,34 @@ ids start start = refl
 ids start count = refl
 ids start workers = refl
 ids start rows = refl
+ids start bucket = refl
 ids count start = refl
 ids count count = refl
 ids count workers = refl
 ids count rows = refl
+ids count bucket = refl
 ids workers start = refl
 ids workers count = refl
 ids workers workers = refl
 ids workers rows = refl
+ids workers bucket = refl
 ids rows start = refl
 ids rows count = refl
 ids rows workers = refl
 ids rows rows = refl
+ids rows bucket = refl
+ids bucket start = refl
+ids bucket count = refl
+ids bucket workers = refl
+ids bucket rows = refl
+ids bucket bucket = refl
 
 no_flag : (f : Field) → (bytes_eq flag_id (id_of f) ≡ false) × (bytes_eq (id_of f) flag_id ≡ false)
 no_flag start = (refl, refl)
 no_flag count = (refl, refl)
 no_flag workers = (refl, refl)
 no_flag rows = (refl, refl)
+no_flag bucket = (refl, refl)
 
 -- the value of an argument, and of the flag
 abbrev pub value_in : Field → List Use → Option Text
@@ -146,6 +157,24 @@ row_added id change missing (r ∷ found) h = at (bytes_eq r.id id) h (row_added
     at true h k = absurd cc
     at false h k = ap (λ (l : List Row). r ∷ l) (k h)
 
+-- ---- options
+
+-- an argument that has a name, which stands before its number
+pub data Named : Type 0 where
+  workers_name : Named
+  rows_name : Named
+  bucket_name : Named
+
+abbrev pub named_word : Named → Text
+named_word workers_name = codes "--workers"
+named_word rows_name = codes "--rows"
+named_word bucket_name = codes "--bucket"
+
+abbrev pub named_field : Named → Field
+named_field workers_name = workers
+named_field rows_name = rows
+named_field bucket_name = bucket
+
 -- ---- where the walk stands
 
 -- an argument that may get a number, with the word that it was given
@@ -183,21 +212,17 @@ or_nothing [] = refl
 or_nothing (k ∷ ks) = refl
 
 -- the name of an option settles the open use
-pub workers_reached : (us found : List Use) (o : Option Open) (p : ℕ) → settled_rows rules (open_use o) (map row_for us) ≡ map row_for found → walked rules [] (stands us o p) (codes "--workers") ≡ waits found workers p
+pub name_met : (n : Named) (us found : List Use) (o : Option Open) (p : ℕ) → settled_rows rules (open_use o) (map row_for us) ≡ map row_for found → walked rules [] (stands us o p) (named_word n) ≡ waits found (named_field n) p
 unfolding clap_on_literals
-workers_reached us found o p e = ap (λ (r : List Row). record { held = record { rows = r; pending = Some (codes "workers", []); skip = 0 }; waiting = option (codes "workers"); position = p; is_trailing = false; stopped = None }) e
+name_met workers_name us found o p e = ap (λ (r : List Row). record { held = record { rows = r; pending = Some (codes "workers", []); skip = 0 }; waiting = option (codes "workers"); position = p; is_trailing = false; stopped = None }) e
+name_met rows_name us found o p e = ap (λ (r : List Row). record { held = record { rows = r; pending = Some (codes "rows", []); skip = 0 }; waiting = option (codes "rows"); position = p; is_trailing = false; stopped = None }) e
+name_met bucket_name us found o p e = ap (λ (r : List Row). record { held = record { rows = r; pending = Some (codes "bucket", []); skip = 0 }; waiting = option (codes "bucket"); position = p; is_trailing = false; stopped = None }) e
 
-pub rows_reached : (us found : List Use) (o : Option Open) (p : ℕ) → settled_rows rules (open_use o) (map row_for us) ≡ map row_for found → walked rules [] (stands us o p) (codes "--rows") ≡ waits found rows p
+pub name_kinds : (n : Named) (us : List Use) (o : Option Open) (p : ℕ) → turn_fault shape [] (stands us o p) (named_word n) ≡ open_kinds us o
 unfolding clap_on_literals
-rows_reached us found o p e = ap (λ (r : List Row). record { held = record { rows = r; pending = Some (codes "rows", []); skip = 0 }; waiting = option (codes "rows"); position = p; is_trailing = false; stopped = None }) e
-
-pub workers_kinds : (us : List Use) (o : Option Open) (p : ℕ) → turn_fault shape [] (stands us o p) (codes "--workers") ≡ open_kinds us o
-unfolding clap_on_literals
-workers_kinds us o p = or_nothing (open_kinds us o)
-
-pub rows_kinds : (us : List Use) (o : Option Open) (p : ℕ) → turn_fault shape [] (stands us o p) (codes "--rows") ≡ open_kinds us o
-unfolding clap_on_literals
-rows_kinds us o p = or_nothing (open_kinds us o)
+name_kinds workers_name us o p = or_nothing (open_kinds us o)
+name_kinds rows_name us o p = or_nothing (open_kinds us o)
+name_kinds bucket_name us o p = or_nothing (open_kinds us o)
 
 -- the flag settles the open use, and is a use itself
 abbrev flag_row_added : List Row → List Row
@@ -250,32 +275,36 @@ flag_kinds_first us o p e = at (open_kinds us o) (has_row flag_id (settled_rows 
     at [] b e = refl
     at (k ∷ ks) b e = absurd cc
 
--- the word after it is its value, unless it is an option's name
-pub workers_value : (us : List Use) (p x : ℕ) (xs : Text) → (x == 45) ≡ false → walked rules [] (waits us workers p) (x ∷ xs) ≡ stands us (Some (workers, x ∷ xs)) p
+-- the word after it is its value, unless it is an option's name or the flag
+pub value_met : (n : Named) (us : List Use) (p x : ℕ) (xs : Text) → (x == 45) ≡ false → walked rules [] (waits us (named_field n) p) (x ∷ xs) ≡ stands us (Some (named_field n, x ∷ xs)) p
 unfolding clap_on_literals
-workers_value us p x xs h = rw (h, h)
+value_met workers_name us p x xs h = rw (h, h)
+value_met rows_name us p x xs h = rw (h, h)
+value_met bucket_name us p x xs h = rw (h, h)
 
-pub rows_value : (us : List Use) (p x : ℕ) (xs : Text) → (x == 45) ≡ false → walked rules [] (waits us rows p) (x ∷ xs) ≡ stands us (Some (rows, x ∷ xs)) p
+pub value_kinds : (n : Named) (us : List Use) (p x : ℕ) (xs : Text) → (x == 45) ≡ false → turn_fault shape [] (waits us (named_field n) p) (x ∷ xs) ≡ []
 unfolding clap_on_literals
-rows_value us p x xs h = rw (h, h)
+value_kinds workers_name us p x xs h = rw (h, h)
+value_kinds rows_name us p x xs h = rw (h, h)
+value_kinds bucket_name us p x xs h = rw (h, h)
 
-pub workers_value_kinds : (us : List Use) (p x : ℕ) (xs : Text) → (x == 45) ≡ false → turn_fault shape [] (waits us workers p) (x ∷ xs) ≡ []
+pub name_then_name : (n m : Named) (us : List Use) (p : ℕ) → turn_fault shape [] (waits us (named_field n) p) (named_word m) ≡ kind.InvalidValue ∷ []
 unfolding clap_on_literals
-workers_value_kinds us p x xs h = rw (h, h)
+name_then_name workers_name workers_name us p = refl
+name_then_name workers_name rows_name us p = refl
+name_then_name workers_name bucket_name us p = refl
+name_then_name rows_name workers_name us p = refl
+name_then_name rows_name rows_name us p = refl
+name_then_name rows_name bucket_name us p = refl
+name_then_name bucket_name workers_name us p = refl
+name_then_name bucket_name rows_name us p = refl
+name_then_name bucket_name bucket_name us p = refl
 
-pub rows_value_kinds : (us : List Use) (p x : ℕ) (xs : Text) → (x == 45) ≡ false → turn_fault shape [] (waits us rows p) (x ∷ xs) ≡ []
+pub name_then_flag : (n : Named) (us : List Use) (p : ℕ) → turn_fault shape [] (waits us (named_field n) p) (codes "--record") ≡ kind.InvalidValue ∷ []
 unfolding clap_on_literals
-rows_value_kinds us p x xs h = rw (h, h)
-
-pub workers_then_name : (us : List Use) (p : ℕ) → (turn_fault shape [] (waits us workers p) (codes "--workers") ≡ kind.InvalidValue ∷ []) × (turn_fault shape [] (waits us workers p) (codes "--rows") ≡ kind.InvalidValue ∷ [])
-    × (turn_fault shape [] (waits us workers p) (codes "--record") ≡ kind.InvalidValue ∷ [])
-unfolding clap_on_literals
-workers_then_name us p = (refl, refl, refl)
-
-pub rows_then_name : (us : List Use) (p : ℕ) → (turn_fault shape [] (waits us rows p) (codes "--workers") ≡ kind.InvalidValue ∷ []) × (turn_fault shape [] (waits us rows p) (codes "--rows") ≡ kind.InvalidValue ∷ [])
-    × (turn_fault shape [] (waits us rows p) (codes "--record") ≡ kind.InvalidValue ∷ [])
-unfolding clap_on_literals
-rows_then_name us p = (refl, refl, refl)
+name_then_flag workers_name us p = refl
+name_then_flag rows_name us p = refl
+name_then_flag bucket_name us p = refl
 
 -- any other word settles the open use, and is the next number
 pub first_number : (us found : List Use) (o : Option Open) (x : ℕ) (xs : Text) → (x == 45) ≡ false → settled_rows rules (open_use o) (map row_for us) ≡ map row_for found
@@ -286,6 +315,7 @@ first_number us found (Some (start, v)) x xs h e = rw (h, h) (ap (λ (r : List R
 first_number us found (Some (count, v)) x xs h e = rw (h, h) (ap (λ (r : List Row). record { held = record { rows = r; pending = Some (codes "start", (x ∷ xs) ∷ []); skip = 0 }; waiting = idle; position = 2; is_trailing = false; stopped = None }) e)
 first_number us found (Some (workers, v)) x xs h e = rw (h, h) (ap (λ (r : List Row). record { held = record { rows = r; pending = Some (codes "start", (x ∷ xs) ∷ []); skip = 0 }; waiting = idle; position = 2; is_trailing = false; stopped = None }) e)
 first_number us found (Some (rows, v)) x xs h e = rw (h, h) (ap (λ (r : List Row). record { held = record { rows = r; pending = Some (codes "start", (x ∷ xs) ∷ []); skip = 0 }; waiting = idle; position = 2; is_trailing = false; stopped = None }) e)
+first_number us found (Some (bucket, v)) x xs h e = rw (h, h) (ap (λ (r : List Row). record { held = record { rows = r; pending = Some (codes "start", (x ∷ xs) ∷ []); skip = 0 }; waiting = idle; position = 2; is_trailing = false; stopped = None }) e)
 
 pub second_number : (us found : List Use) (o : Option Open) (x : ℕ) (xs : Text) → (x == 45) ≡ false → settled_rows rules (open_use o) (map row_for us) ≡ map row_for found
     → walked rules [] (stands us o 2) (x ∷ xs) ≡ stands found (Some (count, x ∷ xs)) 3
@@ -295,6 +325,7 @@ second_number us found (Some (start, v)) x xs h e = rw (h, h) (ap (λ (r : List 
 second_number us found (Some (count, v)) x xs h e = rw (h, h) (ap (λ (r : List Row). record { held = record { rows = r; pending = Some (codes "count", (x ∷ xs) ∷ []); skip = 0 }; waiting = idle; position = 3; is_trailing = false; stopped = None }) e)
 second_number us found (Some (workers, v)) x xs h e = rw (h, h) (ap (λ (r : List Row). record { held = record { rows = r; pending = Some (codes "count", (x ∷ xs) ∷ []); skip = 0 }; waiting = idle; position = 3; is_trailing = false; stopped = None }) e)
 second_number us found (Some (rows, v)) x xs h e = rw (h, h) (ap (λ (r : List Row). record { held = record { rows = r; pending = Some (codes "count", (x ∷ xs) ∷ []); skip = 0 }; waiting = idle; position = 3; is_trailing = false; stopped = None }) e)
+second_number us found (Some (bucket, v)) x xs h e = rw (h, h) (ap (λ (r : List Row). record { held = record { rows = r; pending = Some (codes "count", (x ∷ xs) ∷ []); skip = 0 }; waiting = idle; position = 3; is_trailing = false; stopped = None }) e)
 
 pub first_kinds : (us : List Use) (o : Option Open) (x : ℕ) (xs : Text) → (x == 45) ≡ false → turn_fault shape [] (stands us o 1) (x ∷ xs) ≡ open_kinds us o
 unfolding clap_on_literals
@@ -303,6 +334,7 @@ first_kinds us (Some (start, v)) x xs h = rw (h, h)
 first_kinds us (Some (count, v)) x xs h = rw (h, h)
 first_kinds us (Some (workers, v)) x xs h = rw (h, h)
 first_kinds us (Some (rows, v)) x xs h = rw (h, h)
+first_kinds us (Some (bucket, v)) x xs h = rw (h, h)
 
 pub second_kinds : (us : List Use) (o : Option Open) (x : ℕ) (xs : Text) → (x == 45) ≡ false → turn_fault shape [] (stands us o 2) (x ∷ xs) ≡ open_kinds us o
 unfolding clap_on_literals
@@ -311,6 +343,7 @@ second_kinds us (Some (start, v)) x xs h = rw (h, h)
 second_kinds us (Some (count, v)) x xs h = rw (h, h)
 second_kinds us (Some (workers, v)) x xs h = rw (h, h)
 second_kinds us (Some (rows, v)) x xs h = rw (h, h)
+second_kinds us (Some (bucket, v)) x xs h = rw (h, h)
 
 -- a third number is one too many
 pub third_kinds : (us : List Use) (o : Option Open) (x : ℕ) (xs : Text) → (x == 45) ≡ false → turn_fault shape [] (stands us o 3) (x ∷ xs) ≡ kind.UnknownArgument ∷ []

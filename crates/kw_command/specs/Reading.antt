@@ -6,7 +6,7 @@ use Rattle.kw_command.specs.declared.command.Command.{Command}
 use Rattle.kw_command.specs.declared.command.Command.TheVariants as command
 use Rattle.kw_command.specs.declared.command.Name.{Name}
 use Rattle.kw_command.specs.declared.command.Name.TheVariants as name
-use Rattle.kw_command.specs.declared.command.TheConstants.{MOST_WORKERS, DEFAULT_WORKERS, FEWEST_ROWS, DEFAULT_ROWS, SIMULATED_ROWS, MOST_START, MOST_LINES}
+use Rattle.kw_command.specs.declared.command.TheConstants.{MOST_WORKERS, DEFAULT_WORKERS, FEWEST_ROWS, DEFAULT_ROWS, SIMULATED_ROWS, MOST_START, MOST_LINES, MOST_BUCKET}
 use Rattle.kw_command.specs.declared.words.Arguments.{Arguments}
 use Rattle.kw_command.specs.Words.{number_in}
 
@@ -22,6 +22,10 @@ with_workers a w = option_map (λ n. record a { workers = Some n }) (once a.work
 -- with the number of rows that this word writes, where there was none yet
 abbrev pub with_rows : Arguments → List ℕ → Option Arguments
 with_rows a w = option_map (λ n. record a { rows = Some n }) (once a.rows FEWEST_ROWS MOST_ROWS w)
+
+-- with the minutes of a bucket that this word writes, where there were none yet
+abbrev pub with_bucket : Arguments → List ℕ → Option Arguments
+with_bucket a w = option_map (λ n. record a { bucket = Some n }) (once a.bucket 1 MOST_BUCKET w)
 
 -- with the next of the two numbers
 abbrev pub with_second : Arguments → List ℕ → Option Arguments
@@ -49,18 +53,20 @@ reads o [] = o
 reads o (w ∷ []) = then_with with_alone o w
 reads o (w ∷ x ∷ ws) = if bytes_eq w (codes "--workers") then reads (then_with with_workers o x) ws
     else (if bytes_eq w (codes "--rows") then reads (then_with with_rows o x) ws
-    else reads (then_with with_alone o w) (x ∷ ws))
+    else (if bytes_eq w (codes "--bucket") then reads (then_with with_bucket o x) ws
+    else reads (then_with with_alone o w) (x ∷ ws)))
 
 -- no argument yet
 abbrev pub no_arguments : Arguments
-no_arguments = record { start = None; count = None; workers = None; rows = None; recorded = false }
+no_arguments = record { start = None; count = None; workers = None; rows = None; bucket = None; recorded = false }
 
 -- the command whose own word this is
 abbrev pub name_of : List ℕ → Option Name
 name_of w = if bytes_eq w (codes "replay") then Some name.Replay
     else (if bytes_eq w (codes "simulate") then Some name.Simulate
     else (if bytes_eq w (codes "judge") then Some name.Judge
-    else (if bytes_eq w (codes "gen") then Some name.Gen else None)))
+    else (if bytes_eq w (codes "gen") then Some name.Gen
+    else (if bytes_eq w (codes "rollup") then Some name.Rollup else None))))
 
 -- the command whose own word is the first of these
 abbrev pub first_name : List (List ℕ) → Option Name
@@ -68,12 +74,13 @@ first_name [] = None
 first_name (w ∷ ws) = name_of w
 
 -- the command of this name, where it takes just these arguments
-abbrev pub picked_from : Name → Option ℕ → Option ℕ → Option ℕ → Option ℕ → Bool → Option Command
-picked_from name.Replay None None w r false = Some (command.Replay (unwrap_or w DEFAULT_WORKERS) (unwrap_or r DEFAULT_ROWS))
-picked_from name.Simulate None None None r recorded = Some (command.Simulate (unwrap_or r SIMULATED_ROWS) recorded)
-picked_from name.Judge None None None None false = Some command.Judge
-picked_from name.Gen (Some s) (Some n) w r false = Some (command.Gen s n (unwrap_or w DEFAULT_WORKERS) (unwrap_or r DEFAULT_ROWS))
-picked_from _ s n w r recorded = None
+abbrev pub picked_from : Name → Option ℕ → Option ℕ → Option ℕ → Option ℕ → Option ℕ → Bool → Option Command
+picked_from name.Replay None None w r None false = Some (command.Replay (unwrap_or w DEFAULT_WORKERS) (unwrap_or r DEFAULT_ROWS))
+picked_from name.Simulate None None None r None recorded = Some (command.Simulate (unwrap_or r SIMULATED_ROWS) recorded)
+picked_from name.Judge None None None None None false = Some command.Judge
+picked_from name.Gen (Some s) (Some n) w r None false = Some (command.Gen s n (unwrap_or w DEFAULT_WORKERS) (unwrap_or r DEFAULT_ROWS))
+picked_from name.Rollup None None w r (Some g) false = Some (command.Rollup g (unwrap_or w DEFAULT_WORKERS) (unwrap_or r DEFAULT_ROWS))
+picked_from _ s n w r g recorded = None
 
 abbrev pub picked : Name → Arguments → Option Command
-picked name a = picked_from name a.start a.count a.workers a.rows a.recorded
+picked name a = picked_from name a.start a.count a.workers a.rows a.bucket a.recorded

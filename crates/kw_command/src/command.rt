@@ -1,10 +1,10 @@
 //! The commands of the program, and which lists of words they are.
 //!
 //! A command is the whole list of its words: its own word first, and then numbers, options and a
-//! flag, each option and the flag at most once. `specs/Words.antt` says which lists these are; no
-//! list is two commands. Every other list is bad words, the empty one among them. What stands after
-//! the first word is read by `words`; here the first word is read, and what its command takes of
-//! the rest is picked.
+//! flag, each option and the flag at most once; of the options only the minutes of a bucket must
+//! stand. `specs/Words.antt` says which lists these are; no list is two commands. Every other list
+//! is bad words, the empty one among them. What stands after the first word is read by `words`;
+//! here the first word is read, and what its command takes of the rest is picked.
 ghost use Rattle.std.specs.Prelude.{◌≡◌, ℕ, List, IfOk, IfSome, MatchOption};
 ghost use Rattle.kw_command.specs.declared.command.Command.{Command as AnyCommand};
 ghost use Rattle.kw_command.specs.Words.{AreInRange, Means};
@@ -37,6 +37,9 @@ pub const MOST_START: u32 = u32::MAX;
 /// The most lines that may be generated.
 pub const MOST_LINES: u32 = 1_000_000;
 
+/// The most minutes that a bucket may have, which are all of a series.
+pub const MOST_BUCKET: u32 = 1_048_576;
+
 /// What the program is asked to do.
 #[derive(Clone, Copy, Debug, PartialEq, Eq)]
 pub enum Command {
@@ -60,6 +63,12 @@ pub enum Command {
         workers: u32,
         rows: u32,
     },
+    /// Keeps metric points in one map, and prints tables of their buckets of `bucket` minutes.
+    Rollup {
+        bucket: u32,
+        workers: u32,
+        rows: u32,
+    },
 }
 
 /// The commands' own words.
@@ -69,6 +78,7 @@ pub enum Name {
     Simulate,
     Judge,
     Gen,
+    Rollup,
 }
 
 /// The command that these words mean, or none where they are bad.
@@ -111,6 +121,7 @@ fn name_of(word: &str) -> Option<Name>
         "simulate" => Some(Name::Simulate),
         "judge" => Some(Name::Judge),
         "gen" => Some(Name::Gen),
+        "rollup" => Some(Name::Rollup),
         _ => None,
     }
 }
@@ -124,22 +135,28 @@ fn picked(name: Name, arguments: Arguments) -> Option<Command>
         count,
         workers,
         rows,
+        bucket,
         recorded,
     } = arguments;
     let asked = workers.unwrap_or(DEFAULT_WORKERS);
-    match (name, start, count, workers, rows, recorded) {
-        (Name::Replay, None, None, _, _, false) => Some(Command::Replay {
+    match (name, start, count, workers, rows, bucket, recorded) {
+        (Name::Replay, None, None, _, _, None, false) => Some(Command::Replay {
             workers: asked,
             rows: rows.unwrap_or(DEFAULT_ROWS),
         }),
-        (Name::Simulate, None, None, None, _, _) => Some(Command::Simulate {
+        (Name::Simulate, None, None, None, _, None, _) => Some(Command::Simulate {
             rows: rows.unwrap_or(SIMULATED_ROWS),
             recorded,
         }),
-        (Name::Judge, None, None, None, None, false) => Some(Command::Judge),
-        (Name::Gen, Some(start), Some(count), _, _, false) => Some(Command::Gen {
+        (Name::Judge, None, None, None, None, None, false) => Some(Command::Judge),
+        (Name::Gen, Some(start), Some(count), _, _, None, false) => Some(Command::Gen {
             start,
             count,
+            workers: asked,
+            rows: rows.unwrap_or(DEFAULT_ROWS),
+        }),
+        (Name::Rollup, None, None, _, _, Some(bucket), false) => Some(Command::Rollup {
+            bucket,
             workers: asked,
             rows: rows.unwrap_or(DEFAULT_ROWS),
         }),

@@ -10,10 +10,10 @@ ghost use Rattle.std.specs.Char.{is_ascii_digit};
 ghost use Rattle.std.specs.List.{list_all};
 ghost use Rattle.clap.specs.Words.{app_of, with_rule};
 ghost use Rattle.kw_command.specs.Words.{is_digits, is_known};
-ghost use Rattle.kw_command.specs.Clap.{kiwi, rule_for, flag_rule, start, count, workers, rows};
+ghost use Rattle.kw_command.specs.Clap.{kiwi, rule_for, flag_rule, start, count, workers, rows, bucket};
 ghost use Rattle.kw_command.specs.Reading.{no_arguments, reads};
 
-use crate::command::{FEWEST_ROWS, MOST_LINES, MOST_WORKERS};
+use crate::command::{FEWEST_ROWS, MOST_BUCKET, MOST_LINES, MOST_WORKERS};
 use crate::word::Word;
 use clap::error::ErrorKind;
 use clap::{Arg, ArgAction, Command, value_parser};
@@ -24,14 +24,15 @@ use std::alloc::{AllocError, Global};
 /// The most digits that a number may have.
 pub const MOST_DIGITS: usize = 10;
 
-/// What may stand after a command's own word: two numbers, two options, and a flag, which has no
-/// value.
+/// What may stand after a command's own word: two numbers, three options, and a flag, which has
+/// no value.
 #[derive(Clone, Copy, Debug, PartialEq, Eq)]
 pub struct Arguments {
     pub start: Option<u32>,
     pub count: Option<u32>,
     pub workers: Option<u32>,
     pub rows: Option<u32>,
+    pub bucket: Option<u32>,
     pub recorded: bool,
 }
 
@@ -48,7 +49,15 @@ fn is_known(word: &str) -> bool
 {
     matches!(
         word,
-        "replay" | "simulate" | "judge" | "gen" | "--workers" | "--rows" | "--record"
+        "replay"
+            | "simulate"
+            | "judge"
+            | "gen"
+            | "rollup"
+            | "--workers"
+            | "--rows"
+            | "--bucket"
+            | "--record"
     ) || is_digits(word)
 }
 
@@ -79,6 +88,7 @@ pub fn arguments_of(alloc: Global, words: &[Word]) -> Result<Option<Arguments>, 
             count: matches.get_one::<u32>("count"),
             workers: matches.get_one::<u32>("workers"),
             rows: matches.get_one::<u32>("rows"),
+            bucket: matches.get_one::<u32>("bucket"),
             recorded: matches.get_flag("record"),
         })),
         Err(error) => match error.kind() {
@@ -96,6 +106,7 @@ fn parser<'a>(alloc: Global) -> Result<Command<'a>, AllocError>
     let program = Command::new(alloc, "kiwi").disable_help_flag(true);
     let program = with_numbers(alloc, program)?;
     let program = with_options(alloc, program)?;
+    let program = with_bucket(alloc, program)?;
     with_flag(alloc, program)
 }
 
@@ -111,7 +122,7 @@ fn with_numbers<'a>(alloc: Global, program: Command<'a>) -> Result<Command<'a>, 
     program.arg(start)?.arg(count)
 }
 
-/// Adds the two options.
+/// Adds the two options that the map's commands share.
 fn with_options<'a>(alloc: Global, program: Command<'a>) -> Result<Command<'a>, AllocError>
     ensures { IfOk result (λ more. app_of more
         ≡ with_rule (with_rule (app_of program.entry) (rule_for workers)) (rule_for rows)) }
@@ -123,6 +134,17 @@ fn with_options<'a>(alloc: Global, program: Command<'a>) -> Result<Command<'a>, 
         i64::from(FEWEST_ROWS)..=i64::from(MOST_ROWS),
     ));
     program.arg(workers)?.arg(rows)
+}
+
+/// Adds the option for the minutes of a bucket.
+fn with_bucket<'a>(alloc: Global, program: Command<'a>) -> Result<Command<'a>, AllocError>
+    ensures { IfOk result (λ more. app_of more
+        ≡ with_rule (app_of program.entry) (rule_for bucket)) }
+{
+    let bucket = Arg::new(alloc, "bucket")
+        .long("bucket")
+        .value_parser(value_parser!(u32).range(1..=i64::from(MOST_BUCKET)));
+    program.arg(bucket)
 }
 
 /// Adds the flag.

@@ -60,6 +60,15 @@ const fn generated(start: u32, count: u32, workers: u32, rows: u32) -> Command {
     }
 }
 
+/// The command that prints tables of buckets.
+const fn rollup(bucket: u32, workers: u32, rows: u32) -> Command {
+    Command::Rollup {
+        bucket,
+        workers,
+        rows,
+    }
+}
+
 #[test]
 fn options_that_do_not_stand_have_their_defaults(rt: HostRuntime) -> Result<(), Fail> {
     let table = [
@@ -69,6 +78,7 @@ fn options_that_do_not_stand_have_their_defaults(rt: HostRuntime) -> Result<(), 
         ("simulate", simulate(64, false)),
         ("judge", Command::Judge),
         ("gen|0|1", generated(0, 1, 1, 16_384)),
+        ("rollup|--bucket|60", rollup(60, 1, 16_384)),
     ];
     Ok(expect_commands(&rt, rt.alloc(), &table)?)
 }
@@ -91,6 +101,17 @@ fn options_stand_in_any_order(rt: HostRuntime) -> Result<(), Fail> {
 }
 
 #[test]
+fn the_minutes_of_a_bucket_stand_anywhere_among_the_options(rt: HostRuntime) -> Result<(), Fail> {
+    let made = rollup(60, 2, 64);
+    let table = [
+        ("rollup|--bucket|60|--workers|2|--rows|64", made),
+        ("rollup|--workers|2|--bucket|0000000060|--rows|64", made),
+        ("rollup|--rows|64|--workers|2|--bucket|60", made),
+    ];
+    Ok(expect_commands(&rt, rt.alloc(), &table)?)
+}
+
+#[test]
 fn a_flag_stands_before_or_after_an_option(rt: HostRuntime) -> Result<(), Fail> {
     let table = [
         ("simulate|--record", simulate(64, true)),
@@ -102,13 +123,17 @@ fn a_flag_stands_before_or_after_an_option(rt: HostRuntime) -> Result<(), Fail> 
 
 #[test]
 fn numbers_reach_to_the_ends_of_their_ranges(rt: HostRuntime) -> Result<(), Fail> {
-    let list = "gen|4294967295|1000000|--workers|8|--rows|65536";
-    let command = generated(4_294_967_295, 1_000_000, 8, 65_536);
-    Ok(expect_meaning(&rt, rt.alloc(), list, Some(command))?)
+    let most = generated(4_294_967_295, 1_000_000, 8, 65_536);
+    let table = [
+        ("gen|4294967295|1000000|--workers|8|--rows|65536", most),
+        ("rollup|--bucket|1", rollup(1, 1, 16_384)),
+        ("rollup|--bucket|1048576", rollup(1_048_576, 1, 16_384)),
+    ];
+    Ok(expect_commands(&rt, rt.alloc(), &table)?)
 }
 
 /// Lists that mean no command. The first one has an empty word.
-const OTHER_WORDS: [&str; 61] = [
+const OTHER_WORDS: [&str; 78] = [
     "",
     "Replay",
     "help",
@@ -170,6 +195,23 @@ const OTHER_WORDS: [&str; 61] = [
     "gen|--workers|1|2",
     "gen|1|gen",
     "gen|1|2|--rows|64|--rows|64",
+    "--bucket",
+    "rollup|60",
+    "rollup|--workers|2",
+    "rollup|--bucket",
+    "rollup|--bucket|0",
+    "rollup|--bucket|1048577",
+    "rollup|--bucket|00000000060",
+    "rollup|--bucket|60|--bucket|60",
+    "rollup|--bucket|60|60",
+    "rollup|--bucket|60|--record",
+    "rollup|--bucket|--rows|64",
+    "rollup|--rows|--bucket|60",
+    "rollup|--bucket=60",
+    "replay|--bucket|60",
+    "simulate|--bucket|60",
+    "judge|--bucket|60",
+    "gen|1|2|--bucket|60",
 ];
 
 #[test]
