@@ -52,13 +52,13 @@ REFUSED = b"done 0.1 0 5 put 5 10: no rows\ndone 0.2 6 9 get 5: none\norder 0.1 
 # A get that has announced its epoch and stands still, beside puts of one key: each full row is
 # replaced by another, and none that was retired is used again, so that rows run out. Once the get
 # has left, one is, and the put is done. The first `until` gives up after 100,000 steps, in the
-# 3,719th put.
+# 3,848th put.
 STILL = (
     b"call 0 get 5\nuntil 0 load_head\nputs 1 4034 5 9\nuntil 1 reclaim\nuntil 1 reclaim\ngo 0 1000\n"
     b"call 1 put 5 9\nuntil 1 reclaim\ngo 1 100000\n"
 )
 STILL_LINES = [b"1.%d put 5 9: ok" % number for number in range(1, 4034)]
-STILL_LINES[3718:3718] = [b"missed"]
+STILL_LINES[3847:3847] = [b"missed"]
 STILL_LINES += [b"1.4034 put 5 9: no rows", b"missed", b"0.1 get 5: 9", b"1.4035 put 5 9: ok"]
 STILL_NAMES = [b"1.%d" % number for number in range(1, 4036)]
 STILL_NAMES[64:64] = [b"0.1"]

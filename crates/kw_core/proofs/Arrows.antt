@@ -51,6 +51,8 @@ use Rattle.kw_world.specs.declared.event.Choice.{Choice}
 use Rattle.kw_world.specs.declared.event.Choice.TheVariants.{Begin, Go, Guess, Stop}
 use Rattle.kw_world.specs.Sizes.{Sizes}
 use Rattle.kw_world.specs.Local.{resting, without_rows, without_rebalance}
+use Rattle.kw_world.specs.Operation.{told_by}
+use Rattle.kw_world.proofs.Transitions.{guessed_below}
 use Rattle.kw_core.proofs.NextBuilt.{begun_anew, over, refused}
 use Rattle.kw_world.specs.Calls.{first_key, last_key, is_in_range, is_scan, is_range_empty}
 use Rattle.kw_world.specs.Transition.{Outcome, to, leave, row_linked, row_or_first}
@@ -58,15 +60,15 @@ use Rattle.kw_world.specs.ScanTransitions.{begun, entered, version_settled, answ
 use Rattle.kw_world.specs.WalkTransitions.{start_transition, guess_seen, arrive, link_reached, walk_transition, is_stopped}
 use Rattle.kw_world.specs.declared.marks.Mark.{Mark}
 use Rattle.kw_world.specs.Marks.{unmarked, least_mark}
-use Rattle.kw_world.specs.ReadTransitions.{to_look, look_seen, help_seen, remembering, reaching, left_over_of, to_left_over, list_reached, list_past, row_read, get_answered, scan_ended, scan_on, with_pairs, row_scanned, gathering}
+use Rattle.kw_world.specs.ReadTransitions.{to_look, look_seen, help_seen, remembering, reaching, left_over_of, to_left_over, list_started, list_reached, list_past, row_read, get_answered, scan_ended, scan_on, with_pairs, row_scanned, gathering}
 use Rattle.kw_world.specs.PutTransitions.{has_room, given_of, stamp_seen, tidies_row}
 use Rattle.kw_world.specs.EngageTransitions.{to_rebalance, again, refuse, state_seen, engaged, followed_by, decided}
 use Rattle.kw_world.specs.FreezeTransitions.{count_frozen, to_scans, to_freeze_look, marking, freezing, freeze_seen, entry_tried, to_scan_look, needing, scan_seen, scan_helped}
 use Rattle.kw_world.specs.TakeTransitions.{to_take, planned, left_of, to_left, taking, take_reached, take_version, keeping, take_past}
-use Rattle.kw_world.specs.ListTransitions.{link_name, meeting, losing, to_insert, insert_from, insert_past, is_newer, insert_tried}
+use Rattle.kw_world.specs.ListTransitions.{link_name, cell_guess, behind_cell, first_operation, meeting, losing, to_insert, insert_started, insert_from, insert_past, is_newer, insert_tried}
 use Rattle.kw_world.specs.Table.{transition}
 use Rattle.kw_world.specs.Step.{followed, is_skipped}
-use Rattle.kw_core.specs.Words.{Words, next_in, least_in}
+use Rattle.kw_core.specs.Words.{Words, next_in, least_in, built_in}
 use Rattle.kw_core.specs.Stages.{is_put}
 use Rattle.kw_core.proofs.Events.{IsBegun}
 use Rattle.kw_core.proofs.Building.{Building, IsBuilding, building}
@@ -74,7 +76,7 @@ use Rattle.kw_core.proofs.Building.{Building, IsBuilding, building}
 -- what a reader does after the entries below j: the next look, or the row's list
 pub data NextLook (z : Sizes) (j : ℕ) : Activity → Type 0 where
   looks : j < z.seats → NextLook z j (Activity.Look (Look.Entry j))
-  lists : z.seats ≤ j → NextLook z j (Activity.Read Read.Link)
+  lists : z.seats ≤ j → NextLook z j (Activity.Read Read.Start)
 
 -- what a reader knows once its walk is over, or a remembered cell is read: it reads the next one
 -- that it remembers, or the row is read
@@ -83,7 +85,7 @@ pub data NextLeftOver (l : Local) : Local → Type 0 where
   answers : least_mark l.remembered ≡ None → is_scan l.call ≡ false → NextLeftOver l (leave (answer_found (shown_at l.gathered NEWEST (first_key l.call))) l).local
   ends_scan : least_mark l.remembered ≡ None → is_scan l.call ≡ true → (l.next ≡ None) ⊎ (last_key l.call < l.upper) → NextLeftOver l (scan_ended (with_pairs (last_key l.call) l)).local
   scans_on : (r : ℕ) → least_mark l.remembered ≡ None → is_scan l.call ≡ true → l.next ≡ Some r → l.upper ≤ last_key l.call →
-      NextLeftOver l (record (with_pairs (last_key l.call) l) { row = r; lower = l.upper; want = l.upper; next = None; upper = 0; activity = Activity.Walk Walk.Next })
+      NextLeftOver l (record (with_pairs (last_key l.call) l) { row = r; lower = l.upper; built = 0; want = l.upper; next = None; upper = 0; activity = Activity.Walk Walk.Next })
 
 -- the word is neither a pending nor a stamped entry
 pub record IsNeither (w : ℕ) : Type 0 where
@@ -119,17 +121,17 @@ pub data Arrow (z : Sizes) (v : Words) (s : ℕ) (choice : Choice) (l : Local) :
   settles_empty : is_range_empty l.call ≡ true → Arrow z v s choice l (Activity.Draw Draw.Settle) (record l { version = version_settled (scan_of (v (name.Scan s))) l.drawn; activity = Activity.EndScan Pairs })
   settles : is_range_empty l.call ≡ false → Arrow z v s choice l (Activity.Draw Draw.Settle) (record l { version = version_settled (scan_of (v (name.Scan s))) l.drawn; want = first_key l.call; activity = Activity.Walk Walk.Start })
   -- the walk
-  starts_at_head : Arrow z v s choice l (Activity.Walk Walk.Start) (record l { row = row_or_first (row_linked (link_of (v name.Head))); lower = 0; activity = Activity.Walk Walk.Next })
+  starts_at_head : Arrow z v s choice l (Activity.Walk Walk.Start) (record l { row = row_or_first (row_linked (link_of (v name.Head))); lower = 0; built = 0; activity = Activity.Walk Walk.Next })
   guesses : (r : ℕ) → choice ≡ Guess r → state_of (v (name.State r)) ≡ Some Normal → Arrow z v s choice l (Activity.Walk Walk.Start) (record l { row = r; activity = Activity.Walk Walk.GuessedLeast })
   guess_fails : Arrow z v s choice l (Activity.Walk Walk.Start) (record l { activity = Activity.Walk Walk.First })
-  takes_head : Arrow z v s choice l (Activity.Walk Walk.First) (record l { row = row_or_first (row_linked (link_of (v name.Head))); lower = 0; activity = Activity.Walk Walk.Next })
-  guess_serves : least_in v l.row ≤ l.want → Arrow z v s choice l (Activity.Walk Walk.GuessedLeast) (record l { lower = least_in v l.row; activity = Activity.Walk Walk.Next })
+  takes_head : Arrow z v s choice l (Activity.Walk Walk.First) (record l { row = row_or_first (row_linked (link_of (v name.Head))); lower = 0; built = 0; activity = Activity.Walk Walk.Next })
+  guess_serves : least_in v l.row ≤ l.want → Arrow z v s choice l (Activity.Walk Walk.GuessedLeast) (record l { lower = least_in v l.row; built = built_in v l.row; activity = Activity.Walk Walk.Next })
   guess_is_above : l.want < least_in v l.row → Arrow z v s choice l (Activity.Walk Walk.GuessedLeast) (record l { activity = Activity.Walk Walk.First })
   stops : is_stopped choice l ≡ true → Arrow z v s choice l (Activity.Walk Walk.Next) (leave Stopped l).local
   puts_in_last : is_put l.call ≡ true → next_in v l.row ≡ None → Arrow z v s choice l (Activity.Walk Walk.Next) (record l { next = None; upper = 0; activity = Activity.Put Put.Count })
   reads_last : is_put l.call ≡ false → next_in v l.row ≡ None → Arrow z v s choice l (Activity.Walk Walk.Next) (record l { next = None; upper = 0; remembered = []; gathered = []; link = None; walked = 0; activity = Activity.Look (Look.Entry 0) })
   reaches_next : (q : ℕ) → next_in v l.row ≡ Some q → Arrow z v s choice l (Activity.Walk Walk.Next) (record l { candidate = q; activity = Activity.Walk Walk.NextLeast })
-  walks_on : least_in v l.candidate ≤ l.want → Arrow z v s choice l (Activity.Walk Walk.NextLeast) (record l { row = l.candidate; lower = least_in v l.candidate; activity = Activity.Walk Walk.Next })
+  walks_on : least_in v l.candidate ≤ l.want → Arrow z v s choice l (Activity.Walk Walk.NextLeast) (record l { row = l.candidate; lower = least_in v l.candidate; built = built_in v l.candidate; activity = Activity.Walk Walk.Next })
   puts_before : is_put l.call ≡ true → l.want < least_in v l.candidate → Arrow z v s choice l (Activity.Walk Walk.NextLeast) (record l { next = Some l.candidate; upper = least_in v l.candidate; activity = Activity.Put Put.Count })
   reads_before : is_put l.call ≡ false → l.want < least_in v l.candidate → Arrow z v s choice l (Activity.Walk Walk.NextLeast) (record l { next = Some l.candidate; upper = least_in v l.candidate; remembered = []; gathered = []; link = None; walked = 0; activity = Activity.Look (Look.Entry 0) })
   -- a reader looks at the entries
@@ -143,6 +145,10 @@ pub data Arrow (z : Sizes) (v : Words) (s : ℕ) (choice : Choice) (l : Local) :
   finds_stamped : (c version : ℕ) (next : Activity) → pend_of (v (name.Pend l.row l.looked)) ≡ Some (pend.Stamped c version) → NextLook z (l.looked + 1) next → Arrow z v s choice l (Activity.Look Look.Help) (record (remembering c version l) { activity = next })
   finds_other : (next : Activity) → IsNot l.saw (v (name.Pend l.row l.looked)) → NextLook z (l.looked + 1) next → Arrow z v s choice l (Activity.Look Look.Help) (record l { activity = next })
   -- a reader walks along the row's list, and reads what it remembers and did not reach
+  begins_behind : (c : ℕ) → c < l.built → key_of_word (v (name.Key l.row c)) < first_key l.call → Arrow z v s choice l (Activity.Read Read.Start) (record l { link = Some c; activity = Activity.Read Read.Link })
+  begins_at_first : (c : ℕ) → first_key l.call ≤ key_of_word (v (name.Key l.row c)) → Arrow z v s choice l (Activity.Read Read.Start) (record l { activity = Activity.Read Read.Link })
+  first_leads : (c : ℕ) → cell_of_link_word (v (link_name l.row l.link)) ≡ Some c → Arrow z v s choice l (Activity.Read Read.Start) (record (reaching z c l) { activity = Activity.Read Read.Key })
+  first_ends : (next : Local) → cell_of_link_word (v (link_name l.row l.link)) ≡ None → NextLeftOver l next → Arrow z v s choice l (Activity.Read Read.Start) next
   list_leads : (c : ℕ) → cell_of_link_word (v (link_name l.row l.link)) ≡ Some c → Arrow z v s choice l (Activity.Read Read.Link) (record (reaching z c l) { activity = Activity.Read Read.Key })
   list_ends : (next : Local) → cell_of_link_word (v (link_name l.row l.link)) ≡ None → NextLeftOver l next → Arrow z v s choice l (Activity.Read Read.Link) next
   key_below : key_of_word (v (name.Key l.row l.place)) < first_key l.call → Arrow z v s choice l (Activity.Read Read.Key) (list_past l).local
@@ -169,7 +175,11 @@ pub data Arrow (z : Sizes) (v : Words) (s : ℕ) (choice : Choice) (l : Local) :
   is_stamped : (version : ℕ) → pend_of (v (name.Pend l.row s)) ≡ Some (pend.Stamped l.cell version) → Arrow z v s choice l (Activity.Put Put.Stamp) (record l { version = version; activity = Activity.Put Put.Version })
   stamps_full : IsNotOwn l.cell (v (name.Pend l.row s)) → Arrow z v s choice l (Activity.Put Put.Stamp) (to_rebalance l).local
   stores_version : Arrow z v s choice l (Activity.Put Put.Version) (to_insert l).local
-  -- its cell is inserted
+  -- its cell is inserted: the walk begins behind a guessed cell, or at the first link
+  inserts_behind : (c : ℕ) → c < l.built → key_of_word (v (name.Key l.row c)) < first_key l.call → Arrow z v s choice l (Activity.Insert Insert.Start) (record l { link = Some c; activity = Activity.Insert Insert.Link })
+  inserts_at_first : (c : ℕ) → first_key l.call ≤ key_of_word (v (name.Key l.row c)) → Arrow z v s choice l (Activity.Insert Insert.Start) (record l { activity = Activity.Insert Insert.Link })
+  first_reaches : (c : ℕ) → cell_of_link_word (v (link_name l.row l.link)) ≡ Some c → Arrow z v s choice l (Activity.Insert Insert.Start) (record (meeting z c l) { activity = Activity.Insert Insert.Key })
+  first_sees_none : cell_of_link_word (v (link_name l.row l.link)) ≡ None → Arrow z v s choice l (Activity.Insert Insert.Start) (record l { held = None; activity = Activity.Insert Insert.Set })
   reaches_cell : (c : ℕ) → cell_of_link_word (v (link_name l.row l.link)) ≡ Some c → Arrow z v s choice l (Activity.Insert Insert.Link) (record (meeting z c l) { activity = Activity.Insert Insert.Key })
   sees_none : cell_of_link_word (v (link_name l.row l.link)) ≡ None → Arrow z v s choice l (Activity.Insert Insert.Link) (record l { held = None; activity = Activity.Insert Insert.Set })
   key_before : key_of_word (v (name.Key l.row l.place)) < first_key l.call → Arrow z v s choice l (Activity.Insert Insert.Key) (insert_past l).local
@@ -179,7 +189,7 @@ pub data Arrow (z : Sizes) (v : Words) (s : ℕ) (choice : Choice) (l : Local) :
   version_after : is_newer (v (name.Version l.row l.place)) l.place l ≡ false → Arrow z v s choice l (Activity.Insert Insert.Version) (record l { activity = Activity.Insert Insert.Set })
   stores_after : Arrow z v s choice l (Activity.Insert Insert.Set) (record l { activity = Activity.Insert Insert.Exchange })
   inserts : v (link_name l.row l.link) ≡ cell_link_word l.held → Arrow z v s choice l (Activity.Insert Insert.Exchange) (record l { activity = Activity.Put Put.Clear })
-  loses : v (link_name l.row l.link) ≢ cell_link_word l.held → Arrow z v s choice l (Activity.Insert Insert.Exchange) (record (losing z l) { activity = Activity.Insert Insert.Link })
+  loses : v (link_name l.row l.link) ≢ cell_link_word l.held → Arrow z v s choice l (Activity.Insert Insert.Exchange) (record (losing z l) { activity = Activity.Insert Insert.Start })
   clears : Arrow z v s choice l (Activity.Put Put.Clear) (leave Done l).local
   tidies : (rows : ℕ) → tidies_row rows choice l ≡ true → Arrow z v s choice l (Activity.Put Put.Clear) (to_rebalance (record l { tidies = true })).local
   -- the call ends
@@ -283,16 +293,16 @@ above x y e = grind (arith, nat_tests)
 next_look : (z : Sizes) (j : ℕ) (l : Local) (P : Local → Type 0) → ((next : Activity) → NextLook z j next → P (record l { activity = next })) → P (to_look z j l).local
 next_look z j l P f = saw (nat_lt j z.seats) refl
   where
-    saw : (b : Bool) → nat_lt j z.seats ≡ b → P (let x : Outcome = if b then to (Activity.Look (Look.Entry j)) l else to (Activity.Read Read.Link) l in x).local
+    saw : (b : Bool) → nat_lt j z.seats ≡ b → P (let x : Outcome = if b then to (Activity.Look (Look.Entry j)) l else to (Activity.Read Read.Start) l in x).local
     saw true e = f (Activity.Look (Look.Entry j)) (looks (below j z.seats e))
-    saw false e = f (Activity.Read Read.Link) (lists (not_below j z.seats e))
+    saw false e = f (Activity.Read Read.Start) (lists (not_below j z.seats e))
 
 -- what follows the end of a row's cells, for a scan
 scan_goes_on : (l : Local) (n : Option ℕ) → least_mark l.remembered ≡ None → is_scan l.call ≡ true → l.next ≡ n → NextLeftOver l (scan_on n (last_key l.call) (with_pairs (last_key l.call) l)).local
 scan_goes_on l None c s e = ends_scan c s (inl e)
 scan_goes_on l (Some r) c s e = saw (nat_lt (last_key l.call) l.upper) refl
   where
-    saw : (b : Bool) → nat_lt (last_key l.call) l.upper ≡ b → NextLeftOver l (let x : Outcome = if b then scan_ended (with_pairs (last_key l.call) l) else to (Activity.Walk Walk.Next) (record (with_pairs (last_key l.call) l) { row = r; lower = l.upper; want = l.upper; next = None; upper = 0 }) in x).local
+    saw : (b : Bool) → nat_lt (last_key l.call) l.upper ≡ b → NextLeftOver l (let x : Outcome = if b then scan_ended (with_pairs (last_key l.call) l) else to (Activity.Walk Walk.Next) (record (with_pairs (last_key l.call) l) { row = r; lower = l.upper; built = 0; want = l.upper; next = None; upper = 0 }) in x).local
     saw true h = ends_scan c s (inr (below _ _ h))
     saw false h = scans_on r c s e (not_below _ _ h)
 
@@ -388,7 +398,7 @@ module _ (z : Sizes) (rows : ℕ) (v : Words) (s : ℕ) (choice : Choice) (l : L
   walk_arrow true e = stops e
   walk_arrow false e = link_arrow (next_in v l.row) refl
 
-  least_arrow : (b : Bool) → nat_le (least_in v l.candidate) l.want ≡ b → Arrow z v s choice l (Activity.Walk Walk.NextLeast) (let x : Outcome = if b then to (Activity.Walk Walk.Next) (record l { row = l.candidate; lower = least_in v l.candidate }) else arrive l.call (record l { next = Some l.candidate; upper = least_in v l.candidate }) in x).local
+  least_arrow : (b : Bool) → nat_le (least_in v l.candidate) l.want ≡ b → Arrow z v s choice l (Activity.Walk Walk.NextLeast) (let x : Outcome = if b then to (Activity.Walk Walk.Next) (record l { row = l.candidate; lower = least_in v l.candidate; built = built_in v l.candidate }) else arrive l.call (record l { next = Some l.candidate; upper = least_in v l.candidate }) in x).local
   least_arrow true e = walks_on (at_most _ _ e)
   least_arrow false e = arrive_before l.call refl (above _ _ e)
 
@@ -414,6 +424,18 @@ module _ (z : Sizes) (rows : ℕ) (v : Words) (s : ℕ) (choice : Choice) (l : L
   list_arrow : (x : Option ℕ) → cell_of_link_word (v (link_name l.row l.link)) ≡ x → Arrow z v s choice l (Activity.Read Read.Link) (list_reached z x l).local
   list_arrow (Some c) e = list_leads c e
   list_arrow None e = list_ends _ e (next_left_over l)
+
+  first_list_arrow : (x : Option ℕ) → cell_of_link_word (v (link_name l.row l.link)) ≡ x → Arrow z v s choice l (Activity.Read Read.Start) (list_reached z x l).local
+  first_list_arrow (Some c) e = first_leads c e
+  first_list_arrow None e = first_ends _ e (next_left_over l)
+
+  list_start_arrow : (g : Option ℕ) → cell_guess choice l ≡ g → Arrow z v s choice l (Activity.Read Read.Start) (list_started z l g (told_by (first_operation g l).action (v (first_operation g l).name))).local
+  list_start_arrow (Some c) e = saw (nat_lt (key_of_word (v (name.Key l.row c))) (first_key l.call)) refl
+    where
+      saw : (b : Bool) → nat_lt (key_of_word (v (name.Key l.row c))) (first_key l.call) ≡ b → Arrow z v s choice l (Activity.Read Read.Start) (let x : Outcome = if b then to (Activity.Read Read.Link) (behind_cell c l) else to (Activity.Read Read.Link) l in x).local
+      saw true f = begins_behind c (guessed_below choice l c e) (below _ _ f)
+      saw false f = begins_at_first c (not_below _ _ f)
+  list_start_arrow None e = first_list_arrow (cell_of_link_word (v (link_name l.row l.link))) refl
 
   stamp_arrow : (x : Option Pend) → pend_of (v (name.Pend l.row s)) ≡ x → Arrow z v s choice l (Activity.Put Put.Stamp) (stamp_seen x l).local
   stamp_arrow (Some pend.Idle) e = stamps_full (record { pending = λ q. let y : Some pend.Idle ≡ Some (pend.Pending l.cell) = sym e ∙ q in cc; stamped = λ u q. let y : Some pend.Idle ≡ Some (pend.Stamped l.cell u) = sym e ∙ q in cc })
@@ -506,6 +528,18 @@ module _ (z : Sizes) (rows : ℕ) (v : Words) (s : ℕ) (choice : Choice) (l : L
   take_arrow (Some c) e = take_leads c e
   take_arrow None e = next_left z l (Arrow z v s choice l (Activity.Rebalance (Rebalance.Gather Gather.Link))) (λ m n. takes_left m e n) (takes_no_more e)
 
+  first_insert_arrow : (x : Option ℕ) → cell_of_link_word (v (link_name l.row l.link)) ≡ x → Arrow z v s choice l (Activity.Insert Insert.Start) (insert_from z x l).local
+  first_insert_arrow (Some c) e = first_reaches c e
+  first_insert_arrow None e = first_sees_none e
+
+  insert_start_arrow : (g : Option ℕ) → cell_guess choice l ≡ g → Arrow z v s choice l (Activity.Insert Insert.Start) (insert_started z l g (told_by (first_operation g l).action (v (first_operation g l).name))).local
+  insert_start_arrow (Some c) e = saw (nat_lt (key_of_word (v (name.Key l.row c))) (first_key l.call)) refl
+    where
+      saw : (b : Bool) → nat_lt (key_of_word (v (name.Key l.row c))) (first_key l.call) ≡ b → Arrow z v s choice l (Activity.Insert Insert.Start) (let x : Outcome = if b then to (Activity.Insert Insert.Link) (behind_cell c l) else to (Activity.Insert Insert.Link) l in x).local
+      saw true f = inserts_behind c (guessed_below choice l c e) (below _ _ f)
+      saw false f = inserts_at_first c (not_below _ _ f)
+  insert_start_arrow None e = first_insert_arrow (cell_of_link_word (v (link_name l.row l.link))) refl
+
   insert_arrow : (x : Option ℕ) → cell_of_link_word (v (link_name l.row l.link)) ≡ x → Arrow z v s choice l (Activity.Insert Insert.Link) (insert_from z x l).local
   insert_arrow (Some c) e = reaches_cell c e
   insert_arrow None e = sees_none e
@@ -530,7 +564,7 @@ module _ (z : Sizes) (rows : ℕ) (v : Words) (s : ℕ) (choice : Choice) (l : L
   arrow (Activity.Walk Walk.First) b m = takes_head
   arrow (Activity.Walk Walk.GuessedLeast) b m = saw (nat_le (least_in v l.row) l.want) refl
     where
-      saw : (b : Bool) → nat_le (least_in v l.row) l.want ≡ b → Arrow z v s choice l (Activity.Walk Walk.GuessedLeast) (let x : Outcome = if b then to (Activity.Walk Walk.Next) (record l { lower = least_in v l.row }) else to (Activity.Walk Walk.First) l in x).local
+      saw : (b : Bool) → nat_le (least_in v l.row) l.want ≡ b → Arrow z v s choice l (Activity.Walk Walk.GuessedLeast) (let x : Outcome = if b then to (Activity.Walk Walk.Next) (record l { lower = least_in v l.row; built = built_in v l.row }) else to (Activity.Walk Walk.First) l in x).local
       saw true e = guess_serves (at_most _ _ e)
       saw false e = guess_is_above (above _ _ e)
   arrow (Activity.Walk Walk.Next) b m = walk_arrow (is_stopped choice l) refl
@@ -543,6 +577,7 @@ module _ (z : Sizes) (rows : ℕ) (v : Words) (s : ℕ) (choice : Choice) (l : L
       saw false e = next_look z (l.looked + 1) l (Arrow z v s choice l (Activity.Look Look.Key)) (λ a n. is_gone_by a e n)
   arrow (Activity.Look Look.Clock) b m = loads_to_help
   arrow (Activity.Look Look.Help) b m = help_arrow (pend_of (v (name.Pend l.row l.looked))) refl
+  arrow (Activity.Read Read.Start) b m = list_start_arrow (cell_guess choice l) refl
   arrow (Activity.Read Read.Link) b m = list_arrow (cell_of_link_word (v (link_name l.row l.link))) refl
   arrow (Activity.Read Read.Key) b m = saw (nat_lt (key_of_word (v (name.Key l.row l.place))) (first_key l.call)) (nat_le (key_of_word (v (name.Key l.row l.place))) (last_key l.call)) refl refl
     where
@@ -580,6 +615,7 @@ module _ (z : Sizes) (rows : ℕ) (v : Words) (s : ℕ) (choice : Choice) (l : L
   arrow (Activity.Put Put.Clock) b m = loads_clock
   arrow (Activity.Put Put.Stamp) b m = stamp_arrow (pend_of (v (name.Pend l.row s))) refl
   arrow (Activity.Put Put.Version) b m = stores_version
+  arrow (Activity.Insert Insert.Start) b m = insert_start_arrow (cell_guess choice l) refl
   arrow (Activity.Insert Insert.Link) b m = insert_arrow (cell_of_link_word (v (link_name l.row l.link))) refl
   arrow (Activity.Insert Insert.Key) b m = saw (nat_lt (key_of_word (v (name.Key l.row l.place))) (first_key l.call)) (key_of_word (v (name.Key l.row l.place)) == first_key l.call) refl refl
     where

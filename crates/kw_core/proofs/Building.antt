@@ -31,7 +31,7 @@ use Rattle.kw_world.specs.Sizes.{Sizes}
 use Rattle.kw_world.specs.Step.{followed}
 use Rattle.kw_world.specs.Table.{transition}
 use Rattle.kw_world.specs.Transition.{Outcome, row_linked, row_or_first, to}
-use Rattle.kw_world.specs.WriteTransitions.{unmarked_link}
+use Rattle.kw_world.specs.WriteTransitions.{infant_cells, to_write_cell, unmarked_link}
 use Rattle.kw_core.specs.Words.{Words, least_in, next_in}
 use Rattle.kw_core.proofs.NextBuilt.{begun_anew, over, GivenBack, NextBack, NextBefore, NextNewCell, NextNewEntry, NextPass, NextSeek, NextTaken, next_back, next_before, next_given, next_new_cell, next_new_entry, next_pass, next_seek, next_taken}
 
@@ -79,7 +79,8 @@ pub data Building (z : Sizes) (v : Words) (choice : Choice) (l : Local) : Activi
   writes_entry : (i : ℕ) (next : Local) → NextNewEntry z (i + 1) l next → Building z v choice l (Activity.Rebalance (Rebalance.Write (Write.Entry i))) next
   writes_key : (j : ℕ) → Building z v choice l (Activity.Rebalance (Rebalance.Write (Write.Key j))) (record l { activity = Activity.Rebalance (Rebalance.Write (Write.Value j)) })
   writes_value : (j : ℕ) → Building z v choice l (Activity.Rebalance (Rebalance.Write (Write.Value j))) (record l { activity = Activity.Rebalance (Rebalance.Write (Write.Version j)) })
-  writes_version : (j : ℕ) → Building z v choice l (Activity.Rebalance (Rebalance.Write (Write.Version j))) (record l { activity = Activity.Rebalance (Rebalance.Write (Write.After j)) })
+  writes_version : (j : ℕ) → j < length (infant_cells l) → Building z v choice l (Activity.Rebalance (Rebalance.Write (Write.Version j))) (record l { activity = Activity.Rebalance (Rebalance.Write (Write.After j)) })
+  writes_no_cell : (j : ℕ) (next : Local) → length (infant_cells l) ≤ j → NextNewCell z (j + 1) l next → Building z v choice l (Activity.Rebalance (Rebalance.Write (Write.Version j))) next
   writes_after : (j : ℕ) (next : Local) → NextNewCell z (j + 1) l next → Building z v choice l (Activity.Rebalance (Rebalance.Write (Write.After j))) next
   -- the row before the full one is found
   begins_before : (next : Local) → NextBefore (row_or_first (row_linked (link_of (v name.Head)))) l next → Building z v choice l (Activity.Rebalance (Rebalance.Replace Replace.Start)) next
@@ -221,7 +222,11 @@ module _ (z : Sizes) (rows : ℕ) (v : Words) (s : ℕ) (choice : Choice) (l : L
   building (Activity.Rebalance (Rebalance.Write (Write.Entry i))) o = writes_entry i _ (next_new_entry z (i + 1) l)
   building (Activity.Rebalance (Rebalance.Write (Write.Key j))) o = writes_key j
   building (Activity.Rebalance (Rebalance.Write (Write.Value j))) o = writes_value j
-  building (Activity.Rebalance (Rebalance.Write (Write.Version j))) o = writes_version j
+  building (Activity.Rebalance (Rebalance.Write (Write.Version j))) o = saw (nat_lt j (length (infant_cells l))) refl
+    where
+      saw : (b : Bool) → nat_lt j (length (infant_cells l)) ≡ b → Building z v choice l (Activity.Rebalance (Rebalance.Write (Write.Version j))) (let x : Outcome = if b then to (Activity.Rebalance (Rebalance.Write (Write.After j))) l else to_write_cell z (j + 1) l in x).local
+      saw true e = writes_version j (below _ _ e)
+      saw false e = writes_no_cell j _ (not_below _ _ e) (next_new_cell z (j + 1) l)
   building (Activity.Rebalance (Rebalance.Write (Write.After j))) o = writes_after j _ (next_new_cell z (j + 1) l)
   building (Activity.Rebalance (Rebalance.Replace Replace.Start)) o = before_arrow choice refl
   building (Activity.Rebalance (Rebalance.Replace Replace.GuessedLeast)) o = saw (nat_lt (least_in v (row_or_first l.rebalance.before)) l.lower) refl

@@ -17,7 +17,7 @@ use Rattle.kw_world.specs.Sizes.{Sizes}
 use Rattle.kw_core.specs.Stages.{IsBalancing, IsDone}
 use Rattle.kw_core.specs.Words.{Words}
 use Rattle.kw_core.proofs.NextBuilt.{GivenBack, tries_again, was_done, is_refused_rows, was_served, moves_left, NextBack, gives_back, has_none, NextSeek, asks, has_asked, NextPass, looks_on, has_looked, NextTaken, wants_more, has_enough, NextNewRow, writes_row, has_written, NextNewCell, fills, empties, has_cells, NextNewEntry, writes_idle, has_entries, NextBefore, is_first, is_behind}
-use Rattle.kw_core.proofs.Building.{Building, IsBuilding, first_is_free, first_is_taken, sought_is_free, sought_is_taken, first_is_retired, sought_is_retired, pass_is_old, pass_is_young, frees_row, takes_row, loses_row, gives_one_back, gives_last_back, writes_count, writes_least, writes_link, writes_first, writes_entry, writes_key, writes_value, writes_version, writes_after, begins_before, guesses_before, guess_before_fails, before_serves, before_is_above, takes_head_before, leads_to_full, leads_on_marked, leads_to_other, leads_nowhere, walks_before, walks_past, replaces_row, is_marked_before, is_replaced, makes_normal, makes_last_normal, draws_number, retires_row, retires_and_leaves}
+use Rattle.kw_core.proofs.Building.{Building, IsBuilding, first_is_free, first_is_taken, sought_is_free, sought_is_taken, first_is_retired, sought_is_retired, pass_is_old, pass_is_young, frees_row, takes_row, loses_row, gives_one_back, gives_last_back, writes_count, writes_least, writes_link, writes_first, writes_entry, writes_key, writes_value, writes_version, writes_no_cell, writes_after, begins_before, guesses_before, guess_before_fails, before_serves, before_is_above, takes_head_before, leads_to_full, leads_on_marked, leads_to_other, leads_nowhere, walks_before, walks_past, replaces_row, is_marked_before, is_replaced, makes_normal, makes_last_normal, draws_number, retires_row, retires_and_leaves}
 
 -- such an event follows, or the put tries again, is refused for want of rows, was done before, or
 -- rebalances another row
@@ -157,7 +157,8 @@ module _ (z : Sizes) (v : Words) (choice : Choice) (l : Local) where
   follows a k (writes_entry i next n) = entry_follows z _ l next n
   follows a k (writes_key j) = record { call = refl; plan = λ o. refl; next = tt; goes = λ t. inl tt; done = λ x. absurd x }
   follows a k (writes_value j) = record { call = refl; plan = λ o. refl; next = tt; goes = λ t. inl tt; done = λ x. absurd x }
-  follows a k (writes_version j) = record { call = refl; plan = λ o. refl; next = tt; goes = λ t. inl tt; done = λ x. absurd x }
+  follows a k (writes_version j o) = record { call = refl; plan = λ o. refl; next = tt; goes = λ t. inl tt; done = λ x. absurd x }
+  follows a k (writes_no_cell j next o n) = cell_follows z _ l next n
   follows a k (writes_after j next n) = cell_follows z _ l next n
   follows a k (begins_before next n) = before_follows _ l next n
   follows a k (guesses_before q c e) = record { call = refl; plan = λ o. refl; next = tt; goes = λ t. inl tt; done = λ x. absurd x }

@@ -33,7 +33,7 @@ use Rattle.kw_world.specs.Table.{transition}
 use Rattle.kw_world.specs.declared.event.Choice.TheVariants.{Begin, Go, Guess, Stop}
 use Rattle.kw_world.specs.Sizes.{Sizes}
 use Rattle.kw_world.specs.PutTransitions.{given_of}
-use Rattle.kw_world.specs.ListTransitions.{link_name}
+use Rattle.kw_world.specs.ListTransitions.{link_name, cell_guess, first_operation}
 use Rattle.kw_world.specs.WalkTransitions.{start_transition, walk_transition, is_stopped}
 use Rattle.kw_world.specs.SeekTransitions.{infant, seek_first_transition}
 use Rattle.kw_world.specs.ReplaceTransitions.{before_transition, replaced_link}
@@ -103,6 +103,11 @@ abbrev written_by : Action → Name → Option Name
 written_by Load n = None
 written_by _ n = Some n
 
+-- a walk along a row's list begins by a load
+first_writes : (guess : Option ℕ) (l : Local) → written_by (first_operation guess l).action (first_operation guess l).name ≡ None
+first_writes (Some cell) l = refl
+first_writes None l = refl
+
 -- `writes` has for each activity what the operation of its line writes
 written_is : (z : Sizes) (a : Activity) (s : ℕ) (choice : Choice) (l : Local) → written_by (transition z a s choice l).operation.action (transition z a s choice l).operation.name ≡ writes a s (is_stopped choice l) l
 written_is z (Activity.Walk Walk.Start) s choice l = starts choice
@@ -131,6 +136,8 @@ written_is z (Activity.Rebalance (Rebalance.Replace Replace.Start)) s choice l =
     begins Go = refl
     begins (Guess q) = refl
     begins Stop = refl
+written_is z (Activity.Read Read.Start) s choice l = first_writes (cell_guess choice l) l
+written_is z (Activity.Insert Insert.Start) s choice l = first_writes (cell_guess choice l) l
 written_is z (Activity.Enter Enter.Announce) s choice l = refl
 written_is z (Activity.Draw Draw.Clock) s choice l = refl
 written_is z (Activity.Look Look.Key) s choice l = refl

@@ -5,7 +5,7 @@
 -- activity changes the word; everywhere else the word stays. `row_stays` says so of all words of a
 -- row at once, for a row that is none of those on which the seat acts. The last part says what each
 -- event of these leaves in its own word: an exchange that is won or lost, a store, a sum.
-use Rattle.std.proofs.Common.{ℕ, ◌≡◌, ◌≢◌, ◌+◌, ◌<◌, Bool, true, false, Option, Some, None, refl, sym, ◌∙◌, ap, slice_get}
+use Rattle.std.proofs.Common.{ℕ, ◌≡◌, ◌≢◌, ◌+◌, ◌<◌, Bool, true, false, Option, Some, None, refl, sym, ◌∙◌, ap, slice_get, length}
 use Rattle.std.proofs.lemmas.Option.{same_Some}
 use Rattle.kw_words.specs.declared.layout.Name.{Name}
 use Rattle.kw_words.specs.declared.layout.Name.TheVariants as name
@@ -15,7 +15,7 @@ use Rattle.kw_words.specs.Count.{count_word}
 use Rattle.kw_words.specs.Layout.{IsWithin}
 use Rattle.kw_words.specs.Link.{IsLink, link_of, link_word}
 use Rattle.kw_words.specs.Pend.{pend_word}
-use Rattle.kw_words.specs.Plain.{cell_link_word, key_word, value_word, version_word}
+use Rattle.kw_words.specs.Plain.{cell_link_word, key_word, least_word, value_word, version_word}
 use Rattle.kw_words.specs.State.{state_word}
 use Rattle.kw_words.proofs.LinkWords.{link_of-link_word, link_word_of}
 use Rattle.kw_cells.specs.Cells.{value_in}
@@ -605,7 +605,7 @@ module _ {z : Sizes} {r r' : Run} {s : ℕ} {choice : Choice} {l l' : Local} whe
   pub count_written : Happens z r r' s choice l l' (Activity.Rebalance (Rebalance.Write Write.Count)) → word z r'.world (name.Count (infant l)) ≡ count_word (infant_count l)
   count_written h = h.changed.same
 
-  pub least_written : Happens z r r' s choice l l' (Activity.Rebalance (Rebalance.Write Write.Least)) → word z r'.world (name.Least (infant l)) ≡ key_word (infant_least l)
+  pub least_written : Happens z r r' s choice l l' (Activity.Rebalance (Rebalance.Write Write.Least)) → word z r'.world (name.Least (infant l)) ≡ least_word (infant_least l) (length (infant_cells l))
   least_written h = h.changed.same
 
   pub next_written : Happens z r r' s choice l l' (Activity.Rebalance (Rebalance.Write Write.Next)) → word z r'.world (name.Next (infant l)) ≡ link_word (infant_link l)

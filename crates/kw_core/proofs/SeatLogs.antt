@@ -43,6 +43,7 @@ IsNoDraw _ = Unit {0}
 
 -- the event may be the last one in a row
 abbrev pub IsEnding : Activity → Type 0
+IsEnding (Activity.Read Read.Start) = Unit {0}
 IsEnding (Activity.Read Read.Link) = Unit {0}
 IsEnding (Activity.Read Read.Key) = Unit {0}
 IsEnding (Activity.Read Read.LeftOverKey) = Unit {0}
@@ -55,6 +56,7 @@ module _ (z : Sizes) (choice : Choice) (l : Local) (found : ℕ) (next : Activit
   call_kept Activity.Idle u = absurd u
   call_kept (Activity.Draw Draw.Settle) u = settled_same (λ (q : SeatLog). q.call) l.waiting found settled g refl
   call_kept (Activity.Look (Look.Entry i)) u = either (λ (q : SeatLog). q.call) (i == 0) (record g { looked = length h.log; ids = []; read = None }) g g.call refl refl
+  call_kept (Activity.Read Read.Start) u = either (λ (q : SeatLog). q.call) (is_at_cell next) g (record g { read = Some l.row }) g.call refl refl
   call_kept (Activity.Read Read.Link) u = either (λ (q : SeatLog). q.call) (is_at_cell next) g (record g { read = Some l.row }) g.call refl refl
   call_kept (Activity.Read Read.Key) u = either (λ (q : SeatLog). q.call) (is_at_cell next) g (record g { read = Some l.row }) g.call refl refl
   call_kept (Activity.Read Read.LeftOverKey) u = either (λ (q : SeatLog). q.call) (is_at_cell next) g (record g { read = Some l.row }) g.call refl refl
@@ -75,6 +77,7 @@ module _ (z : Sizes) (choice : Choice) (l : Local) (found : ℕ) (next : Activit
   draw_kept (Activity.Draw Draw.Settle) u = absurd u
   draw_kept (Activity.Rebalance (Rebalance.Freeze (Freeze.Draw i))) u = absurd u
   draw_kept (Activity.Look (Look.Entry i)) u = either (λ (q : SeatLog). q.drawn) (i == 0) (record g { looked = length h.log; ids = []; read = None }) g g.drawn refl refl
+  draw_kept (Activity.Read Read.Start) u = either (λ (q : SeatLog). q.drawn) (is_at_cell next) g (record g { read = Some l.row }) g.drawn refl refl
   draw_kept (Activity.Read Read.Link) u = either (λ (q : SeatLog). q.drawn) (is_at_cell next) g (record g { read = Some l.row }) g.drawn refl refl
   draw_kept (Activity.Read Read.Key) u = either (λ (q : SeatLog). q.drawn) (is_at_cell next) g (record g { read = Some l.row }) g.drawn refl refl
   draw_kept (Activity.Read Read.LeftOverKey) u = either (λ (q : SeatLog). q.drawn) (is_at_cell next) g (record g { read = Some l.row }) g.drawn refl refl
@@ -104,6 +107,7 @@ module _ (z : Sizes) (choice : Choice) (l : Local) (found : ℕ) (next : Activit
 
   -- a reader that does not go on to a cell has read the row
   pub read_to_end : (a : Activity) → IsEnding a → is_at_cell next ≡ false → (seat_after z a choice l found next g o h settled).read ≡ Some l.row
+  read_to_end (Activity.Read Read.Start) u e = rw e refl
   read_to_end (Activity.Read Read.Link) u e = rw e refl
   read_to_end (Activity.Read Read.Key) u e = rw e refl
   read_to_end (Activity.Read Read.LeftOverKey) u e = rw e refl

@@ -38,6 +38,7 @@ remark_of z (Activity.Draw Draw.Version) choice l found o h settled = DrawsVersi
 remark_of z (Activity.Draw Draw.Settle) choice l found o h settled = if found == scan_word (Waiting l.waiting) then Same else DrawsVersion settled
 remark_of z (Activity.Look (Look.Entry i)) choice l found o h settled = if i == 0 then LooksFirst (length h.log) else Same
 remark_of z (Activity.Look Look.Clock) choice l found o h settled = LoadsClock (length h.log)
+remark_of z (Activity.Read Read.Start) choice l found o h settled = ReadsRow l.row
 remark_of z (Activity.Read Read.Link) choice l found o h settled = ReadsRow l.row
 remark_of z (Activity.Read Read.Key) choice l found o h settled = ReadsRow l.row
 remark_of z (Activity.Read Read.Value) choice l found o h settled = GathersListed (unwrap_or (o l.row l.place) 0) (index_gathered l found)

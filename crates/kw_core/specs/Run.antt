@@ -207,6 +207,7 @@ seat_after z (Activity.Draw Draw.Version) choice l found next g o h settled = re
 seat_after z (Activity.Draw Draw.Settle) choice l found next g o h settled = log_settled l.waiting found settled g
 seat_after z (Activity.Look (Look.Entry i)) choice l found next g o h settled = log_look i (length h.log) g
 seat_after z (Activity.Look Look.Clock) choice l found next g o h settled = record g { loaded = length h.log }
+seat_after z (Activity.Read Read.Start) choice l found next g o h settled = log_read next l.row g
 seat_after z (Activity.Read Read.Link) choice l found next g o h settled = log_read next l.row g
 seat_after z (Activity.Read Read.Key) choice l found next g o h settled = log_read next l.row g
 seat_after z (Activity.Read Read.Value) choice l found next g o h settled = log_gathered (o l.row l.place) (index_gathered l found) g

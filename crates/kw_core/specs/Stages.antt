@@ -256,6 +256,12 @@ abbrev pub IsInserting : Activity → Type 0
 IsInserting (Activity.Insert _) = Unit {0}
 IsInserting _ = ⊥
 
+-- it loads the link at which it stands, unless it begins behind a cell
+abbrev pub IsAtInsertLink : Activity → Type 0
+IsAtInsertLink (Activity.Insert Insert.Start) = Unit {0}
+IsAtInsertLink (Activity.Insert Insert.Link) = Unit {0}
+IsAtInsertLink _ = ⊥
+
 -- it has reached a cell on its walk along the list
 abbrev pub IsMeeting : Activity → Type 0
 IsMeeting (Activity.Insert Insert.Key) = Unit {0}
@@ -320,8 +326,15 @@ IsAtListed (Activity.Read Read.Version) = Unit {0}
 IsAtListed (Activity.Read Read.Value) = Unit {0}
 IsAtListed _ = ⊥
 
+-- it loads the link at which it stands, unless it begins behind a cell
+abbrev pub IsAtReadLink : Activity → Type 0
+IsAtReadLink (Activity.Read Read.Start) = Unit {0}
+IsAtReadLink (Activity.Read Read.Link) = Unit {0}
+IsAtReadLink _ = ⊥
+
 -- it walks along the row's list
 abbrev pub IsListing : Activity → Type 0
+IsListing (Activity.Read Read.Start) = Unit {0}
 IsListing (Activity.Read Read.Link) = Unit {0}
 IsListing a = IsAtListed a
 

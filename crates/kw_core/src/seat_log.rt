@@ -163,7 +163,8 @@ impl Remark {
             | Activity::Rebalance(Rebalance::Freeze(Freeze::Draw(_))) => {
                 Remark::DrawsVersion(history.now())
             }
-            Activity::Read(Read::Link)
+            Activity::Read(Read::Start)
+            | Activity::Read(Read::Link)
             | Activity::Read(Read::Key)
             | Activity::Read(Read::LeftOverKey) => { Remark::ReadsRow(local.row) }
             Activity::Read(Read::Value) => {

@@ -15,6 +15,7 @@ use kw_step_put::step::put_step;
 use kw_words::plain::pack_value;
 use kw_world::activity::Activity;
 use kw_world::activity::enter::Enter;
+use kw_world::activity::insert::Insert;
 use kw_world::activity::put::Put;
 use kw_world::activity::read::Read;
 use kw_world::activity::rebalance::Rebalance;
@@ -68,6 +69,27 @@ fn at_its_end(alloc: Global) -> Local
     local.epoch = 2;
     local.row = 2;
     local
+}
+
+// A put of key 5 is to begin its walk along the list of row 2, which was built with three cells.
+fn at_its_start(alloc: Global) -> Local
+    ensures ranges { IsLocal product result }
+    ensures room { HasRoom product result }
+    ensures at { result.activity ≡ Activity.Insert Insert.Start }
+{
+    let mut local = Local::idle(alloc);
+    local.activity = Activity::Insert(Insert::Start);
+    local.call = Some(Call::Put(5, 10));
+    local.row = 2;
+    local.built = 3;
+    local
+}
+
+// What it does next, and at which link, where its event was told this word.
+fn begins(alloc: Global, choice: Choice, word: u64) -> Result<(Activity, Option<u32>), Memory> {
+    let mut local = at_its_start(alloc);
+    put_resume(&mut local, 9, choice, word)?;
+    Ok((local.activity, local.link))
 }
 
 // Where a put goes on from there, in a table of so many rows, and whether it tidies.
@@ -128,6 +150,27 @@ fn a_scan_has_the_pairs_of_a_row_at_its_last_cell(rt: HostRuntime) -> Result<(),
         (StepDone::Moved, Activity::EndScan(Answer::Pairs))
     );
     assert_eq!(rt; local.pairs.pairs(), [(4, 42)].as_slice());
+    Ok(())
+}
+
+// Cell 1 is one of the three, and cell 3 is not: a guess at that is none, and the word is that of
+// the row's first link, which leads to cell 3 by the word 4.
+#[test]
+fn a_put_begins_behind_a_cell_of_a_smaller_key(rt: HostRuntime) -> Result<(), Fail> {
+    let alloc = rt.alloc();
+    let smaller = begins(alloc, Choice::Guess(1), 4)?;
+    let own = begins(alloc, Choice::Guess(1), 5)?;
+    let not_built = begins(alloc, Choice::Guess(3), 4)?;
+    let none = begins(alloc, Choice::Go, 4)?;
+    assert_eq!(rt;
+        [smaller, own, not_built, none],
+        [
+            (Activity::Insert(Insert::Link), Some(1)),
+            (Activity::Insert(Insert::Link), None),
+            (Activity::Insert(Insert::Key), None),
+            (Activity::Insert(Insert::Key), None),
+        ]
+    );
     Ok(())
 }
 

@@ -418,7 +418,33 @@ fn a_new_row_is_listed_by_falling_version(rt: HostRuntime) {
     assert_eq!(rt; links, wanted);
 }
 
-// the link to row 5 has the word 6, and that to row 7 the word 8
+// What it writes behind this word of the first row.
+fn written_next(alloc: Global, write: Write) -> Activity
+    requires activity { IsActivity product (Activity.Rebalance (Rebalance.Write write)) }
+{
+    let mut local = with_new_rows(alloc, Rebalance::Write(write), 0);
+    rebalance_resume(&mut local, 9, Choice::Go, 0);
+    local.activity
+}
+
+// the first row has three cells, and so no cell at place 3: its version alone is stored there
+#[test]
+fn no_link_is_stored_behind_the_cells_of_a_new_row(rt: HostRuntime) {
+    let next = [
+        written_next(rt.alloc(), Write::Version(2)),
+        written_next(rt.alloc(), Write::After(2)),
+        written_next(rt.alloc(), Write::Version(3)),
+    ];
+    let wanted = [
+        Activity::Rebalance(Rebalance::Write(Write::After(2))),
+        Activity::Rebalance(Rebalance::Write(Write::Version(3))),
+        Activity::Rebalance(Rebalance::Write(Write::Version(4))),
+    ];
+    assert_eq!(rt; next, wanted);
+}
+
+// the link to row 5 has the word 6, and that to row 7 the word 8; row 3 is built with three cells,
+// and row 5 with one, each of which adds 2^32 = 4,294,967,296 to the word of the least key
 #[test]
 fn new_rows_are_linked_before_the_row_after_the_full_one(rt: HostRuntime) {
     let words = [
@@ -430,10 +456,10 @@ fn new_rows_are_linked_before_the_row_after_the_full_one(rt: HostRuntime) {
     ];
     let wanted = [
         Some((Name::Count(3), 3)),
-        Some((Name::Least(3), 40)),
+        Some((Name::Least(3), 12_884_901_928)),
         Some((Name::Next(3), 6)),
         Some((Name::Next(5), 8)),
-        Some((Name::Least(5), 48)),
+        Some((Name::Least(5), 4_294_967_344)),
     ];
     assert_eq!(rt; words, wanted);
 }

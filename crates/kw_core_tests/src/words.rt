@@ -333,6 +333,20 @@ fn links_to_cells_and_keys_are_read_back(rt: HostRuntime) {
     );
 }
 
+// the word of a least key of 40, of a row that was built with three cells, is 3 * 2^32 + 40
+#[test]
+fn the_word_of_a_least_key_says_with_how_many_cells_the_row_was_built(rt: HostRuntime) {
+    let word = 12_884_901_928;
+    assert_eq!(rt;
+        (
+            plain::pack_least(40, 3),
+            plain::unpack_key(word),
+            plain::unpack_built(word)
+        ),
+        (word, 40, 3)
+    );
+}
+
 #[test]
 fn kinds_have_their_names(rt: HostRuntime) {
     let names = [

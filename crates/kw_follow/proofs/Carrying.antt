@@ -12,7 +12,7 @@ use Rattle.kw_words.specs.declared.sizes.TheConstants.{SPENT}
 use Rattle.kw_words.specs.Count.{count_of}
 use Rattle.kw_words.specs.Link.{link_of}
 use Rattle.kw_words.specs.Pend.{pend_of, pend_word}
-use Rattle.kw_words.specs.Plain.{key_of_word, version_of_word, cell_of_link_word, cell_link_word}
+use Rattle.kw_words.specs.Plain.{built_of_word, key_of_word, version_of_word, cell_of_link_word, cell_link_word}
 use Rattle.kw_words.specs.Scan.{scan_of}
 use Rattle.kw_words.specs.State.{state_of}
 use Rattle.kw_model.specs.declared.call.Call.{Call}
@@ -38,7 +38,7 @@ use Rattle.kw_world.specs.declared.event.Choice.TheVariants.{Begin, Go, Guess, S
 use Rattle.kw_world.specs.declared.local.Local.{Local}
 use Rattle.kw_world.specs.Calls.{first_key, is_in_range, is_range_empty, is_scan}
 use Rattle.kw_world.specs.Transition.{row_linked, leave}
-use Rattle.kw_world.specs.ListTransitions.{insert_from, insert_tried, is_newer}
+use Rattle.kw_world.specs.ListTransitions.{cell_guess, first_operation, insert_from, insert_started, insert_tried, is_newer}
 use Rattle.kw_world.specs.PutTransitions.{cleared, has_room, stamp_seen, tidies_row}
 use Rattle.kw_world.specs.ReadTransitions.{to_look, look_seen, help_seen, remembering}
 use Rattle.kw_world.specs.ScanTransitions.{entered, answer_or_stopped, settled, version_settled}
@@ -96,8 +96,8 @@ module _ (c : Choice) where
   walks true s l rows told n = record { local = refl; done = refl; held = λ g. let x : true ≡ false = n g in absurd (cc) }
   walks false s l rows told n = links (row_linked (link_of told)) l
 
-  walks_on : (least : ℕ) (l : Local) → Carries c l.pairs (walk_least least l) (walk_least least (carried l))
-  walks_on least l = either c (nat_le least l.want) l.pairs _ _ _ _ (record { local = refl; done = refl; held = λ g. refl }) (arrives l.call (record l { next = Some l.candidate; upper = least }))
+  walks_on : (least built : ℕ) (l : Local) → Carries c l.pairs (walk_least least built l) (walk_least least built (carried l))
+  walks_on least built l = either c (nat_le least l.want) l.pairs _ _ _ _ (record { local = refl; done = refl; held = λ g. refl }) (arrives l.call (record l { next = Some l.candidate; upper = least }))
 
   -- A reader looks at the entries.
 
@@ -136,9 +136,25 @@ module _ (c : Choice) where
   inserts_from z (Some cell) l = record { local = refl; done = refl; held = λ g. refl }
   inserts_from z None l = record { local = refl; done = refl; held = λ g. refl }
 
+  -- where it begins
+  inserts_start : (z : Sizes) (guess : Option ℕ) (l : Local) (told : ℕ) → Carries c l.pairs (insert_started z l guess told) (insert_started z (carried l) guess told)
+  inserts_start z (Some cell) l told = either c (nat_lt (key_of_word told) (first_key l.call)) l.pairs _ _ _ _ (record { local = refl; done = refl; held = λ g. refl }) (record { local = refl; done = refl; held = λ g. refl })
+  inserts_start z None l told = inserts_from z (cell_of_link_word told) l
+
   inserts_tried : (z : Sizes) (b : Bool) (l : Local) → Carries c l.pairs (insert_tried z b l) (insert_tried z b (carried l))
   inserts_tried z true l = record { local = refl; done = refl; held = λ g. refl }
   inserts_tried z false l = record { local = refl; done = refl; held = λ g. refl }
+
+  -- whatever the seat chooses
+  inserts_begin : (z : Sizes) (choice : Choice) (l : Local) (told : ℕ) → Carries c l.pairs (insert_started z l (cell_guess choice l) told) (insert_started z (carried l) (cell_guess choice (carried l)) told)
+  inserts_begin z (Begin call) l told = inserts_start z None l told
+  inserts_begin z Go l told = inserts_start z None l told
+  inserts_begin z (Guess cell) l told = saw (nat_lt cell l.built)
+    where
+      saw : (b : Bool) → Carries c l.pairs (insert_started z l (if b then Some cell else None) told) (insert_started z (carried l) (if b then Some cell else None) told)
+      saw true = inserts_start z (Some cell) l told
+      saw false = inserts_start z None l told
+  inserts_begin z Stop l told = inserts_start z None l told
 
   -- a put that is done leaves, or tidies its row
   tidies : (choice : Choice) (rows : ℕ) (l : Local) → Carries c l.pairs (cleared rows choice l) (cleared rows choice (carried l))
@@ -177,7 +193,7 @@ carries z (Activity.Walk Walk.Start) s c l rows told u = starts c c l rows told
 carries z (Activity.Walk Walk.First) s c l rows told u = record { local = refl; done = refl; held = λ g. refl }
 carries z (Activity.Walk Walk.GuessedLeast) s c l rows told u = either c (nat_le (key_of_word told) l.want) l.pairs _ _ _ _ (record { local = refl; done = refl; held = λ g. refl }) (record { local = refl; done = refl; held = λ g. refl })
 carries z (Activity.Walk Walk.Next) s c l rows told u = walks c (is_stopped c l) s l rows told (not_stopped c l)
-carries z (Activity.Walk Walk.NextLeast) s c l rows told u = walks_on c (key_of_word told) l
+carries z (Activity.Walk Walk.NextLeast) s c l rows told u = walks_on c (key_of_word told) (built_of_word told) l
 carries z (Activity.Look (Look.Entry i)) s c l rows told u = sees c z i (pend_of told) l
 carries z (Activity.Look Look.Key) s c l rows told u = either c (is_in_range l.call (key_of_word told)) l.pairs _ _ _ _ (record { local = refl; done = refl; held = λ g. refl }) (looks c z (l.looked + 1) l)
 carries z (Activity.Look Look.Clock) s c l rows told u = record { local = refl; done = refl; held = λ g. refl }
@@ -188,6 +204,7 @@ carries z (Activity.Put Put.Count) s c l rows told u = either c (has_room z (cou
 carries z (Activity.Put Put.Add) s c l rows told u = either c (has_room z (count_of told)) l.pairs _ _ _ _ (record { local = refl; done = refl; held = λ g. refl }) (record { local = refl; done = refl; held = λ g. refl })
 carries z (Activity.Put Put.Announce) s c l rows told u = either c (told == pend_word pend.Idle) l.pairs _ _ _ _ (record { local = refl; done = refl; held = λ g. refl }) (record { local = refl; done = refl; held = λ g. refl })
 carries z (Activity.Put Put.Stamp) s c l rows told u = stamps c (pend_of told) l
+carries z (Activity.Insert Insert.Start) s c l rows told u = inserts_begin c z c l told
 carries z (Activity.Insert Insert.Link) s c l rows told u = inserts_from c z (cell_of_link_word told) l
 carries z (Activity.Insert Insert.Key) s c l rows told u = either c (nat_lt (key_of_word told) (first_key l.call)) l.pairs _ _ _ _ (record { local = refl; done = refl; held = λ g. refl }) (either c (key_of_word told == first_key l.call) l.pairs _ _ _ _ (record { local = refl; done = refl; held = λ g. refl }) (record { local = refl; done = refl; held = λ g. refl }))
 carries z (Activity.Insert Insert.Version) s c l rows told u = either c (is_newer (unwrap_or (version_of_word told) 0) l.place l) l.pairs _ _ _ _ (record { local = refl; done = refl; held = λ g. refl }) (record { local = refl; done = refl; held = λ g. refl })
@@ -242,6 +259,17 @@ carries z (Activity.Rebalance (Rebalance.Replace Replace.Normalise)) s c l rows 
 carries z (Activity.Rebalance (Rebalance.Replace Replace.Number)) s c l rows told u = rebalance_carries c z (Activity.Rebalance (Rebalance.Replace Replace.Number)) s l rows told tt
 carries z (Activity.Rebalance (Rebalance.Replace Replace.Retire)) s c l rows told u = rebalance_carries c z (Activity.Rebalance (Rebalance.Replace Replace.Retire)) s l rows told tt
 
+-- so is the first operation of a walk along a list
+firsts : (c : Choice) (l : Local) → first_operation (cell_guess c (carried l)) (carried l) ≡ first_operation (cell_guess c l) l
+firsts (Begin call) l = refl
+firsts Go l = refl
+firsts (Guess cell) l = saw (nat_lt cell l.built)
+  where
+    saw : (b : Bool) → first_operation (if b then Some cell else None) (carried l) ≡ first_operation (if b then Some cell else None) l
+    saw true = refl
+    saw false = refl
+firsts Stop l = refl
+
 -- the operation is the same for code as for the seat, at every activity
 pub operates : (z : Sizes) (a : Activity) (s : ℕ) (c : Choice) (l : Local) → (transition z a s c (carried l)).operation ≡ (transition z a s c l).operation
 operates z (Activity.Walk Walk.Start) s c l = starting c
@@ -270,6 +298,8 @@ operates z (Activity.Rebalance (Rebalance.Replace Replace.Start)) s c l = begins
     begins Go = refl
     begins (Guess r) = refl
     begins Stop = refl
+operates z (Activity.Read Read.Start) s c l = firsts c l
+operates z (Activity.Insert Insert.Start) s c l = firsts c l
 operates z (Activity.Enter Enter.Announce) s c l = refl
 operates z (Activity.Draw Draw.Clock) s c l = refl
 operates z (Activity.Look Look.Key) s c l = refl

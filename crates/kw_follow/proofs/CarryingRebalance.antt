@@ -37,7 +37,7 @@ use Rattle.kw_world.specs.EngageTransitions.{is_alone, state_seen, engaged, link
 use Rattle.kw_world.specs.FreezeTransitions.{to_freeze_look, marking, freeze_seen, entry_tried, to_scan_look, needing, scan_seen, scan_helped}
 use Rattle.kw_world.specs.TakeTransitions.{left_of, take_reached, keeping}
 use Rattle.kw_world.specs.SeekTransitions.{given_back, give_back, gave_back, has_more, to_seek, to_pass, seek_seen, pass_seen, seeking, seek_first_transition, with_row, take_row}
-use Rattle.kw_world.specs.WriteTransitions.{infant_cells, row_written, to_write_cell, to_write_entry}
+use Rattle.kw_world.specs.WriteTransitions.{infant_cells, row_written, to_write_after, to_write_cell, to_write_entry}
 use Rattle.kw_world.specs.ReplaceTransitions.{first_before, guess_before, before_transition, row_before, link_before, row_replaced, replaced}
 use Rattle.kw_follow.specs.Following.{carried}
 use Rattle.kw_follow.proofs.Carries.{Carries, either}
@@ -162,6 +162,9 @@ module _ (c : Choice) where
   write_cell_carries : (z : Sizes) (j : ℕ) (l : Local) → Carries c l.pairs (to_write_cell z j l) (to_write_cell z j (carried l))
   write_cell_carries z j l = either c (nat_lt j z.cells) l.pairs _ _ _ _ (either c (nat_lt j (length (infant_cells l))) l.pairs _ _ _ _ (record { local = refl; done = refl; held = λ g. refl }) (record { local = refl; done = refl; held = λ g. refl })) (row_written_carries l)
 
+  write_after_carries : (z : Sizes) (j : ℕ) (l : Local) → Carries c l.pairs (to_write_after z j l) (to_write_after z j (carried l))
+  write_after_carries z j l = either c (nat_lt j (length (infant_cells l))) l.pairs _ _ _ _ (record { local = refl; done = refl; held = λ g. refl }) (write_cell_carries z (j + 1) l)
+
   write_entry_carries : (z : Sizes) (i : ℕ) (l : Local) → Carries c l.pairs (to_write_entry z i l) (to_write_entry z i (carried l))
   write_entry_carries z i l = either c (nat_lt i z.seats) l.pairs _ _ _ _ (record { local = refl; done = refl; held = λ g. refl }) (write_cell_carries z 0 l)
 
@@ -227,6 +230,7 @@ module _ (c : Choice) where
   rebalance_carries z (Activity.Rebalance (Rebalance.Seek Seek.GiveBack)) s l rows told u = gave_back_carries l
   rebalance_carries z (Activity.Rebalance (Rebalance.Write Write.First)) s l rows told u = write_entry_carries z 0 l
   rebalance_carries z (Activity.Rebalance (Rebalance.Write (Write.Entry i))) s l rows told u = write_entry_carries z (i + 1) l
+  rebalance_carries z (Activity.Rebalance (Rebalance.Write (Write.Version j))) s l rows told u = write_after_carries z j l
   rebalance_carries z (Activity.Rebalance (Rebalance.Write (Write.After j))) s l rows told u = write_cell_carries z (j + 1) l
   rebalance_carries z (Activity.Rebalance (Rebalance.Write _)) s l rows told u = record { local = refl; done = refl; held = λ g. refl }
   rebalance_carries z (Activity.Rebalance (Rebalance.Replace Replace.Start)) s l rows told u = before_carries c l rows told

@@ -65,6 +65,7 @@ carried_in_range z l k = record {
   epoch = k.epoch;
   want = k.want;
   lower = k.lower;
+  built = k.built;
   upper = k.upper;
   waiting = k.waiting;
   drawn = k.drawn;

@@ -3,10 +3,12 @@
 use Rattle.std.proofs.Common.{ℕ, ◌≡◌, ◌<◌, Bool, true, false, nat_lt, nat_le, if◌then◌else◌, Option, Some, None, [], refl, sym, ◌∙◌, ap, subst}
 use Rattle.std.proofs.lemmas.Bool.{lt-ltb}
 use Rattle.kw_words.specs.declared.kind.Kind.TheVariants as kind
+use Rattle.kw_words.specs.Plain.{cell_of_link_word}
 use Rattle.kw_words.specs.declared.layout.Name.{Name}
 use Rattle.kw_model.specs.declared.call.Call.{Call}
 use Rattle.kw_model.specs.declared.call.Call.TheVariants.{Put, Del, Get, Scan}
 use Rattle.kw_world.specs.declared.activity.Activity.{Activity}
+use Rattle.kw_world.specs.declared.activity.insert.Insert.TheVariants as Insert
 use Rattle.kw_world.specs.declared.activity.read.Read.TheVariants as Read
 use Rattle.kw_world.specs.declared.activity.rebalance.Rebalance.TheVariants as Rebalance
 use Rattle.kw_world.specs.declared.activity.rebalance.seek.Seek.TheVariants as Seek
@@ -17,13 +19,14 @@ use Rattle.kw_world.specs.declared.local.Local.{Local}
 use Rattle.kw_world.specs.declared.operation.Action.TheVariants.{Load}
 use Rattle.kw_world.specs.Calls.{first_key, last_key, is_scan}
 use Rattle.kw_world.specs.ListTransitions.{link_name}
-use Rattle.kw_world.specs.ReadTransitions.{gathering, get_answered, list_key, list_past, row_read, to_left_over}
+use Rattle.kw_world.specs.ReadTransitions.{gathering, get_answered, list_key, list_past, list_reached, row_read, to_left_over}
+use Rattle.kw_world.specs.WalkTransitions.{offered}
 use Rattle.kw_world.specs.Sizes.{product}
 use Rattle.kw_world.specs.Step.{next_of}
 use Rattle.kw_world.specs.Table.{transition}
 use Rattle.kw_world.specs.Transition.{Outcome, to}
 use Rattle.kw_world.proofs.Transitions.{transition_of-next}
-use Rattle.kw_core.specs.Stages.{IsTaking}
+use Rattle.kw_core.specs.Stages.{IsAtReadLink, IsTaking}
 use Rattle.kw_table.specs.declared.pass.Pass.{Pass}
 use Rattle.kw_table.specs.declared.shared.Shared.{Shared}
 use Rattle.kw_table.specs.Passes.{view, operation, Asks, Makes}
@@ -35,7 +38,7 @@ use Rattle.kw_follow.specs.Moving.{FollowsAt}
 use Rattle.kw_follow.specs.Within.{IsAtRemembered}
 use Rattle.kw_follow.proofs.Growing.{IsStaying, keeps}
 use Rattle.kw_follow.proofs.OneEvent.{follows_from, makes_saw, same_activity}
-use Rattle.kw_follow.proofs.PutEvents.{asks_at, next_at}
+use Rattle.kw_follow.proofs.PutEvents.{asks_at, next_chosen}
 
 -- Where a reader is.
 
@@ -50,23 +53,43 @@ remembered_taking (Activity.Read Read.LeftOverKey) m = tt
 remembered_taking (Activity.Read Read.LeftOverValue) m = tt
 remembered_taking _ m = absurd m
 
+-- at a link too
+pub link_taking : (a : Activity) → IsAtReadLink a → IsTaking a
+link_taking (Activity.Read _) x = tt
+link_taking _ x = absurd x
+
 -- the load of a link
-pub asks_list_link : (s : Shared) (p : Pass) (l : Local) (n : Name) → Follows s p l → l.activity ≡ Activity.Read Read.Link → n ≡ link_name l.row l.link → Asks s p Go (operation kind.LoadAfter n Load)
-asks_list_link s p l n f is name = subst (λ (m : Name). Asks s p Go (operation kind.LoadAfter m Load)) (sym name) (asks_at s p l (Activity.Read Read.Link) f is tt)
+pub asks_list_link : (s : Shared) (p : Pass) (l : Local) (n : Name) → Follows s p l → IsAtReadLink l.activity → n ≡ link_name l.row l.link → Asks s p Go (operation kind.LoadAfter n Load)
+asks_list_link s p l n f at name = subst (λ (m : Name). Asks s p Go (operation kind.LoadAfter m Load)) (sym name) (loads l.activity refl at)
+  where
+    loads : (a : Activity) → l.activity ≡ a → IsAtReadLink a → Asks s p Go (operation kind.LoadAfter (link_name l.row l.link) Load)
+    loads (Activity.Read Read.Start) is x = asks_at s p l (Activity.Read Read.Start) f is tt
+    loads (Activity.Read Read.Link) is x = asks_at s p l (Activity.Read Read.Link) f is tt
+    loads _ is x = absurd x
+
+-- and what follows from it
+pub link_line : (a : Activity) (k : Local) (rows told : ℕ) → IsAtReadLink a → (transition product a 0 Go k).next rows told ≡ list_reached product (cell_of_link_word told) k
+link_line (Activity.Read Read.Start) k rows told x = refl
+link_line (Activity.Read Read.Link) k rows told x = refl
+link_line (Activity.Insert Insert.Link) k rows told x = absurd x
+link_line _ k rows told x = absurd x
 
 -- One event of a pass, and of code that follows it.
 
 -- the seat goes on by the table
+pub seat_chooses : (s : Shared) (p q : Pass) (c : Choice) (told : ℕ) → Makes s p c told q → local_in (view q) ≡ (next_of product (view p).opening.rows (offered (view p).opening.rows c) (local_in (view p)) told).local
+seat_chooses s p q c told makes = makes.step.local ∙ ap (λ (x : Outcome). x.local) (transition_of-next product (view p).opening.rows (view p).number (offered (view p).opening.rows c) (local_in (view p)) told)
+
 pub seat_reads : (s : Shared) (p q : Pass) (told : ℕ) → Makes s p Go told q → local_in (view q) ≡ (next_of product (view p).opening.rows Go (local_in (view p)) told).local
-seat_reads s p q told makes = makes.step.local ∙ ap (λ (x : Outcome). x.local) (transition_of-next product (view p).opening.rows (view p).number Go (local_in (view p)) told)
+seat_reads s p q told makes = seat_chooses s p q Go told makes
 
 -- a local that has what code has in place of its calls and pairs carries itself
 carries_itself : (m : Local) → m.number ≡ 1 → m.pairs ≡ [] → m ≡ carried m
 carries_itself m begun added = ap (λ n. record m { number = n }) begun ∙ ap (λ ps. record m { number = 1; pairs = ps }) added
 
 -- code that carries on by the line of its activity follows the pass after the event
-pub read_follows : (s : Shared) (p q : Pass) (l m : Local) (told : ℕ) (a : Activity) → Follows s p l → Makes s p Go told q → l.activity ≡ a → CarriesOn (λ k. (transition product a 0 Go k).next (view p).opening.rows told) l m → Follows s q m
-read_follows s p q l m told a f makes is on =
+pub choice_follows : (s : Shared) (p q : Pass) (l m : Local) (c : Choice) (told : ℕ) (a : Activity) → Follows s p l → Makes s p c told q → l.activity ≡ a → CarriesOn (λ k. (transition product a 0 (offered (view p).opening.rows c) k).next (view p).opening.rows told) l m → Follows s q m
+choice_follows s p q l m c told a f makes is on =
     let k : Local = local_in (view p) in
     let rows : ℕ = (view p).opening.rows in
     let seat : record l { number = k.number; pairs = k.pairs } ≡ k = ap (λ (x : Local). record x { number = k.number; pairs = k.pairs }) f.carries in
@@ -74,9 +97,12 @@ read_follows s p q l m told a f makes is on =
     follows_from s q m makes.of_table
     (own
     ∙ (on.carries k.number k.pairs
-    ∙ (ap (λ (x : Local). carried ((transition product a 0 Go x).next rows told).local) seat
-    ∙ (ap (λ (x : Outcome). carried x.local) (next_at rows a k told (same_activity s p l f ∙ is))
-    ∙ ap carried (sym (seat_reads s p q told makes))))))
+    ∙ (ap (λ (x : Local). carried ((transition product a 0 (offered rows c) x).next rows told).local) seat
+    ∙ (ap (λ (x : Outcome). carried x.local) (next_chosen rows (offered rows c) a k told (same_activity s p l f ∙ is))
+    ∙ ap carried (sym (seat_chooses s p q c told makes))))))
+
+pub read_follows : (s : Shared) (p q : Pass) (l m : Local) (told : ℕ) (a : Activity) → Follows s p l → Makes s p Go told q → l.activity ≡ a → CarriesOn (λ k. (transition product a 0 Go k).next (view p).opening.rows told) l m → Follows s q m
+read_follows s p q l m told a f makes is on = choice_follows s p q l m Go told a f makes is on
 
 -- and the pass has gone on by it
 pub goes_by : (s : Shared) (p q : Pass) (c : Choice) (told : ℕ) → Makes s p c told q → GoesTo s p q

@@ -13,7 +13,7 @@ use Rattle.kw_core.specs.Events.{is_valid, may_step}
 use Rattle.kw_reads.specs.Inv.{Inv}
 use Rattle.kw_core.specs.Run.{Run, goes_on, history, start}
 use Rattle.kw_shape.specs.Shape.{Words}
-use Rattle.kw_core.proofs.Arrows.{Arrow, builds, NextLook, NextLeftOver, goes_to_left_over, answers, ends_scan, scans_on, looks, lists, leaves, sees_stamped, sees_neither, is_gone_by, helps, finds_stamped, finds_other, list_ends, key_above, left_over_gone_by, gathers_left_over}
+use Rattle.kw_core.proofs.Arrows.{Arrow, builds, NextLook, NextLeftOver, goes_to_left_over, answers, ends_scan, scans_on, looks, lists, leaves, sees_stamped, sees_neither, is_gone_by, helps, finds_stamped, finds_other, list_ends, key_above, left_over_gone_by, gathers_left_over, first_ends}
 use Rattle.kw_core.proofs.BuiltNext.{IsAfterBuilding, built_next}
 use Rattle.kw_core.proofs.Events.{may_come}
 use Rattle.kw_core.proofs.Happens.{happens, each_seat}
@@ -56,6 +56,7 @@ arrow_rests z v s choice l a k (is_gone_by next e n) = look_rests z _ next _ n
 arrow_rests z v s choice l a k (helps next e n) = look_rests z _ next _ n
 arrow_rests z v s choice l a k (finds_stamped c version next e n) = look_rests z _ next _ n
 arrow_rests z v s choice l a k (finds_other next e n) = look_rests z _ next _ n
+arrow_rests z v s choice l a k (first_ends next e n) = left_over_rests _ _ n
 arrow_rests z v s choice l a k (list_ends next e n) = left_over_rests _ _ n
 arrow_rests z v s choice l a k (key_above next e n) = left_over_rests _ _ n
 arrow_rests z v s choice l a k (left_over_gone_by next e n) = left_over_rests _ _ n

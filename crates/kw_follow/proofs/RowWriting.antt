@@ -1,6 +1,6 @@
 -- The events that write a new row while the local stays as it was: what each asks for, and how the
 -- row is written on by it.
-use Rattle.std.proofs.Common.{arith, ◌≡◌, ◌∙◌, ◌+◌, ◌<◌, ◌≤◌, ℕ, Bool, true, false, nat_lt, if◌then◌else◌, refl, ap, length}
+use Rattle.std.proofs.Common.{arith, ◌≡◌, ◌∙◌, ◌+◌, ◌<◌, ◌≤◌, ℕ, Bool, true, false, nat_lt, if◌then◌else◌, refl, sym, ap, length}
 use Rattle.std.proofs.lemmas.Bool.Decides.{nat_tests}
 use Rattle.kw_words.specs.declared.kind.Kind.TheVariants as kind
 use Rattle.kw_words.specs.declared.layout.Name.{Name}
@@ -16,7 +16,7 @@ use Rattle.kw_world.specs.SeekTransitions.{at_infant, has_more}
 use Rattle.kw_world.specs.Sizes.{product}
 use Rattle.kw_world.specs.Table.{transition}
 use Rattle.kw_world.specs.Transition.{Outcome, to}
-use Rattle.kw_world.specs.WriteTransitions.{infant_cells, row_written, to_write_cell}
+use Rattle.kw_world.specs.WriteTransitions.{infant_cells, row_written, to_write_after, to_write_cell}
 use Rattle.kw_table.specs.declared.pass.Pass.{Pass}
 use Rattle.kw_table.specs.declared.shared.Shared.{Shared}
 use Rattle.kw_table.specs.Passes.{view, operation, Asks, Makes}
@@ -64,6 +64,10 @@ cell_next j l below within = place_next j l true below (grind (arith, nat_tests)
 pub behind_next : (j : ℕ) (l : Local) → j < CELLS → length (infant_cells l) ≤ j → at_cell j l ≡ writing (Write.Version j) l
 behind_next j l below over = place_next j l false below (grind (arith, nat_tests))
 
+-- behind the version at a place: the link after the cell, and behind the cells the next place
+version_next : (j : ℕ) (l : Local) (b : Bool) → nat_lt j (length (infant_cells l)) ≡ b → (to_write_after product j l).local ≡ (let x : Outcome = if b then to (Activity.Rebalance (Rebalance.Write (Write.After j))) l else to_write_cell product (j + 1) l in x.local)
+version_next j l b is = ap (λ (c : Bool). let x : Outcome = if c then to (Activity.Rebalance (Rebalance.Write (Write.After j))) l else to_write_cell product (j + 1) l in x.local) is
+
 -- The end of the row.
 
 -- where the seat stands once all of it is written
@@ -87,8 +91,11 @@ module _ {s : Shared} {o p q : Pass} {told : ℕ} (l : Local) (j : ℕ) where
   pub value_written : Advances s o p (writing (Write.Value j) l) → Makes s p Go told q → Advances s o q (writing (Write.Version j) l)
   value_written b made = wrote l (writing (Write.Version j) l) (Write.Value j) b made refl
 
-  pub version_written : Advances s o p (writing (Write.Version j) l) → Makes s p Go told q → Advances s o q (writing (Write.After j) l)
-  version_written b made = wrote l (writing (Write.After j) l) (Write.Version j) b made refl
+  pub version_written : j < length (infant_cells l) → Advances s o p (writing (Write.Version j) l) → Makes s p Go told q → Advances s o q (writing (Write.After j) l)
+  version_written within b made = wrote l (writing (Write.After j) l) (Write.Version j) b made (sym (version_next j l true (grind (arith, nat_tests))))
+
+  pub none_written : length (infant_cells l) ≤ j → Advances s o p (writing (Write.Version j) l) → Makes s p Go told q → Advances s o q (at_cell (j + 1) l)
+  none_written past b made = wrote l (at_cell (j + 1) l) (Write.Version j) b made (sym (version_next j l false (grind (arith, nat_tests))))
 
   pub link_written : Advances s o p (writing (Write.After j) l) → Makes s p Go told q → Advances s o q (at_cell (j + 1) l)
   link_written b made = wrote l (at_cell (j + 1) l) (Write.After j) b made refl

@@ -31,7 +31,7 @@ use Rattle.kw_world.specs.declared.event.Choice.TheVariants.{Begin, Go, Guess, S
 use Rattle.kw_world.specs.Sizes.{Sizes}
 use Rattle.kw_world.specs.Transition.{Outcome, row_linked, row_or_first, to}
 use Rattle.kw_world.specs.PutTransitions.{stamp_seen, has_room, given_of}
-use Rattle.kw_world.specs.ListTransitions.{insert_from, insert_key, insert_past, insert_tried, is_newer}
+use Rattle.kw_world.specs.ListTransitions.{behind_cell, cell_guess, insert_from, insert_key, insert_past, insert_started, insert_tried, is_newer}
 use Rattle.kw_world.specs.declared.marks.Mark.{Mark}
 use Rattle.kw_world.specs.Marks.{least_mark}
 use Rattle.kw_words.specs.declared.scan.ScanWord.{ScanWord}
@@ -44,7 +44,7 @@ use Rattle.kw_world.specs.EngageTransitions.{again, refuse, to_rebalance, is_alo
 use Rattle.kw_world.specs.FreezeTransitions.{to_scans, to_freeze_look, marking, freeze_seen, entry_tried, to_scan_look, needing, scan_seen, scan_helped}
 use Rattle.kw_world.specs.TakeTransitions.{to_take, left_of, take_reached, keeping}
 use Rattle.kw_world.specs.SeekTransitions.{given_back, give_back, gave_back, at_infant, has_more, row_behind, to_seek, to_pass, seek_seen, pass_seen, seeking, seek_first_transition, with_row, take_row}
-use Rattle.kw_world.specs.WriteTransitions.{infant_cells, row_written, to_write_cell, to_write_entry}
+use Rattle.kw_world.specs.WriteTransitions.{infant_cells, row_written, to_write_after, to_write_cell, to_write_entry}
 use Rattle.kw_world.specs.ReplaceTransitions.{at_before, first_before, guess_before, before_transition, row_before, link_before, row_replaced, replaced}
 use Rattle.kw_world.specs.Table.{transition}
 use Rattle.kw_core.specs.declared.stage.Stage.{Stage}
@@ -80,6 +80,10 @@ insert_from_tidies z None l = refl
 
 insert_key_tidies : (key : ℕ) (l : Local) → (insert_key key l).local.tidies ≡ l.tidies
 insert_key_tidies key l = either (nat_lt key (first_key l.call)) _ _ refl (either (key == first_key l.call) (to (Activity.Insert Insert.Version) l) (to (Activity.Insert Insert.Set) l) refl refl)
+
+insert_start_tidies : (z : Sizes) (guess : Option ℕ) (l : Local) (told : ℕ) → (insert_started z l guess told).local.tidies ≡ l.tidies
+insert_start_tidies z (Some cell) l told = either (nat_lt (key_of_word told) (first_key l.call)) (to (Activity.Insert Insert.Link) (behind_cell cell l)) (to (Activity.Insert Insert.Link) l) refl refl
+insert_start_tidies z None l told = insert_from_tidies z (cell_of_link_word told) l
 
 insert_tried_tidies : (z : Sizes) (b : Bool) (l : Local) → (insert_tried z b l).local.tidies ≡ l.tidies
 insert_tried_tidies z true l = refl
@@ -198,6 +202,9 @@ row_written_tidies l = either (has_more l) (to (Activity.Rebalance (Rebalance.Wr
 write_cell_tidies : (z : Sizes) (j : ℕ) (l : Local) → (to_write_cell z j l).local.tidies ≡ l.tidies
 write_cell_tidies z j l = either (nat_lt j z.cells) (if nat_lt j (length (infant_cells l)) then to (Activity.Rebalance (Rebalance.Write (Write.Key j))) l else to (Activity.Rebalance (Rebalance.Write (Write.Version j))) l) (row_written l) (either (nat_lt j (length (infant_cells l))) (to (Activity.Rebalance (Rebalance.Write (Write.Key j))) l) (to (Activity.Rebalance (Rebalance.Write (Write.Version j))) l) refl refl) (row_written_tidies l)
 
+write_after_tidies : (z : Sizes) (j : ℕ) (l : Local) → (to_write_after z j l).local.tidies ≡ l.tidies
+write_after_tidies z j l = either (nat_lt j (length (infant_cells l))) (to (Activity.Rebalance (Rebalance.Write (Write.After j))) l) (to_write_cell z (j + 1) l) refl (write_cell_tidies z (j + 1) l)
+
 write_entry_tidies : (z : Sizes) (i : ℕ) (l : Local) → (to_write_entry z i l).local.tidies ≡ l.tidies
 write_entry_tidies z i l = either (nat_lt i z.seats) (to (Activity.Rebalance (Rebalance.Write (Write.Entry i))) l) (to_write_cell z 0 l) refl (write_cell_tidies z 0 l)
 
@@ -255,6 +262,7 @@ keeps z (Activity.Put Put.Announce) s choice l rows told u = either (told == pen
 keeps z (Activity.Put Put.Clock) s choice l rows told u = refl
 keeps z (Activity.Put Put.Stamp) s choice l rows told u = stamp_tidies (pend_of told) l
 keeps z (Activity.Put Put.Version) s choice l rows told u = refl
+keeps z (Activity.Insert Insert.Start) s choice l rows told u = insert_start_tidies z (cell_guess choice l) l told
 keeps z (Activity.Insert Insert.Link) s choice l rows told u = insert_from_tidies z (cell_of_link_word told) l
 keeps z (Activity.Insert Insert.Key) s choice l rows told u = insert_key_tidies (key_of_word told) l
 keeps z (Activity.Insert Insert.Version) s choice l rows told u = either (is_newer (unwrap_or (version_of_word told) 0) l.place l) (insert_past l) (to (Activity.Insert Insert.Set) l) refl refl
@@ -284,6 +292,7 @@ keeps z (Activity.Rebalance (Rebalance.Seek Seek.Take)) s choice l rows told u =
 keeps z (Activity.Rebalance (Rebalance.Seek Seek.GiveBack)) s choice l rows told u = gave_back_tidies l
 keeps z (Activity.Rebalance (Rebalance.Write Write.First)) s choice l rows told u = write_entry_tidies z 0 l
 keeps z (Activity.Rebalance (Rebalance.Write (Write.Entry i))) s choice l rows told u = write_entry_tidies z (i + 1) l
+keeps z (Activity.Rebalance (Rebalance.Write (Write.Version j))) s choice l rows told u = write_after_tidies z j l
 keeps z (Activity.Rebalance (Rebalance.Write (Write.After j))) s choice l rows told u = write_cell_tidies z (j + 1) l
 keeps z (Activity.Rebalance (Rebalance.Write _)) s choice l rows told u = refl
 keeps z (Activity.Rebalance (Rebalance.Replace Replace.Start)) s choice l rows told u = before_tidies choice l rows told

@@ -19,4 +19,4 @@ starting key epoch = record (entering key epoch) { activity = Activity.Walk Walk
 -- the local of a get that is at this activity and came so far: between calls it knows nothing, and
 -- has learnt this alone since
 abbrev pub on_way : Activity → Way → Local
-on_way a w = record (resting 1) { activity = a; call = Some (Get w.key); epoch = w.epoch; want = w.key; row = w.row; lower = w.lower; candidate = w.candidate; next = w.next; upper = w.upper }
+on_way a w = record (resting 1) { activity = a; call = Some (Get w.key); epoch = w.epoch; want = w.key; row = w.row; lower = w.lower; built = w.built; candidate = w.candidate; next = w.next; upper = w.upper }

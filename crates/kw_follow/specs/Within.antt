@@ -2,9 +2,16 @@
 -- that it remembers or at an entry, and a call on its walk.
 use Rattle.std.specs.Prelude.{ℕ}
 use Rattle.kw_world.specs.declared.activity.Activity.{Activity}
+use Rattle.kw_world.specs.declared.activity.insert.Insert.TheVariants as Insert
 use Rattle.kw_world.specs.declared.activity.look.Look.TheVariants as Look
 use Rattle.kw_world.specs.declared.activity.read.Read.TheVariants as Read
 use Rattle.kw_world.specs.declared.local.Local.{Local}
+
+-- a walk along the list of a row begins
+abbrev pub IsAtStart : Activity → Type 0
+IsAtStart (Activity.Read Read.Start) = Unit {0}
+IsAtStart (Activity.Insert Insert.Start) = Unit {0}
+IsAtStart _ = ⊥
 
 -- the seat is in the middle of a call, and its next event neither ends the call or a scan nor reads
 -- a cell

@@ -8,7 +8,7 @@
 ghost use Rattle.std.specs.Prelude.{◌≡◌, ◌<◌, true, false, length};
 ghost use Rattle.kw_words.specs.Link.{link_of};
 ghost use Rattle.kw_words.specs.Pend.{pend_of};
-ghost use Rattle.kw_words.specs.Plain.{key_of_word};
+ghost use Rattle.kw_words.specs.Plain.{built_of_word, key_of_word};
 ghost use Rattle.kw_words.specs.declared.sizes.TheConstants.{SEATS};
 ghost use Rattle.kw_core.specs.Events.{is_call_in_range};
 ghost use Rattle.kw_world.specs.Local.{resting};
@@ -153,7 +153,7 @@ pub fn load_row_least(shared: &Shared, pass: &mut Pass, row: u32) -> u64
 /// The call was told the least key of that row. Takes no memory.
 #[inline(always)]
 pub fn see_row_least(local: &mut Local, found: u64) -> StepDone
-    ensures { outcome local.new result ≡ walk_least (key_of_word found) local.old }
+    ensures { outcome local.new result ≡ walk_least (key_of_word found) (built_of_word found) local.old }
 {
     walk_least(local, found)
 }

@@ -13,6 +13,7 @@
 ghost use Rattle.std.specs.Prelude.{◌≡◌, ◌<◌, unwrap_or};
 ghost use Rattle.kw_words.specs.Plain.{value_of_word, version_of_word};
 ghost use Rattle.kw_words.specs.declared.sizes.TheConstants.{CELLS};
+ghost use Rattle.kw_core.specs.Stages.{IsAtInsertLink, IsAtReadLink};
 ghost use Rattle.kw_table.specs.Passes.{Makes};
 ghost use Rattle.kw_follow.specs.Cursors.{ReadsWord, cell_at, first_of, gathering_at, holding, past, reached, with_cursor};
 ghost use Rattle.kw_follow.specs.Following.{Follows};
@@ -171,13 +172,35 @@ impl Cursor {
         local.gathered.gather(self.cell(found));
     }
 
+    /// Loads the key of this cell, one of those with which the row was built, for a reader that is
+    /// to begin its walk behind it. The answer is what the event was told. Takes no memory.
+    #[inline(always)]
+    pub fn load_guessed_key(self, shared: &Shared, pass: &mut Pass, cell: u32) -> u64
+        requires cell { cell < shared.now.opening.rows }
+        requires follows { (l : Local) × Follows shared.now pass.old (with_cursor (Activity.Read Read.Start) self l) × (cell < l.built) }
+        ensures { Makes shared.now pass.old (Choice.Guess cell) result pass.new }
+    {
+        let key = Name::Key(self.row, cell);
+        load_key(shared, pass, Choice::Guess(cell), key)
+    }
+
+    /// The walk begins behind this cell.
+    #[inline(always)]
+    pub fn behind(self, cell: u32) -> Cursor
+        ensures { result ≡ record self { link = Some cell } }
+    {
+        let mut next = self;
+        next.link = Some(cell);
+        next
+    }
+
     /// Loads the link at which the reader stands. The answer is what the event was told. Takes no
     /// memory.
     #[inline(always)]
     pub fn load_cell_link(self, shared: &Shared, pass: &mut Pass) -> u64
-        requires { (l : Local) × Follows shared.now pass.old (with_cursor (Activity.Read Read.Link) self l) }
-        ensures { (l : Local) → Follows shared.now pass.old (with_cursor (Activity.Read Read.Link) self l) →
-            ReadsWord shared.now pass.old (with_cursor (Activity.Read Read.Link) self l) result pass.new }
+        requires { (a : Activity) × (l : Local) × IsAtReadLink a × Follows shared.now pass.old (with_cursor a self l) }
+        ensures { (a : Activity) (l : Local) → IsAtReadLink a → Follows shared.now pass.old (with_cursor a self l) →
+            ReadsWord shared.now pass.old (with_cursor a self l) result pass.new }
     {
         let link = link_name(self.row, self.link);
         load_after(shared, pass, link)
@@ -191,7 +214,7 @@ impl Cursor {
             ReadsWord shared.now pass.old (with_cursor (Activity.Read Read.Key) self l) result pass.new }
     {
         let key = Name::Key(self.row, self.place);
-        load_key(shared, pass, key)
+        load_key(shared, pass, Choice::Go, key)
     }
 
     /// Loads the version of the cell at hand. The answer is what the event was told. Takes no
@@ -217,11 +240,23 @@ impl Cursor {
         load_value(shared, pass, value)
     }
 
+    /// Loads the key of this cell, one of those with which the row was built, for a put that is to
+    /// begin its walk behind it. The answer is what the event was told. Takes no memory.
+    #[inline(always)]
+    pub fn load_guessed_insert_key(self, shared: &Shared, pass: &mut Pass, cell: u32) -> u64
+        requires cell { cell < shared.now.opening.rows }
+        requires follows { (l : Local) × Follows shared.now pass.old (with_cursor (Activity.Insert Insert.Start) self l) × (cell < l.built) }
+        ensures { Makes shared.now pass.old (Choice.Guess cell) result pass.new }
+    {
+        let key = Name::Key(self.row, cell);
+        load_key(shared, pass, Choice::Guess(cell), key)
+    }
+
     /// Loads the link at which a put stands. The answer is what the event was told. Takes no
     /// memory.
     #[inline(always)]
     pub fn load_insert_link(self, shared: &Shared, pass: &mut Pass) -> u64
-        requires { (l : Local) × Follows shared.now pass.old (with_cursor (Activity.Insert Insert.Link) self l) }
+        requires { (a : Activity) × (l : Local) × IsAtInsertLink a × Follows shared.now pass.old (with_cursor a self l) }
         ensures { Makes shared.now pass.old Choice.Go result pass.new }
     {
         let link = link_name(self.row, self.link);
@@ -236,6 +271,6 @@ impl Cursor {
         ensures { Makes shared.now pass.old Choice.Go result pass.new }
     {
         let key = Name::Key(self.row, self.place);
-        load_key(shared, pass, key)
+        load_key(shared, pass, Choice::Go, key)
     }
 }

@@ -79,7 +79,7 @@ pub(crate) fn load_left_key(shared: &Shared, pass: &mut Pass, local: &mut Local)
     ensures { Moves shared.now pass.old local.old Choice.Go pass.new local.new result }
 {
     let key = Name::Key(local.row, local.place);
-    let told = load_key(shared, pass, key);
+    let told = load_key(shared, pass, Choice::Go, key);
     take_left_over_key(local, told)
 }
 

@@ -160,6 +160,17 @@ pub fn see_insert_key(local: &mut Local, found: u64) -> StepDone
     insert_key(local, found)
 }
 
+// Loads the row's first link, at which the put begins.
+#[inline(always)]
+fn load_first_link(shared: &Shared, pass: &mut Pass, local: &mut Local) -> StepDone
+    requires { FollowsAt shared.now pass.old local.old (Activity.Insert Insert.Start) }
+    ensures { Moves shared.now pass.old local.old Choice.Go pass.new local.new result }
+{
+    let link = link_name(local.row, local.link);
+    let told = load_after(shared, pass, link);
+    insert_from(local, told)
+}
+
 // Loads the link at which the put stands.
 #[inline(always)]
 fn load_cell_link(shared: &Shared, pass: &mut Pass, local: &mut Local) -> StepDone
@@ -178,7 +189,7 @@ fn load_reached_key(shared: &Shared, pass: &mut Pass, local: &mut Local) -> Step
     ensures { Moves shared.now pass.old local.old Choice.Go pass.new local.new result }
 {
     let key = Name::Key(local.row, local.place);
-    let told = load_key(shared, pass, key);
+    let told = load_key(shared, pass, Choice::Go, key);
     insert_key(local, told)
 }
 
@@ -234,6 +245,7 @@ fn put_event(shared: &Shared, pass: &mut Pass, local: &mut Local) -> StepDone
         Activity::Put(Put::Clock) => load_own_clock(shared, pass, local),
         Activity::Put(Put::Stamp) => stamp_cell(shared, pass, local),
         Activity::Put(Put::Version) => write_version(shared, pass, local),
+        Activity::Insert(Insert::Start) => load_first_link(shared, pass, local),
         Activity::Insert(Insert::Link) => load_cell_link(shared, pass, local),
         Activity::Insert(Insert::Key) => load_reached_key(shared, pass, local),
         Activity::Insert(Insert::Version) => load_reached_version(shared, pass, local),

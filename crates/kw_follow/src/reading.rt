@@ -37,7 +37,7 @@ fn load_left_over_key(shared: &Shared, pass: &mut Pass, local: &mut Local)
     ensures { ReadsLeftOver shared.now pass.old local.old pass.new local.new }
 {
     let key = Name::Key(local.row, local.place);
-    let told = load_key(shared, pass, key);
+    let told = load_key(shared, pass, Choice::Go, key);
     left_key(local, told);
 }
 
@@ -140,6 +140,7 @@ fn go_on(local: &mut Local, upto: u32)
         Some(row) if local.upper <= upto => {
             local.row = row;
             local.lower = local.upper;
+            local.built = 0;
             local.want = local.upper;
             local.next = None;
             local.upper = 0;

@@ -78,7 +78,7 @@ pub fn gather_cell(shared: &Shared, pass: &mut Pass, local: &mut Local, cursor: 
     ensures tidies { local.new.tidies ≡ local.old.tidies }
 {
     let key_name = Name::Key(cursor.row, cursor.place);
-    let key = load_key(shared, pass, key_name);
+    let key = load_key(shared, pass, Choice::Go, key_name);
     let keyed = cursor.with_key(unpack_key(key));
     let version_name = Name::Version(keyed.row, keyed.place);
     let version = load_version(shared, pass, version_name);

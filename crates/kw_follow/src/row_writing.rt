@@ -1,8 +1,8 @@
 //! A new row, written from its first word to its last.
 //!
-//! A seat makes some two hundred events for a new row: they store its count, its least key, the
-//! link after it and the first link of its list, its entries, and then four words for each cell
-//! that it has and two for each other place. Nobody else reads the row before it is linked, and of
+//! A seat makes some hundred and fifty events for a new row: they store its count, its least key,
+//! the link after it and the first link of its list, its entries, and then four words for each cell
+//! that it has and one for each other place. Nobody else reads the row before it is linked, and of
 //! what the seat knows nothing changes in between but which of these words is the next one. So the
 //! row and its cells are looked up once, and the seat's local stays as it was until all is written:
 //! `at_entry` and `at_cell` say which local the pass follows meanwhile.
@@ -25,7 +25,7 @@ use kw_step_rebal::resume_write::to_write_cell;
 use kw_table::{Pass, Shared, store_infant};
 use kw_words::layout::Name;
 use kw_words::pend::Pend;
-use kw_words::plain::{pack_cell_link, pack_key, pack_value, pack_version};
+use kw_words::plain::{pack_key, pack_value, pack_version};
 use kw_words::sizes::{CELL_COUNT, SEAT_COUNT};
 use kw_world::activity::Activity;
 use kw_world::activity::rebalance::Rebalance;
@@ -116,7 +116,8 @@ fn cell_at(cells: &[Cell], place: u32) -> Cell
     cells[place as usize]
 }
 
-// Stores at each place behind the cells that there is none, and that no link leads on from there.
+// Stores at each place behind the cells that there is none. The link after it may be one of an
+// earlier use of the row: no walk follows it before a put has stored its own there.
 #[inline(always)]
 fn write_places_behind(shared: &Shared, pass: &mut Pass, local: &Local)
     requires ranges { IsLocal product local.now }
@@ -128,9 +129,7 @@ fn write_places_behind(shared: &Shared, pass: &mut Pass, local: &Local)
     let cells = infant_cells(local);
     let built = cells.len() as u32;
     let none = pack_version(None);
-    let nowhere = pack_cell_link(None);
     for place in built..CELL_COUNT {
         store_infant(shared, pass, Name::Version(row, place), none);
-        store_infant(shared, pass, Name::After(row, place), nowhere);
     }
 }

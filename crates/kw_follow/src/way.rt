@@ -36,6 +36,8 @@ pub struct Way {
     pub row: u32,
     /// The least key that this row may hold.
     pub lower: u32,
+    /// With how many cells this row was built, as far as the get knows.
+    pub built: u32,
     /// The row whose least key the walk asks for.
     pub candidate: u32,
     /// The row after the one at which the walk ended; none where that was the last.
@@ -63,6 +65,7 @@ impl Way {
             epoch,
             row: 0,
             lower: 0,
+            built: 0,
             candidate: 0,
             next: None,
             upper: 0,
@@ -82,6 +85,7 @@ impl Way {
         local.want = self.key;
         local.row = self.row;
         local.lower = self.lower;
+        local.built = self.built;
         local.candidate = self.candidate;
         local.next = self.next;
         local.upper = self.upper;

@@ -36,7 +36,7 @@ use Rattle.kw_core.specs.Ledger.{ledger_at_first}
 use Rattle.kw_core.specs.Run.{Run, goes_on, history, start}
 use Rattle.kw_core.specs.Stages.{IsBalancing}
 use Rattle.kw_core.specs.Words.{Words, least_in, next_in}
-use Rattle.kw_core.proofs.Building.{Building, IsBuilding, first_is_taken, sought_is_taken, pass_is_old, pass_is_young, takes_row, loses_row, gives_last_back, writes_first, writes_entry, writes_after, begins_before, guesses_before, before_serves, takes_head_before, leads_on_marked, leads_to_other, leads_nowhere, walks_before, walks_past, is_marked_before, is_replaced}
+use Rattle.kw_core.proofs.Building.{Building, IsBuilding, first_is_taken, sought_is_taken, pass_is_old, pass_is_young, takes_row, loses_row, gives_last_back, writes_first, writes_entry, writes_no_cell, writes_after, begins_before, guesses_before, before_serves, takes_head_before, leads_on_marked, leads_to_other, leads_nowhere, walks_before, walks_past, is_marked_before, is_replaced}
 use Rattle.kw_core.proofs.Events.{may_come}
 use Rattle.kw_core.proofs.Happens.{Happens, each_seat, happens}
 use Rattle.kw_core.proofs.NextBuilt.{GivenBack, is_refused_rows, moves_left, tries_again, NextBack, gives_back, has_none, NextPass, has_looked, looks_on, NextSeek, asks, has_asked, NextTaken, has_enough, wants_more, NextNewCell, empties, fills, has_cells, NextNewEntry, has_entries, writes_idle, NextNewRow, has_written, writes_row, NextBefore, is_behind, is_first, was_done, was_served}
@@ -181,6 +181,7 @@ steps_by z v choice l a k (loses_row rows next d y) x = absurd (seek_off rows _ 
 steps_by z v choice l a k (gives_last_back next o y) x = absurd (given_off l.rebalance.afterwards l next y x)
 steps_by z v choice l a k (writes_first next y) x = absurd (entry_off z 0 l next y x)
 steps_by z v choice l a k (writes_entry j next y) x = absurd (entry_off z _ l next y x)
+steps_by z v choice l a k (writes_no_cell j next o y) x = absurd (cell_off z _ l next y x)
 steps_by z v choice l a k (writes_after j next y) x = absurd (cell_off z _ l next y x)
 steps_by z v choice l a k (begins_before next y) x = first_step v l a next y x
 steps_by z v choice l a k (guesses_before q f e) x = from_guess q e

@@ -47,8 +47,8 @@ use Rattle.kw_core.specs.Events.{event, world}
 use Rattle.kw_core.specs.Run.{Run}
 use Rattle.kw_core.specs.Stages.{IsBusy}
 use Rattle.kw_core.specs.Words.{Words}
-use Rattle.kw_core.proofs.Arrows.{Arrow, NextLook, looks, lists, NextLeftOver, goes_to_left_over, answers, ends_scan, scans_on, is_spent, sees_stamped, sees_neither, is_gone_by, helps, finds_stamped, finds_other, list_ends, key_above, left_over_gone_by, gathers_left_over, clears_scan, clock_is_spent, epoch_is_spent, takes_no_more, keeps_no_more, builds}
-use Rattle.kw_core.proofs.Building.{Building, first_is_free, first_is_taken, first_is_retired, sought_is_free, sought_is_taken, sought_is_retired, pass_is_old, pass_is_young, frees_row, takes_row, loses_row, gives_one_back, gives_last_back, writes_first, writes_entry, writes_after, begins_before, takes_head_before, leads_on_marked, leads_nowhere, walks_past, is_marked_before, is_replaced}
+use Rattle.kw_core.proofs.Arrows.{Arrow, NextLook, looks, lists, NextLeftOver, goes_to_left_over, answers, ends_scan, scans_on, is_spent, sees_stamped, sees_neither, is_gone_by, helps, finds_stamped, finds_other, list_ends, key_above, left_over_gone_by, gathers_left_over, clears_scan, clock_is_spent, epoch_is_spent, takes_no_more, keeps_no_more, builds, first_ends}
+use Rattle.kw_core.proofs.Building.{Building, first_is_free, first_is_taken, first_is_retired, sought_is_free, sought_is_taken, sought_is_retired, pass_is_old, pass_is_young, frees_row, takes_row, loses_row, gives_one_back, gives_last_back, writes_first, writes_entry, writes_no_cell, writes_after, begins_before, takes_head_before, leads_on_marked, leads_nowhere, walks_past, is_marked_before, is_replaced}
 use Rattle.kw_core.proofs.NextBuilt.{tries_again, moves_left, NextBack, gives_back, has_none, NextNewRow, writes_row, has_written, NextNewCell, fills, empties, has_cells, NextNewEntry, writes_idle, has_entries, NextBefore, is_first, is_behind, was_done}
 use Rattle.kw_core.proofs.Happens.{Happens, found_at}
 use Rattle.kw_reads.specs.Inv.{Inv}
@@ -236,6 +236,7 @@ module _ (z : Sizes) (o : Opening) (es : List Event) (e : Event) (r r' : Run) (l
   built b k (gives_last_back next w t) x = absurd x
   built b k (writes_first next t) x = next_entry 0 l k t
   built b k (writes_entry j next t) x = next_entry _ l k t
+  built b k (writes_no_cell j next o t) x = next_cell _ l k t
   built b k (writes_after j next t) x = next_cell _ l k t
   built b k (begins_before next t) x = next_before _ l k t
   built b k (takes_head_before next t) x = next_before _ l k t
@@ -257,6 +258,7 @@ module _ (z : Sizes) (o : Opening) (es : List Event) (e : Event) (r r' : Run) (l
   by_arrow b k is (helps next f n) x = next_look _ next _ n
   by_arrow b k is (finds_stamped c version next f n) x = next_look _ next _ n
   by_arrow b k is (finds_other next f n) x = next_look _ next _ n
+  by_arrow b k is (first_ends next f n) x = next_left_over _ k n
   by_arrow b k is (list_ends next f n) x = next_left_over _ k n
   by_arrow b k is (key_above next f n) x = next_left_over _ k n
   by_arrow b k is (left_over_gone_by next f n) x = next_left_over _ k n

@@ -32,7 +32,7 @@ use Rattle.kw_core.specs.declared.history.End.{End}
 use Rattle.kw_core.specs.Run.{Run, goes_on, noted_by, start, history}
 use Rattle.kw_core.specs.Stages.{IsBusy, IsUnderway}
 use Rattle.kw_core.specs.Words.{Words}
-use Rattle.kw_core.proofs.Arrows.{Arrow, NextLook, looks, lists, NextLeftOver, goes_to_left_over, answers, ends_scan, scans_on, begins, sees_stamped, sees_neither, is_gone_by, helps, finds_stamped, finds_other, list_ends, key_above, left_over_gone_by, gathers_left_over, leaves, builds}
+use Rattle.kw_core.proofs.Arrows.{Arrow, NextLook, looks, lists, NextLeftOver, goes_to_left_over, answers, ends_scan, scans_on, begins, sees_stamped, sees_neither, is_gone_by, helps, finds_stamped, finds_other, list_ends, key_above, left_over_gone_by, gathers_left_over, leaves, builds, first_ends}
 use Rattle.kw_core.proofs.BuiltNext.{IsAfterBuilding, built_next}
 use Rattle.kw_core.proofs.Events.{may_come, valid-nil, valid-snoc}
 use Rattle.kw_core.proofs.Happens.{Happens, each_seat, found_at, happens, knows_next}
@@ -104,6 +104,7 @@ arrow_busy z v s choice l a k (is_gone_by next f n) u = next_look_busy z _ next 
 arrow_busy z v s choice l a k (helps next f n) u = next_look_busy z _ next n
 arrow_busy z v s choice l a k (finds_stamped c version next f n) u = next_look_busy z _ next n
 arrow_busy z v s choice l a k (finds_other next f n) u = next_look_busy z _ next n
+arrow_busy z v s choice l a k (first_ends next f n) u = next_left_over_busy _ k n
 arrow_busy z v s choice l a k (list_ends next f n) u = next_left_over_busy _ k n
 arrow_busy z v s choice l a k (key_above next f n) u = next_left_over_busy _ k n
 arrow_busy z v s choice l a k (left_over_gone_by next f n) u = next_left_over_busy _ k n

@@ -26,7 +26,7 @@ use Rattle.kw_rows.proofs.Named.{above_least, held_by}
 use Rattle.kw_shape.specs.RowsIn.{rows_in, state_seen}
 use Rattle.kw_shape.specs.Shape.{Walks}
 use Rattle.kw_shape.proofs.LinkedRows.{fresh_linked, holds_wanted}
-use Rattle.kw_core.specs.Stages.{IsAtRow, IsAtListed, IsKeeping, IsWaiting, IsInserting, IsUnlisted, IsMeeting}
+use Rattle.kw_core.specs.Stages.{IsAtInsertLink, IsAtRow, IsAtListed, IsKeeping, IsWaiting, IsInserting, IsUnlisted, IsMeeting}
 use Rattle.kw_lists.specs.Rows.{Row, IsBehind, IsSound}
 use Rattle.kw_lists.specs.Walks.{IsWalking}
 use Rattle.kw_lists.proofs.Putting.{put_lost}
@@ -36,7 +36,7 @@ use Rattle.kw_puts.specs.Lists.{list_in, Inserts, WalksList}
 use Rattle.kw_puts.specs.Positions.{IsHelped}
 use Rattle.kw_puts.proofs.ListWords.{link_is}
 use Rattle.kw_reads.specs.Readers.{IsDue, ReadsList, IsCopyOf, AreCopies}
-use Rattle.kw_reads.proofs.WalksKeep.{has_reached}
+use Rattle.kw_reads.proofs.WalksKeep.{has_reached, link_reads, link_walks, read_at_row}
 use Rattle.kw_reads.specs.Replies.{RisesBelow}
 use Rattle.kw_reads.specs.Inv.{Inv}
 use Rattle.kw_laws.specs.Laws.{IsWaitingOrDrawn, IsGathered, KeepsLaws}
@@ -83,12 +83,24 @@ meets_behind z row (Activity.Insert Insert.Key) l m w = w.0
 meets_behind z row (Activity.Insert Insert.Version) l m w = w.0
 meets_behind z row _ l m w = absurd m
 
+-- a put at a link has not listed its cell, and walks
+link_unlisted : (a : Activity) → IsAtInsertLink a → IsUnlisted a
+link_unlisted (Activity.Insert Insert.Start) x = tt
+link_unlisted (Activity.Insert Insert.Link) x = tt
+link_unlisted _ x = absurd x
+
+insert_walks : (n : ℕ) (row : Row) (a : Activity) (l : Local) → IsAtInsertLink a → WalksList n row a l → IsWalking n row l.link l.walked
+insert_walks n row (Activity.Insert Insert.Start) l x w = w.0
+insert_walks n row (Activity.Insert Insert.Link) l x w = w
+insert_walks n row _ l x w = absurd x
+
 -- a put whose own cell is not listed has reached fewer cells than there are
 walked_less : (z : Sizes) (row : Row) (l : Local) → row.listed l.cell ≡ false → l.cell < z.cells → IsWalking z.cells row l.link l.walked → l.walked < z.cells
 walked_less z row l u o w = walked_fewer z.cells row l.link l.walked l.cell o u w
 
 -- and has lost fewer exchanges
 lost_less : (z : Sizes) (row : Row) (a : Activity) (l : Local) → IsInserting a → l.cell < z.cells → Inserts z.cells row a l → l.lost < z.cells
+lost_less z row (Activity.Insert Insert.Start) l m o i = put_lost z.cells row l.cell l.lost l.link o i
 lost_less z row (Activity.Insert Insert.Link) l m o i = put_lost z.cells row l.cell l.lost l.link o i
 lost_less z row (Activity.Insert Insert.Exchange) l m o i = put_lost z.cells row l.cell l.lost l.link o i.saw.from
 lost_less z row (Activity.Insert _) l m o i = put_lost z.cells row l.cell l.lost l.link o i.0.from
@@ -132,10 +144,10 @@ laws_from z r i stated ends visits = record {
   stamps = λ t l g a. finds_own z r i t l g (subst IsPublished (sym a) tt);
   settles = settles;
   reaches = λ t l g m. meets_behind z _ l.activity l m (i.lists.walks t l g);
-  walked = λ t l g a. walked_less z _ l ((i.lists.own t l g).unlisted (subst IsUnlisted (sym a) tt)) (i.shape.sane.locals t l g).ranges.cell (subst (λ q. WalksList z.cells (list_in (word z r.world) r.listed l.row) q l) a (i.lists.walks t l g));
+  walked = λ t l g a. walked_less z _ l ((i.lists.own t l g).unlisted (link_unlisted l.activity a)) (i.shape.sane.locals t l g).ranges.cell (insert_walks z.cells _ l.activity l a (i.lists.walks t l g));
   lost = λ t l g a. lost_less z _ l.activity l a (i.shape.sane.locals t l g).ranges.cell (i.lists.inserts t l g);
   reader_reaches = λ t l g m. reader_behind z _ l.activity l m (i.readers.walks t l g);
-  reads_on = λ t l g a c e. reader_less z _ l c (i.lists.leads l.row (fresh_linked r.ledger.rows t l.row ((i.shape.walks t l g).at (subst IsAtRow (sym a) tt)).fresh)) (link_is (word z r.world) l.row l.link ∙ e) (subst (λ q. ReadsList z.cells (list_in (word z r.world) r.listed l.row) q l) a (i.readers.walks t l g));
+  reads_on = λ t l g a c e. reader_less z _ l c (i.lists.leads l.row (fresh_linked r.ledger.rows t l.row ((i.shape.walks t l g).at (read_at_row l.activity (link_reads l.activity a).0)).fresh)) (link_is (word z r.world) l.row l.link ∙ e) (link_walks z.cells _ l.activity l a (i.readers.walks t l g));
   stamped = λ p h. let a = i.history.laws.attempted p (in_range r.history p h) in record { announced = a.load h; load = a.at h; found = i.history.laws.loaded p h };
   given = λ p w n. (i.puts.given p w n).origin;
   seen = seen;

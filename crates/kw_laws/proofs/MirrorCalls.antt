@@ -38,6 +38,8 @@ use Rattle.kw_world.specs.Sizes.{Sizes}
 use Rattle.kw_world.specs.WorldView.{WorldView}
 use Rattle.kw_world.specs.Transition.{Transition}
 use Rattle.kw_world.specs.PutTransitions.{has_room}
+use Rattle.kw_world.specs.ListTransitions.{cell_guess}
+use Rattle.kw_puts.proofs.PositionsKeep.{first_draws_none}
 use Rattle.kw_world.specs.WalkTransitions.{offered, start_transition, walk_transition, is_stopped}
 use Rattle.kw_world.specs.SeekTransitions.{seek_first_transition}
 use Rattle.kw_world.specs.ReplaceTransitions.{before_transition}
@@ -104,8 +106,10 @@ draw_line z (Activity.Rebalance (Rebalance.Replace Replace.Start)) s choice l d 
     begins Stop x = x
 draw_line z (Activity.Enter Enter.Announce) s choice l d = absurd d
 draw_line z (Activity.Look Look.Key) s choice l d = absurd d
+draw_line z (Activity.Read Read.Start) s choice l d = absurd (first_draws_none l (cell_guess choice l) d)
 draw_line z (Activity.Read Read.Link) s choice l d = absurd d
 draw_line z (Activity.Put Put.Count) s choice l d = absurd d
+draw_line z (Activity.Insert Insert.Start) s choice l d = absurd (first_draws_none l (cell_guess choice l) d)
 draw_line z (Activity.Insert Insert.Link) s choice l d = absurd d
 draw_line z (Activity.Rebalance (Rebalance.Engage Engage.Clock)) s choice l d = absurd d
 draw_line z (Activity.Rebalance (Rebalance.Gather Gather.Link)) s choice l d = absurd d

@@ -1,7 +1,7 @@
 -- The record says of lost attempts what the events say: an attempt is lost where a seat that
 -- rebalances freezes its entry, and until then the entry was pending since the attempt was
 -- announced.
-use Rattle.std.proofs.Common.{ℕ, ◌≡◌, ◌⊎◌, inl, inr, ◌+◌, ◌<◌, ◌≤◌, Bool, true, false, Some, None, List, [], ◌∷◌, ◌++◌, arith, refl, sym, ◌∙◌, ap, subst, length, length-append}
+use Rattle.std.proofs.Common.{ℕ, ◌≡◌, ◌⊎◌, inl, inr, ◌+◌, ◌<◌, ◌≤◌, Bool, true, false, Option, Some, None, List, [], ◌∷◌, ◌++◌, arith, refl, sym, ◌∙◌, ap, subst, length, length-append}
 use Rattle.std.specs.Prelude.{take}
 use Rattle.std.proofs.lemmas.Bool.{cases_lt}
 use Rattle.std.proofs.lemmas.List.{take-append-le, take_all}
@@ -39,6 +39,7 @@ use Rattle.kw_world.specs.SeekTransitions.{seek_first_transition}
 use Rattle.kw_world.specs.Sizes.{Sizes}
 use Rattle.kw_world.specs.Step.{step, word}
 use Rattle.kw_world.specs.Table.{transition}
+use Rattle.kw_world.specs.ListTransitions.{cell_guess, first_operation}
 use Rattle.kw_world.specs.WalkTransitions.{is_stopped, offered, start_transition, walk_transition}
 use Rattle.kw_world.specs.WorldView.{WorldView}
 use Rattle.kw_core.specs.Events.{is_valid, may_step, world}
@@ -73,6 +74,11 @@ use Rattle.kw_laws.proofs.Over.{AttemptOver, attempt_over, is_announced, is_help
 
 -- Which line freezes an entry.
 
+-- the first event of a walk along a list freezes none
+first_freezes_none : (l : Local) (g : Option ℕ) → (first_operation g l).kind ≡ kind.FreezePend → ⊥
+first_freezes_none l (Some cell) y = cc
+first_freezes_none l None y = cc
+
 -- only that of a seat which freezes one is of this kind
 freeze_line : (z : Sizes) (s : ℕ) (choice : Choice) (l : Local) (a : Activity) → (transition z a s choice l).operation.kind ≡ kind.FreezePend → (i : ℕ) × (a ≡ Activity.Rebalance (Rebalance.Freeze (Freeze.Entry i)))
 freeze_line z s choice l (Activity.Rebalance (Rebalance.Freeze (Freeze.Entry i))) e = (i, refl)
@@ -102,6 +108,8 @@ freeze_line z s choice l (Activity.Rebalance (Rebalance.Replace Replace.Start)) 
     befores Go y = cc
     befores (Guess d) y = cc
     befores Stop y = cc
+freeze_line z s choice l (Activity.Read Read.Start) e = absurd (first_freezes_none l (cell_guess choice l) e)
+freeze_line z s choice l (Activity.Insert Insert.Start) e = absurd (first_freezes_none l (cell_guess choice l) e)
 freeze_line z s choice l (Activity.Enter Enter.Announce) e = absurd (cc)
 freeze_line z s choice l (Activity.Draw Draw.Clock) e = absurd (cc)
 freeze_line z s choice l (Activity.Look Look.Key) e = absurd (cc)

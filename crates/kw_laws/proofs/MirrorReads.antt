@@ -168,6 +168,7 @@ module _ (z : Sizes) (choice : Choice) (l : Local) (found : ℕ) (next : Activit
       looked : (b : Bool) → ((let k : SeatLog = if b then record g { looked = length h.log; ids = []; read = None } else g in k).ids ≡ []) ⊎ (Unit {0} × ((let k : SeatLog = if b then record g { looked = length h.log; ids = []; read = None } else g in k).ids ≡ g.ids)) ⊎ ⊥ × ((let k : SeatLog = if b then record g { looked = length h.log; ids = []; read = None } else g in k).ids ≡ insert g.ids (index_gathered l found) (unwrap_or (o l.row l.place) 0))
       looked true = inl refl
       looked false = inr (inl (tt, refl))
+  ids_after (Activity.Read Read.Start) m = inr (inl (tt, left g.ids (is_at_cell next) g (record g { read = Some l.row }) refl refl))
   ids_after (Activity.Read Read.Link) m = inr (inl (tt, left g.ids (is_at_cell next) g (record g { read = Some l.row }) refl refl))
   ids_after (Activity.Read Read.Key) m = inr (inl (tt, left g.ids (is_at_cell next) g (record g { read = Some l.row }) refl refl))
   ids_after (Activity.Read Read.Value) m = inr (inr (tt, refl))

@@ -30,7 +30,7 @@ use Rattle.kw_core.specs.Run.{Run, start, with_settled}
 use Rattle.kw_core.specs.Stages.{IsUnderway, IsSettling, IsWaiting, HasDrawn}
 use Rattle.kw_core.specs.Step.{Step}
 use Rattle.kw_core.specs.Words.{Words}
-use Rattle.kw_core.proofs.Arrows.{builds, Arrow, NextLook, looks, lists, NextLeftOver, goes_to_left_over, answers, ends_scan, scans_on, sees_stamped, sees_neither, is_gone_by, helps, finds_stamped, finds_other, list_ends, key_above, left_over_gone_by, gathers_left_over, settles_empty, settles, draws_for}
+use Rattle.kw_core.proofs.Arrows.{builds, Arrow, NextLook, looks, lists, NextLeftOver, goes_to_left_over, answers, ends_scan, scans_on, sees_stamped, sees_neither, is_gone_by, helps, finds_stamped, finds_other, list_ends, key_above, left_over_gone_by, gathers_left_over, settles_empty, settles, draws_for, first_ends}
 use Rattle.kw_core.proofs.Building.{IsBuilding}
 use Rattle.kw_core.proofs.BuiltNext.{IsAfterBuilding, built_next}
 use Rattle.kw_core.proofs.Frame.{unwritten}
@@ -141,6 +141,7 @@ helper_drew z v s choice l a k (is_gone_by next e n) = look_helps_none v a k z _
 helper_drew z v s choice l a k (helps next e n) = look_helps_none v a k z _ next n
 helper_drew z v s choice l a k (finds_stamped c version next e n) = look_helps_none v a k z _ next n
 helper_drew z v s choice l a k (finds_other next e n) = look_helps_none v a k z _ next n
+helper_drew z v s choice l a k (first_ends next e n) = left_over_helps_none v a _ _ n
 helper_drew z v s choice l a k (list_ends next e n) = left_over_helps_none v a _ _ n
 helper_drew z v s choice l a k (key_above next e n) = left_over_helps_none v a _ _ n
 helper_drew z v s choice l a k (left_over_gone_by next e n) = left_over_helps_none v a _ _ n

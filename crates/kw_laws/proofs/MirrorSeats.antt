@@ -1,6 +1,6 @@
 -- What is kept of each seat so that the record mirrors the events: its number, its running call,
 -- and its last load of the clock.
-use Rattle.std.proofs.Common.{ℕ, ◌≡◌, ◌≢◌, ◌⊎◌, inl, inr, ◌+◌, ◌<◌, ◌==◌, Bool, true, false, if◌then◌else◌, nat_lt, Some, None, List, [], ◌∷◌, ◌++◌, arith, refl, sym, ◌∙◌, ap, subst, length, slice_get, length-append, eq-eqb, ne_eqb}
+use Rattle.std.proofs.Common.{ℕ, ◌≡◌, ◌≢◌, ◌⊎◌, inl, inr, ◌+◌, ◌<◌, ◌==◌, Bool, true, false, if◌then◌else◌, nat_lt, Option, Some, None, List, [], ◌∷◌, ◌++◌, arith, refl, sym, ◌∙◌, ap, subst, length, slice_get, length-append, eq-eqb, ne_eqb}
 use Rattle.std.proofs.lemmas.Bool.{cases_eq}
 use Rattle.std.proofs.lemmas.Option.{same_Some, slice_get_within}
 use Rattle.kw_words.specs.Count.{count_of}
@@ -33,6 +33,7 @@ use Rattle.kw_world.specs.Sizes.{Sizes}
 use Rattle.kw_world.specs.WorldView.{WorldView}
 use Rattle.kw_world.specs.Opening.{opened}
 use Rattle.kw_world.specs.PutTransitions.{has_room}
+use Rattle.kw_world.specs.ListTransitions.{cell_guess, first_operation}
 use Rattle.kw_world.specs.WalkTransitions.{offered, start_transition, walk_transition, is_stopped}
 use Rattle.kw_world.specs.ReplaceTransitions.{before_transition}
 use Rattle.kw_world.specs.SeekTransitions.{seek_first_transition}
@@ -51,7 +52,7 @@ use Rattle.kw_core.proofs.Changes.{made}
 use Rattle.kw_core.proofs.Building.{IsBuilding}
 use Rattle.kw_core.proofs.BuiltNext.{IsAfterBuilding, built_goes, built_next}
 use Rattle.kw_core.proofs.Arrows.{builds, Arrow, NextLook, looks, lists, NextLeftOver, goes_to_left_over, answers, ends_scan, scans_on}
-use Rattle.kw_core.proofs.Arrows.{begins, loads_to_help, loads_clock, sees_stamped, sees_neither, is_gone_by, helps, finds_stamped, finds_other, list_ends, key_above, left_over_gone_by, gathers_left_over, leaves}
+use Rattle.kw_core.proofs.Arrows.{begins, loads_to_help, loads_clock, sees_stamped, sees_neither, is_gone_by, helps, finds_stamped, finds_other, list_ends, key_above, left_over_gone_by, gathers_left_over, leaves, first_ends}
 use Rattle.kw_shape.proofs.NextCalls.{cell_call}
 use Rattle.kw_core.proofs.Steps.{none_some}
 use Rattle.kw_core.proofs.SeatLogs.{either, call_kept, settled_same}
@@ -97,6 +98,7 @@ built_begins_none _ choice y = refl
 arrow_counts : (z : Sizes) (v : Words) (s : ℕ) (choice : Choice) (l : Local) (a : Activity) (k : Local) → Arrow z v s choice l a k → k.number ≡ l.number + (if is_begun a choice then 1 else 0)
 arrow_counts z v s choice l a k (builds b next y t) = let x = (built_goes z v choice l b k t).number in rw (built_begins_none b choice y) (omega (arith, x))
 arrow_counts z v s choice l a k (begins call e b) = rw e refl
+arrow_counts z v s choice l a k (first_ends next e n) = let x = cell_call _ _ n in omega (arith, x.1)
 arrow_counts z v s choice l a k (list_ends next e n) = let x = cell_call _ _ n in omega (arith, x.1)
 arrow_counts z v s choice l a k (key_above next e n) = let x = cell_call _ _ n in omega (arith, x.1)
 arrow_counts z v s choice l a k (left_over_gone_by next e n) = let x = cell_call _ _ n in omega (arith, x.1)
@@ -105,7 +107,7 @@ arrow_counts z v s choice l a k _ = omega arith
 
 -- What an arrow leads to.
 
-next_look : {A : Type 0} (P : Activity → Type 0) (z : Sizes) (j : ℕ) (next : Activity) → NextLook z j next → (P (Activity.Look (Look.Entry j)) → A) → (P (Activity.Read Read.Link) → A) → P next → A
+next_look : {A : Type 0} (P : Activity → Type 0) (z : Sizes) (j : ℕ) (next : Activity) → NextLook z j next → (P (Activity.Look (Look.Entry j)) → A) → (P (Activity.Read Read.Start) → A) → P next → A
 next_look P z j next (looks w) f g p = f p
 next_look P z j next (lists w) f g p = g p
 
@@ -140,6 +142,7 @@ arrow_busy z v s choice l a k (is_gone_by next e n) u = next_look_busy z _ next 
 arrow_busy z v s choice l a k (helps next e n) u = next_look_busy z _ next n
 arrow_busy z v s choice l a k (finds_stamped c version next e n) u = next_look_busy z _ next n
 arrow_busy z v s choice l a k (finds_other next e n) u = next_look_busy z _ next n
+arrow_busy z v s choice l a k (first_ends next e n) u = next_left_over_busy _ _ n
 arrow_busy z v s choice l a k (list_ends next e n) u = next_left_over_busy _ _ n
 arrow_busy z v s choice l a k (key_above next e n) u = next_left_over_busy _ _ n
 arrow_busy z v s choice l a k (left_over_gone_by next e n) u = next_left_over_busy _ _ n
@@ -172,6 +175,7 @@ arrow_stamp z v s choice l a k (is_gone_by next e n) u = look_stamp z _ next n (
 arrow_stamp z v s choice l a k (helps next e n) u = look_stamp z _ next n (inl u)
 arrow_stamp z v s choice l a k (finds_stamped c version next e n) u = look_stamp z _ next n (inl u)
 arrow_stamp z v s choice l a k (finds_other next e n) u = look_stamp z _ next n (inl u)
+arrow_stamp z v s choice l a k (first_ends next e n) u = left_over_stamp _ _ n (inl u)
 arrow_stamp z v s choice l a k (list_ends next e n) u = left_over_stamp _ _ n (inl u)
 arrow_stamp z v s choice l a k (key_above next e n) u = left_over_stamp _ _ n (inl u)
 arrow_stamp z v s choice l a k (left_over_gone_by next e n) u = left_over_stamp _ _ n (inl u)
@@ -188,6 +192,7 @@ arrow_help z v s choice l a k (is_gone_by next e n) u = look_stamp z _ next n (i
 arrow_help z v s choice l a k (helps next e n) u = look_stamp z _ next n (inr u)
 arrow_help z v s choice l a k (finds_stamped c version next e n) u = look_stamp z _ next n (inr u)
 arrow_help z v s choice l a k (finds_other next e n) u = look_stamp z _ next n (inr u)
+arrow_help z v s choice l a k (first_ends next e n) u = left_over_stamp _ _ n (inr u)
 arrow_help z v s choice l a k (list_ends next e n) u = left_over_stamp _ _ n (inr u)
 arrow_help z v s choice l a k (key_above next e n) u = left_over_stamp _ _ n (inr u)
 arrow_help z v s choice l a k (left_over_gone_by next e n) u = left_over_stamp _ _ n (inr u)
@@ -199,6 +204,11 @@ arrow_help z v s choice l a k _ u = absurd u
 -- the event loads no clock and leaves this, or it is set to now
 abbrev LoadedOver : Sizes → ℕ → Choice → Local → ℕ → Activity → SeatLog → Origins → History → ℕ → Activity → Type 0
 LoadedOver z s choice l found next g o h settled a = ((seat_after z a choice l found next g o h settled).loaded ≡ g.loaded) × ((transition z a s choice l).operation.kind ≢ kind.LoadClock) ⊎ ((seat_after z a choice l found next g o h settled).loaded ≡ length h.log)
+
+-- the first event of a walk along a list loads no clock
+first_no_clock : (l : Local) (g : Option ℕ) → (first_operation g l).kind ≢ kind.LoadClock
+first_no_clock l (Some cell) e = cc
+first_no_clock l None e = cc
 
 loaded_over : (z : Sizes) (s : ℕ) (choice : Choice) (l : Local) (found : ℕ) (next : Activity) (g : SeatLog) (o : Origins) (h : History) (settled : ℕ) (a : Activity) → LoadedOver z s choice l found next g o h settled a
 loaded_over z s choice l found next g o h settled Activity.Idle = inl (begun choice, λ e. cc)
@@ -224,6 +234,8 @@ loaded_over z s choice l found next g o h settled (Activity.Walk Walk.Next) = in
     walks true e = cc
     walks false e = cc
 loaded_over z s choice l found next g o h settled (Activity.Look (Look.Entry i)) = inl (either (λ (q : SeatLog). q.loaded) (i == 0) (record g { looked = length h.log; ids = []; read = None }) g g.loaded refl refl, λ e. cc)
+loaded_over z s choice l found next g o h settled (Activity.Read Read.Start) = inl (either (λ (q : SeatLog). q.loaded) (is_at_cell next) g (record g { read = Some l.row }) g.loaded refl refl, first_no_clock l (cell_guess choice l))
+loaded_over z s choice l found next g o h settled (Activity.Insert Insert.Start) = inl (refl, first_no_clock l (cell_guess choice l))
 loaded_over z s choice l found next g o h settled (Activity.Read Read.Link) = inl (either (λ (q : SeatLog). q.loaded) (is_at_cell next) g (record g { read = Some l.row }) g.loaded refl refl, λ e. cc)
 loaded_over z s choice l found next g o h settled (Activity.Read Read.Key) = inl (either (λ (q : SeatLog). q.loaded) (is_at_cell next) g (record g { read = Some l.row }) g.loaded refl refl, λ e. cc)
 loaded_over z s choice l found next g o h settled (Activity.Read Read.LeftOverKey) = inl (either (λ (q : SeatLog). q.loaded) (is_at_cell next) g (record g { read = Some l.row }) g.loaded refl refl, λ e. cc)

@@ -25,11 +25,13 @@ use Rattle.kw_world.specs.declared.event.Choice.{Choice}
 use Rattle.kw_world.specs.declared.event.Choice.TheVariants.{Begin, Go, Guess, Stop}
 use Rattle.kw_world.specs.declared.event.Event.{Event}
 use Rattle.kw_world.specs.declared.opening.Opening.{Opening}
-use Rattle.kw_world.specs.declared.operation.Action.TheVariants.{Exchange}
+use Rattle.kw_world.specs.declared.operation.Action.TheVariants.{Exchange, Load}
 use Rattle.kw_world.specs.declared.operation.Operation.{Operation}
 use Rattle.kw_world.specs.Sizes.{Sizes}
 use Rattle.kw_world.specs.WorldView.{WorldView}
 use Rattle.kw_world.specs.Transition.{Transition}
+use Rattle.kw_world.specs.ListTransitions.{cell_guess}
+use Rattle.kw_world.proofs.Transitions.{first_loads}
 use Rattle.kw_world.specs.WalkTransitions.{offered, start_transition, walk_transition, is_stopped}
 use Rattle.kw_world.specs.ReplaceTransitions.{before_transition, replaced_link}
 use Rattle.kw_world.specs.SeekTransitions.{infant, seek_first_transition}
@@ -125,6 +127,8 @@ stamp_line z v s choice l (Activity.Rebalance (Rebalance.Replace Replace.Start))
 stamp_line z v s choice l (Activity.Rebalance (Rebalance.Replace Replace.Exchange)) q t c u n x f = absurd (no_replaced l.rebalance.before q t n)
 stamp_line z v s choice l (Activity.Rebalance (Rebalance.Replace Replace.Normalise)) q t c u n x f = let y : name.State (infant l) ≡ name.Pend q t = n in absurd (cc)
 stamp_line z v s choice l (Activity.Enter Enter.Announce) q t c u n x f = absurd (cc)
+stamp_line z v s choice l (Activity.Read Read.Start) q t c u n x f = let y : Load ≡ Exchange _ _ = sym (first_loads (cell_guess choice l) l) ∙ x in absurd (cc)
+stamp_line z v s choice l (Activity.Insert Insert.Start) q t c u n x f = let y : Load ≡ Exchange _ _ = sym (first_loads (cell_guess choice l) l) ∙ x in absurd (cc)
 stamp_line z v s choice l (Activity.Read Read.Link) q t c u n x f = absurd (cc)
 stamp_line z v s choice l (Activity.Rebalance (Rebalance.Gather Gather.Link)) q t c u n x f = absurd (cc)
 stamp_line z v s choice l (Activity.Rebalance (Rebalance.Write Write.Count)) q t c u n x f = absurd (cc)
@@ -174,6 +178,8 @@ announce_line z v s choice l (Activity.Rebalance (Rebalance.Replace Replace.Star
 announce_line z v s choice l (Activity.Rebalance (Rebalance.Replace Replace.Exchange)) q t c n x f = absurd (no_replaced l.rebalance.before q t n)
 announce_line z v s choice l (Activity.Rebalance (Rebalance.Replace Replace.Normalise)) q t c n x f = let y : name.State (infant l) ≡ name.Pend q t = n in absurd (cc)
 announce_line z v s choice l (Activity.Enter Enter.Announce) q t c n x f = absurd (cc)
+announce_line z v s choice l (Activity.Read Read.Start) q t c n x f = let y : Load ≡ Exchange _ _ = sym (first_loads (cell_guess choice l) l) ∙ x in absurd (cc)
+announce_line z v s choice l (Activity.Insert Insert.Start) q t c n x f = let y : Load ≡ Exchange _ _ = sym (first_loads (cell_guess choice l) l) ∙ x in absurd (cc)
 announce_line z v s choice l (Activity.Read Read.Link) q t c n x f = absurd (cc)
 announce_line z v s choice l (Activity.Rebalance (Rebalance.Gather Gather.Link)) q t c n x f = absurd (cc)
 announce_line z v s choice l (Activity.Rebalance (Rebalance.Write Write.Count)) q t c n x f = absurd (cc)

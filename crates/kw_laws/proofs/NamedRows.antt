@@ -28,7 +28,7 @@ use Rattle.kw_world.specs.declared.activity.draw.Draw.TheVariants as Draw
 use Rattle.kw_world.specs.declared.event.Choice.{Choice}
 use Rattle.kw_world.specs.declared.event.Choice.TheVariants.{Begin, Go, Guess, Stop}
 use Rattle.kw_world.specs.declared.local.Local.{Local}
-use Rattle.kw_world.specs.ListTransitions.{link_name}
+use Rattle.kw_world.specs.ListTransitions.{cell_guess, first_operation, link_name}
 use Rattle.kw_world.specs.ReplaceTransitions.{before_transition, replaced_link}
 use Rattle.kw_world.specs.SeekTransitions.{infant, seek_first_transition}
 use Rattle.kw_world.specs.Sizes.{Sizes}
@@ -118,6 +118,11 @@ link_row : (r q : ℕ) (link : Option ℕ) → IsRowWord (link_name r link) q �
 link_row r q (Some c) w = w
 link_row r q None w = w
 
+-- and so is the first word of a walk along its list
+first_row : (l : Local) (q : ℕ) (g : Option ℕ) → IsRowWord (first_operation g l).name q → q ≡ l.row
+first_row l q (Some c) w = w
+first_row l q None w = link_row l.row q l.link w
+
 -- the row before, where there is one
 before_row : (b : Option ℕ) (q : ℕ) → (p : ℕ) × (b ≡ Some p) → q ≡ row_or_first b → b ≡ Some q
 before_row b q p w = p.1 ∙ ap Some (sym (w ∙ ap row_or_first p.1))
@@ -152,6 +157,7 @@ touched z s choice l (Activity.Walk Walk.NextLeast) q some hand w = inl (names_c
 touched z s choice l (Activity.Look (Look.Entry i)) q some hand w = inl (names_row tt w)
 touched z s choice l (Activity.Look Look.Key) q some hand w = inl (names_row tt w)
 touched z s choice l (Activity.Look Look.Help) q some hand w = inl (names_row tt w)
+touched z s choice l (Activity.Read Read.Start) q some hand w = inl (names_row tt (first_row l q (cell_guess choice l) w))
 touched z s choice l (Activity.Read Read.Link) q some hand w = inl (names_row tt (link_row l.row q l.link w))
 touched z s choice l (Activity.Read _) q some hand w = inl (names_row tt w)
 touched z s choice l (Activity.Put Put.Count) q some hand w = inl (names_row tt w)
@@ -161,6 +167,7 @@ touched z s choice l (Activity.Put Put.Value) q some hand w = inl (names_row tt 
 touched z s choice l (Activity.Put Put.Announce) q some hand w = inl (names_row tt w)
 touched z s choice l (Activity.Put Put.Stamp) q some hand w = inl (names_row tt w)
 touched z s choice l (Activity.Put Put.Version) q some hand w = inl (names_row tt w)
+touched z s choice l (Activity.Insert Insert.Start) q some hand w = inl (names_row tt (first_row l q (cell_guess choice l) w))
 touched z s choice l (Activity.Insert Insert.Link) q some hand w = inl (names_row tt (link_row l.row q l.link w))
 touched z s choice l (Activity.Insert Insert.Exchange) q some hand w = inl (names_row tt (link_row l.row q l.link w))
 touched z s choice l (Activity.Insert _) q some hand w = inl (names_row tt w)

@@ -16,9 +16,7 @@ use Rattle.kw_model.specs.Map.{IsRising}
 use Rattle.kw_world.specs.declared.activity.Activity.{Activity}
 use Rattle.kw_world.specs.declared.activity.draw.Draw.TheVariants as Draw
 use Rattle.kw_world.specs.declared.activity.rebalance.engage.Engage.TheVariants as Engage
-use Rattle.kw_world.specs.declared.activity.insert.Insert.TheVariants as Insert
 use Rattle.kw_world.specs.declared.activity.put.Put.TheVariants as Put
-use Rattle.kw_world.specs.declared.activity.read.Read.TheVariants as Read
 use Rattle.kw_world.specs.declared.activity.rebalance.Rebalance.TheVariants as Rebalance
 use Rattle.kw_world.specs.declared.activity.rebalance.replace.Replace.TheVariants as Replace
 use Rattle.kw_world.specs.declared.activity.rebalance.seek.Seek.TheVariants as Seek
@@ -33,7 +31,7 @@ use Rattle.kw_world.specs.Transition.{row_or_first}
 use Rattle.kw_core.specs.History.{History, LoadClock, attempt, called, Stands}
 use Rattle.kw_core.specs.HistoryLaws.{HistoryLaws, IsPut}
 use Rattle.kw_core.specs.Run.{Run}
-use Rattle.kw_core.specs.Stages.{IsAtRow, IsCovering, IsEarly, IsKeeping, IsAtListed, IsInserting, IsMeeting}
+use Rattle.kw_core.specs.Stages.{IsAtInsertLink, IsAtReadLink, IsAtRow, IsCovering, IsEarly, IsKeeping, IsAtListed, IsInserting, IsMeeting}
 use Rattle.kw_lists.specs.Rows.{IsBehind}
 use Rattle.kw_puts.specs.Here.{IsHere}
 use Rattle.kw_puts.specs.Lists.{list_in}
@@ -187,14 +185,14 @@ pub record KeepsLaws (z : Sizes) (r : Run) : Type 0 where
   -- led to it, so that the put reaches none twice: it has reached fewer cells than the row has, and
   -- so there is one for it to reach
   pub reaches : (t : ℕ) (l : Local) → slice_get r.world.locals t ≡ Some l → IsMeeting l.activity → IsBehind (list_in (word z r.world) r.listed l.row) l.link l.place
-  pub walked : (t : ℕ) (l : Local) → slice_get r.world.locals t ≡ Some l → l.activity ≡ Activity.Insert Insert.Link → l.walked < z.cells
+  pub walked : (t : ℕ) (l : Local) → slice_get r.world.locals t ≡ Some l → IsAtInsertLink l.activity → l.walked < z.cells
   -- a put loses fewer of its exchanges to insert a cell than the row has cells
   pub lost : (t : ℕ) (l : Local) → slice_get r.world.locals t ≡ Some l → IsInserting l.activity → l.lost < z.cells
   -- so it is with a get or a scan that walks along the row's list: a cell that it reaches stands
   -- behind the cell whose link led to it, and where the link at which it stands leads to a cell, it
   -- has reached fewer cells than the row has
   pub reader_reaches : (t : ℕ) (l : Local) → slice_get r.world.locals t ≡ Some l → IsAtListed l.activity → IsBehind (list_in (word z r.world) r.listed l.row) l.link l.place
-  pub reads_on : (t : ℕ) (l : Local) → slice_get r.world.locals t ≡ Some l → l.activity ≡ Activity.Read Read.Link → (c : ℕ) → cell_of_link_word (word z r.world (link_name l.row l.link)) ≡ Some c → l.walked < z.cells
+  pub reads_on : (t : ℕ) (l : Local) → slice_get r.world.locals t ≡ Some l → IsAtReadLink l.activity → (c : ℕ) → cell_of_link_word (word z r.world (link_name l.row l.link)) ≡ Some c → l.walked < z.cells
   -- each stamped put loaded its clock between its announcement and its stamp
   pub stamped : (p : ℕ) → IsPut r.history p → IsStampedInOrder r.history p
   -- the cell of each attempt whose row was not used again stands for it

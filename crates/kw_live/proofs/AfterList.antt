@@ -28,7 +28,7 @@ use Rattle.kw_world.specs.ReadTransitions.{gathering, left_over_key, left_over_o
 use Rattle.kw_world.specs.Sizes.{Sizes, product}
 use Rattle.kw_world.specs.Step.{next_of, transition_of}
 use Rattle.kw_world.specs.Table.{transition}
-use Rattle.kw_world.specs.Transition.{to}
+use Rattle.kw_world.specs.Transition.{Outcome, to}
 use Rattle.kw_puts.proofs.Owners.{true_false}
 use Rattle.kw_table.specs.declared.pass.Pass.{Pass}
 use Rattle.kw_table.specs.declared.shared.Shared.{Shared}
@@ -66,7 +66,7 @@ scan_leaves : (next : Option ℕ) (upto : ℕ) (l : Local) → is_listing (scan_
 scan_leaves None upto l = refl
 scan_leaves (Some r) upto l = saw (nat_lt upto l.upper)
   where
-    saw : (b : Bool) → is_listing (if b then scan_ended l else to (Activity.Walk Walk.Next) (record l { row = r; lower = l.upper; want = l.upper; next = None; upper = 0 })).local.activity ≡ false
+    saw : (b : Bool) → is_listing (if b then scan_ended l else to (Activity.Walk Walk.Next) (record l { row = r; lower = l.upper; built = 0; want = l.upper; next = None; upper = 0 })).local.activity ≡ false
     saw true = refl
     saw false = refl
 
@@ -103,6 +103,8 @@ event_leaves z (Activity.Draw Draw.Clock) k rows told u = true_false u refl
 event_leaves z (Activity.Walk Walk.First) k rows told u = true_false u refl
 event_leaves z (Activity.Look Look.Key) k rows told u = true_false u refl
 event_leaves z (Activity.Put Put.Count) k rows told u = true_false u refl
+event_leaves z (Activity.Insert Insert.Start) k rows told u = true_false u refl
+event_leaves z (Activity.Read Read.Start) k rows told u = true_false u refl
 event_leaves z (Activity.Insert Insert.Link) k rows told u = true_false u refl
 event_leaves z (Activity.Rebalance (Rebalance.Engage Engage.Clock)) k rows told u = true_false u refl
 event_leaves z (Activity.Rebalance (Rebalance.Freeze Freeze.Count)) k rows told u = true_false u refl
@@ -122,6 +124,30 @@ remembered_over s p q l m told f after seat at =
     ap (λ (x : Local). is_listing x.activity) after.carries
     ∙ (ap (λ (x : Local). is_listing x.activity) seat
     ∙ event_leaves product k.activity k (view p).opening.rows told (sym (ap (λ (x : Local). is_at_remembered x.activity) f.carries) ∙ at))
+
+-- what follows a walk along the list does not depend on where in it the reader stood
+row_read_any : (a : Activity) (call : Option Call) (l : Local) → row_read call (record l { activity = a }) ≡ row_read call l
+row_read_any a (Some (Put key value)) l = refl
+row_read_any a (Some (Del key)) l = refl
+row_read_any a (Some (Get key)) l = refl
+row_read_any a (Some (Scan from upto)) l = on l.next
+  where
+    saw : (r : ℕ) (b : Bool) → (let o : Outcome = if b then scan_ended (with_pairs upto (record l { activity = a })) else to (Activity.Walk Walk.Next) (record (with_pairs upto (record l { activity = a })) { row = r; lower = l.upper; built = 0; want = l.upper; next = None; upper = 0 }) in o) ≡
+        (if b then scan_ended (with_pairs upto l) else to (Activity.Walk Walk.Next) (record (with_pairs upto l) { row = r; lower = l.upper; built = 0; want = l.upper; next = None; upper = 0 }))
+    saw r true = refl
+    saw r false = refl
+
+    on : (next : Option ℕ) → scan_on next upto (with_pairs upto (record l { activity = a })) ≡ scan_on next upto (with_pairs upto l)
+    on None = refl
+    on (Some r) = saw r (nat_lt upto l.upper)
+row_read_any a None l = refl
+
+pub left_over_any : (a : Activity) (l : Local) → to_left_over (record l { activity = a }) ≡ to_left_over l
+left_over_any a l = saw (least_mark l.remembered)
+  where
+    saw : (o : Option Mark) → left_over_of o (record l { activity = a }) ≡ left_over_of o l
+    saw (Some m) = refl
+    saw None = row_read_any a l.call l
 
 -- its walk along the list is over
 pub listing_over : (k m : Local) → CarriesOn to_left_over k m → is_listing m.activity ≡ false

@@ -11,7 +11,7 @@ use Rattle.kw_cells.specs.InOrder.{AreInOrder, stands_before, with_cell}
 use Rattle.kw_cells.proofs.InOrder.{length-with_cell, with_cell-in_order}
 use Rattle.kw_model.specs.declared.call.Call.{Call}
 use Rattle.kw_model.specs.declared.call.Call.TheVariants.{Scan}
-use Rattle.kw_world.specs.declared.activity.Activity.TheVariants as Activity
+use Rattle.kw_world.specs.declared.activity.Activity.{Activity}
 use Rattle.kw_world.specs.declared.activity.read.Read.TheVariants as Read
 use Rattle.kw_world.specs.declared.activity.walk.Walk.TheVariants as Walk
 use Rattle.kw_world.specs.declared.answer.Answer.TheVariants.{Pairs}
@@ -24,6 +24,7 @@ use Rattle.kw_world.specs.Sane.{IsCopy}
 use Rattle.kw_world.specs.Sizes.{product}
 use Rattle.kw_world.specs.Transition.{Outcome, to}
 use Rattle.kw_core.specs.Run.{history}
+use Rattle.kw_core.specs.Stages.{IsAtReadLink}
 use Rattle.kw_reads.proofs.Keeps.{inv_holds}
 use Rattle.kw_table.specs.declared.pass.Pass.{Pass}
 use Rattle.kw_table.specs.declared.shared.Shared.{Shared}
@@ -38,7 +39,8 @@ use Rattle.kw_follow.proofs.OneEvent.{follows_ranges}
 use Rattle.kw_follow.proofs.OwnEvents.{goes_trans}
 use Rattle.kw_follow.proofs.Reaching.{reaches_none}
 use Rattle.kw_live.specs.Reading.{GoesOn, HasReadAs, ReadsOn, is_reading_list}
-use Rattle.kw_live.specs.Streaming.{EndsRow, LeadsOn, ReadsCell, Streams}
+use Rattle.kw_live.specs.Beginning.{BeginsList}
+use Rattle.kw_live.specs.Streaming.{BeginsCells, EndsRow, LeadsOn, ReadsCell, Streams}
 use Rattle.kw_live.proofs.CursorEvents.{cell_above, cell_counts, cell_gone_by, cell_within, link_ended, link_led, value_told, version_told}
 use Rattle.kw_live.proofs.GatheredBefore.{gathered_before}
 use Rattle.kw_live.proofs.ReadEvent.{reads_trans}
@@ -47,7 +49,7 @@ use Rattle.kw_live.proofs.ReadEvent.{reads_trans}
 
 -- the local of a scan that goes on with this row
 abbrev going_on : ℕ → ℕ → Local → Outcome
-going_on r upto y = to (Activity.Walk Walk.Next) (record (with_pairs upto y) { row = r; lower = y.upper; want = y.upper; next = None; upper = 0 })
+going_on r upto y = to (Activity.Walk Walk.Next) (record (with_pairs upto y) { row = r; lower = y.upper; built = 0; want = y.upper; next = None; upper = 0 })
 
 -- a scan whose row leads on goes on with the next row
 leads_to : (y : Local) (first upto : ℕ) → y.call ≡ Some (Scan first upto) → (leads : LeadsOn upto y) → to_left_over y ≡ going_on leads.next upto y
@@ -108,15 +110,21 @@ unmarked_so k cell none =
     let same : unmarked cell k.remembered ≡ k.remembered = ap (unmarked cell) none ∙ sym none in
     ap (λ (ms : List Mark). record k { remembered = ms }) (sym same)
 
-module _ {s : Shared} {o p q : Pass} {l : Local} {w x : Cursor} {link : ℕ} (first upto : ℕ) (scan : l.call ≡ Some (Scan first upto)) (leads : LeadsOn upto l) (cells : List Cell) (before : Listing s o l w cells p x) (load : (k : Local) → Follows s p (with_cursor (Activity.Read Read.Link) x k) → ReadsWord s p (with_cursor (Activity.Read Read.Link) x k) link q) where
+module _ {s : Shared} {o p q : Pass} {l : Local} {w x : Cursor} {link : ℕ} (first upto : ℕ) (scan : l.call ≡ Some (Scan first upto)) (leads : LeadsOn upto l) (cells : List Cell) (before : Listing s o l w cells p x) (load : (a : Activity) (k : Local) → IsAtReadLink a → Follows s p (with_cursor a x k) → ReadsWord s p (with_cursor a x k) link q) where
   abbrev k : Local
   k = record l { gathered = cells }
 
-  f : Follows s p (with_cursor (Activity.Read Read.Link) x k)
+  abbrev a : Activity
+  a = before.streams.activity
+
+  at : IsAtReadLink a
+  at = before.streams.loads
+
+  f : Follows s p (with_cursor a x k)
   f = before.streams.follows
 
   -- the row is at its end
-  ended_by : {r : Pass} (y m : Local) → y.call ≡ l.call → y.want ≡ l.want → LeadsOn upto y → CarriesOn to_left_over y m → ReadsOn s p (with_cursor (Activity.Read Read.Link) x k) r (record m { gathered = cells }) → EndsRow s o l upto cells r m
+  ended_by : {r : Pass} (y m : Local) → y.call ≡ l.call → y.want ≡ l.want → LeadsOn upto y → CarriesOn to_left_over y m → ReadsOn s p (with_cursor a x k) r (record m { gathered = cells }) → EndsRow s o l upto cells r m
   ended_by {r} y m called wanted lead on read =
       let walks : m.activity ≡ (Activity.Walk Walk.Next) = walks_on y m first upto (called ∙ scan) lead on in
       let has : HasReadAs (Some (Scan first upto)) l.want l.version (record m { gathered = cells }) (held p) (held r) =
@@ -141,20 +149,20 @@ module _ {s : Shared} {o p q : Pass} {l : Local} {w x : Cursor} {link : ℕ} (fi
       let own : CarriesOn to_left_over (with_cursor (Activity.Read Read.Link) x l) m = subst (λ (y : Local). CarriesOn to_left_over y m) is on in
       let lead : LeadsOn upto (with_cursor (Activity.Read Read.Link) x l) = record { unmarked = leads.unmarked; next = leads.next; after = leads.after; within = leads.within } in
       ended_by (with_cursor (Activity.Read Read.Link) x l) m refl refl lead own
-      (link_ended k x (with_cursor (Activity.Read Read.Link) x k) (record m { gathered = cells }) refl none (carries_more (with_cursor (Activity.Read Read.Link) x l) m cells first upto scan lead own) f (load k f))
+      (link_ended k x a at (with_cursor (Activity.Read Read.Link) x k) (record m { gathered = cells }) refl none (carries_more (with_cursor (Activity.Read Read.Link) x l) m cells first upto scan lead own) f (load a k at f))
 
   -- a link leads to a cell
   module _ (saw : Cursor) (cell : ℕ) (is : saw ≡ reached cell x) (led : cell_of_link_word link ≡ Some cell) where
     -- of which there are more than the scan has reached
     pub stream_counts : x.walked < CELLS
-    stream_counts = cell_counts k x cell led (load k f)
+    stream_counts = cell_counts k x a at cell led (load a k at f)
 
     -- and one more is reached now
     one_more : saw.walked ≡ suc x.walked
     one_more = let fewer = stream_counts in ap (λ (y : Cursor). y.walked) is ∙ omega (arith, fewer)
 
-    reached_one : ReadsOn s p (with_cursor (Activity.Read Read.Link) x k) q (with_cursor (Activity.Read Read.Key) saw k)
-    reached_one = link_led k x saw k cell is (unmarked_so k cell leads.unmarked) led f (load k f)
+    reached_one : ReadsOn s p (with_cursor a x k) q (with_cursor (Activity.Read Read.Key) saw k)
+    reached_one = link_led k x a at saw k cell is (unmarked_so k cell leads.unmarked) led f (load a k at f)
 
     pub stream_led : Follows s q (with_cursor (Activity.Read Read.Key) saw k)
     stream_led = reached_one.follows
@@ -162,8 +170,8 @@ module _ {s : Shared} {o p q : Pass} {l : Local} {w x : Cursor} {link : ℕ} (fi
     module _ {r : Pass} {found : ℕ} (key : ℕ) (keyed : key ≡ key_of_word found) (second : (n : Local) → Follows s q (with_cursor (Activity.Read Read.Key) saw n) → ReadsWord s q (with_cursor (Activity.Read Read.Key) saw n) found r) where
       -- its key is below the range: it is gone by
       module _ (y : Cursor) (passes : y ≡ past saw) (below : key < first) where
-        passing : ReadsOn s p (with_cursor (Activity.Read Read.Link) x k) r (with_cursor (Activity.Read Read.Link) y k)
-        passing = cell_gone_by k k x saw cell is (unmarked_so k cell leads.unmarked) led f (load k) (second k) y key first (Some (Scan first upto)) passes keyed refl scan below
+        passing : ReadsOn s p (with_cursor a x k) r (with_cursor (Activity.Read Read.Link) y k)
+        passing = cell_gone_by k k x saw a at cell is (unmarked_so k cell leads.unmarked) led f (load a k at) (second k) y key first (Some (Scan first upto)) passes keyed refl scan below
 
         gone_by_one : y.walked ≡ suc x.walked
         gone_by_one = ap (λ (z : Cursor). z.walked) passes ∙ one_more
@@ -179,7 +187,7 @@ module _ {s : Shared} {o p q : Pass} {l : Local} {w x : Cursor} {link : ℕ} (fi
               goes = goes_trans s o p r before.goes passing.goes;
               calls = passing.calls ∙ before.calls;
               held = on.1 ∙ before.held;
-              streams = record { follows = passing.follows; in_order = before.streams.in_order; few = omega (arith, one, few); within = omega (arith, one, less) };
+              streams = record { activity = Activity.Read Read.Link; loads = tt; follows = passing.follows; in_order = before.streams.in_order; few = omega (arith, one, few); within = omega (arith, one, less) };
               walked = omega (arith, one, so_far);
             }
 
@@ -192,12 +200,12 @@ module _ {s : Shared} {o p q : Pass} {l : Local} {w x : Cursor} {link : ℕ} (fi
           let own : CarriesOn to_left_over (with_cursor (Activity.Read Read.Key) saw l) m = subst (λ (y : Local). CarriesOn to_left_over y m) same on in
           let lead : LeadsOn upto (with_cursor (Activity.Read Read.Key) saw l) = record { unmarked = leads.unmarked; next = leads.next; after = leads.after; within = leads.within } in
           ended_by (with_cursor (Activity.Read Read.Key) saw l) m refl refl lead own
-          (cell_above k k x saw cell is (unmarked_so k cell leads.unmarked) led f (load k) (second k) (with_cursor (Activity.Read Read.Key) saw k) (record m { gathered = cells }) key first upto (Some (Scan first upto)) refl keyed refl refl scan from beyond (carries_more (with_cursor (Activity.Read Read.Key) saw l) m cells first upto scan lead own))
+          (cell_above k k x saw a at cell is (unmarked_so k cell leads.unmarked) led f (load a k at) (second k) (with_cursor (Activity.Read Read.Key) saw k) (record m { gathered = cells }) key first upto (Some (Scan first upto)) refl keyed refl refl scan from beyond (carries_more (with_cursor (Activity.Read Read.Key) saw l) m cells first upto scan lead own))
 
       -- it is in the range: the cell is read
       module _ (y : Cursor) (ranged : y ≡ record saw { key = key }) (from : first ≤ key) (within : key ≤ upto) where
-        in_range : ReadsOn s p (with_cursor (Activity.Read Read.Link) x k) r (with_cursor (Activity.Read Read.Version) y k)
-        in_range = cell_within k k x saw cell is (unmarked_so k cell leads.unmarked) led f (load k) (second k) y key first upto (Some (Scan first upto)) ranged keyed refl refl scan from within
+        in_range : ReadsOn s p (with_cursor a x k) r (with_cursor (Activity.Read Read.Version) y k)
+        in_range = cell_within k k x saw a at cell is (unmarked_so k cell leads.unmarked) led f (load a k at) (second k) y key first upto (Some (Scan first upto)) ranged keyed refl refl scan from within
 
         pub stream_ranged : Follows s r (with_cursor (Activity.Read Read.Version) y k)
         stream_ranged = in_range.follows
@@ -225,7 +233,7 @@ module _ {s : Shared} {o p q : Pass} {l : Local} {w x : Cursor} {link : ℕ} (fi
                 ap (λ (cs : List Cell). record l { gathered = cs })
                 (sym (with_cell_behind read cells behind) ∙ (ap (λ (c : Cell). with_cell c cells) reads ∙ ap (λ (b : Bool). if b then with_cell (cell_at z (value_of_word value)) cells else cells) (sym room)))
 
-            gathers : ReadsOn s p (with_cursor (Activity.Read Read.Link) x k) u (with_cursor (Activity.Read Read.Link) last (record l { gathered = cells ++ read ∷ [] }))
+            gathers : ReadsOn s p (with_cursor a x k) u (with_cursor (Activity.Read Read.Link) last (record l { gathered = cells ++ read ∷ [] }))
             gathers =
                 reads_trans s p t u _ _ _ refl (reads_trans s p r t _ _ _ refl in_range told)
                 (value_told k z last (record l { gathered = cells ++ read ∷ [] }) passes grown told.follows word)
@@ -252,6 +260,8 @@ module _ {s : Shared} {o p q : Pass} {l : Local} {w x : Cursor} {link : ℕ} (fi
                   calls = gathers.calls ∙ before.calls;
                   held = on.1 ∙ before.held;
                   streams = record {
+                    activity = Activity.Read Read.Link;
+                    loads = tt;
                     follows = gathers.follows;
                     in_order = subst AreInOrder put (with_cell-in_order read cells before.streams.in_order);
                     few = omega (arith, one, few, longer);
@@ -266,3 +276,22 @@ module _ {s : Shared} {o p q : Pass} {l : Local} {w x : Cursor} {link : ℕ} (fi
 -- at first the scan stands where it stands
 pub stream_begins : (s : Shared) (o : Pass) (l : Local) (w : Cursor) (cells : List Cell) → Streams s o l w cells → Listing s o l w cells o w
 stream_begins s o l w cells streams = record { goes = (reaches_none streams.follows).goes; calls = refl; held = refl; streams = streams; walked = omega arith }
+
+-- where it begins its walk, it has gathered nothing
+pub cells_begin : {s : Shared} {p q : Pass} {l : Local} {w x : Cursor} → Follows s p l → l.gathered ≡ [] → with_cursor l.activity w l ≡ l → BeginsList s p l w q x → BeginsCells s p l q x
+cells_begin {s} {p} {q} {l} {w} {x} f none own b = record {
+  goes = b.goes;
+  calls = b.calls;
+  held = b.held;
+  streams = record {
+    activity = b.activity;
+    loads = b.loads;
+    follows = subst (λ (cells : List Cell). Follows s q (with_cursor b.activity x (record l { gathered = cells }))) none b.follows;
+    in_order = λ i j d u v. absurd (omega arith);
+    few = omega arith;
+    within =
+        let most = (follows_ranges s p l f).walked in
+        let same : w.walked ≡ l.walked = ap (λ (k : Local). k.walked) own in
+        omega (arith, b.walked, same, most);
+  };
+}

@@ -1,17 +1,17 @@
 -- The events of a reader whose cursor goes along the list of its row: what follows it after each,
 -- and what they come to.
-use Rattle.std.proofs.Common.{arith, ◌≡◌, ℕ, ◌<◌, ◌≤◌, Some, unwrap_or, Bool, true, false, nat_lt, nat_le, if◌then◌else◌, Option, None, List, refl, sym, ◌∙◌, ap, subst}
+use Rattle.std.proofs.Common.{arith, ◌≡◌, ℕ, ◌<◌, ◌≤◌, Some, unwrap_or, Bool, true, false, nat_lt, nat_le, if◌then◌else◌, Option, None, List, refl, sym, ◌∙◌, ap, subst, length}
 use Rattle.kw_model.specs.declared.call.Call.{Call}
 use Rattle.kw_words.specs.Plain.{key_of_word, value_of_word, version_of_word, cell_of_link_word}
 use Rattle.kw_words.specs.declared.sizes.TheConstants.{CELLS}
-use Rattle.kw_world.specs.declared.activity.Activity.TheVariants as Activity
+use Rattle.kw_world.specs.declared.activity.Activity.{Activity}
 use Rattle.kw_world.specs.declared.activity.read.Read.TheVariants as Read
-use Rattle.kw_world.specs.declared.event.Choice.TheVariants.{Go}
 use Rattle.kw_world.specs.declared.local.Local.{Local}
 use Rattle.kw_world.specs.Calls.{first_key, last_key}
 use Rattle.kw_world.specs.ReadTransitions.{list_key, list_reached, list_past, to_left_over}
 use Rattle.kw_world.specs.Sizes.{product}
-use Rattle.kw_world.specs.Transition.{to}
+use Rattle.kw_world.specs.Transition.{Outcome, to}
+use Rattle.kw_core.specs.Stages.{IsAtReadLink}
 use Rattle.kw_table.specs.declared.pass.Pass.{Pass}
 use Rattle.kw_table.specs.declared.shared.Shared.{Shared}
 use Rattle.kw_follow.specs.declared.cursor.Cursor.{Cursor}
@@ -19,12 +19,12 @@ use Rattle.kw_follow.specs.Calling.{KeepsCalls}
 use Rattle.kw_follow.specs.Cursors.{ReadsWord, forgetting, gathering_at, past, reached, with_cursor}
 use Rattle.kw_follow.specs.Following.{CarriesOn, Follows, GoesTo, carried, held}
 use Rattle.kw_table.specs.Passes.{view}
-use Rattle.kw_follow.specs.OwnEvents.{Saw}
-use Rattle.kw_follow.proofs.Fronts.{local_at, saw_laws, saw_local, saw_told}
 use Rattle.kw_follow.proofs.OwnEvents.{goes_trans}
-use Rattle.kw_follow.proofs.ReadEvents.{gone_by_on, read_follows}
-use Rattle.kw_live.specs.Reading.{ReadsOn, is_reading_list, reads_ahead}
-use Rattle.kw_live.proofs.ReadEvent.{reads, reads_on, reads_trans}
+use Rattle.kw_follow.proofs.ReadEvents.{gone_by_on, link_line, read_follows}
+use Rattle.kw_live.specs.Beginning.{BeginsList}
+use Rattle.kw_live.specs.Reading.{ReadsOn, is_reading_list, read_ahead, reads_ahead}
+use Rattle.kw_live.proofs.AfterList.{left_over_any}
+use Rattle.kw_live.proofs.ReadEvent.{link_counts, reads, reads_on, reads_trans}
 
 -- One event.
 
@@ -44,44 +44,49 @@ module _ {s : Shared} {p q : Pass} {l m : Local} {told : ℕ} where
         fewer = read.fewer;
       }
 
-module _ {s : Shared} {p q : Pass} {told : ℕ} (l : Local) (w : Cursor) where
+-- at a link it reads the row
+link_reading : (a : Activity) → IsAtReadLink a → is_reading_list a ≡ true
+link_reading (Activity.Read _) at = refl
+link_reading _ at = absurd at
+
+module _ {s : Shared} {p q : Pass} {told : ℕ} (l : Local) (w : Cursor) (a : Activity) (at : IsAtReadLink a) where
   -- a walk that is led to a cell has reached fewer cells than there are
-  pub cell_counts : (cell : ℕ) → cell_of_link_word told ≡ Some cell → ReadsWord s p (with_cursor (Activity.Read Read.Link) w l) told q → w.walked < CELLS
-  cell_counts cell leads word =
-      let x : Saw p q (Activity.Read Read.Link) Go told = word.saw.saw in
-      let laws = saw_laws s p q (Activity.Read Read.Link) Go told word.goes x in
-      let own = saw_told p q (Activity.Read Read.Link) Go told x _ refl in
-      subst (λ n. n < CELLS) (ap (λ (k : Local). k.walked) word.saw.knew)
-      (laws.reads_on (view p).number (local_at p x.front) (saw_local p q (Activity.Read Read.Link) Go told x) x.activity cell (ap cell_of_link_word (sym own) ∙ leads))
+  pub cell_counts : (cell : ℕ) → cell_of_link_word told ≡ Some cell → ReadsWord s p (with_cursor a w l) told q → w.walked < CELLS
+  cell_counts cell leads word = link_counts s p q (with_cursor a w l) told word.goes word.saw at cell leads
 
   -- the link led to a cell
-  pub link_led : (x : Cursor) (m : Local) (cell : ℕ) → x ≡ reached cell w → m ≡ forgetting cell l → cell_of_link_word told ≡ Some cell → Follows s p (with_cursor (Activity.Read Read.Link) w l) → ReadsWord s p (with_cursor (Activity.Read Read.Link) w l) told q → ReadsOn s p (with_cursor (Activity.Read Read.Link) w l) q (with_cursor (Activity.Read Read.Key) x m)
+  pub link_led : (x : Cursor) (m : Local) (cell : ℕ) → x ≡ reached cell w → m ≡ forgetting cell l → cell_of_link_word told ≡ Some cell → Follows s p (with_cursor a w l) → ReadsWord s p (with_cursor a w l) told q → ReadsOn s p (with_cursor a w l) q (with_cursor (Activity.Read Read.Key) x m)
   link_led x m cell is left leads f word =
-      let k : ℕ → List (ℕ × ℕ) → Local = λ begun added. record (with_cursor (Activity.Read Read.Link) w l) { number = begun; pairs = added } in
+      let k : ℕ → List (ℕ × ℕ) → Local = λ begun added. record (with_cursor a w l) { number = begun; pairs = added } in
       let after : Follows s q (with_cursor (Activity.Read Read.Key) (reached cell w) (forgetting cell l)) =
-      read_follows s p q (with_cursor (Activity.Read Read.Link) w l) (with_cursor (Activity.Read Read.Key) (reached cell w) (forgetting cell l)) told (Activity.Read Read.Link) f word.makes refl (record {
-        carries = λ begun added. ap (λ o. carried (list_reached product o (k begun added)).local) (sym leads);
+      read_follows s p q (with_cursor a w l) (with_cursor (Activity.Read Read.Key) (reached cell w) (forgetting cell l)) told a f word.makes refl (record {
+        carries = λ begun added. ap (λ o. carried (list_reached product o (k begun added)).local) (sym leads) ∙ ap (λ (o : Outcome). carried o.local) (sym (link_line a (k begun added) (view p).opening.rows told at));
         number = refl;
         pairs = refl;
       })
       in
-      subst (λ (y : Cursor). ReadsOn s p (with_cursor (Activity.Read Read.Link) w l) q (with_cursor (Activity.Read Read.Key) y m)) (sym is)
-      (subst (λ (n : Local). ReadsOn s p (with_cursor (Activity.Read Read.Link) w l) q (with_cursor (Activity.Read Read.Key) (reached cell w) n)) (sym left) (one_word f word after refl))
+      subst (λ (y : Cursor). ReadsOn s p (with_cursor a w l) q (with_cursor (Activity.Read Read.Key) y m)) (sym is)
+      (subst (λ (n : Local). ReadsOn s p (with_cursor a w l) q (with_cursor (Activity.Read Read.Key) (reached cell w) n)) (sym left) (one_word f word after (link_reading a at)))
 
   -- it led to none: the walk is over
-  pub link_ended : (k m : Local) → k ≡ with_cursor (Activity.Read Read.Link) w l → cell_of_link_word told ≡ None → CarriesOn to_left_over k m → Follows s p (with_cursor (Activity.Read Read.Link) w l) → ReadsWord s p (with_cursor (Activity.Read Read.Link) w l) told q → ReadsOn s p (with_cursor (Activity.Read Read.Link) w l) q m
+  pub link_ended : (k m : Local) → k ≡ with_cursor (Activity.Read Read.Link) w l → cell_of_link_word told ≡ None → CarriesOn to_left_over k m → Follows s p (with_cursor a w l) → ReadsWord s p (with_cursor a w l) told q → ReadsOn s p (with_cursor a w l) q m
   link_ended k m written none on f word =
-      let x : ℕ → List (ℕ × ℕ) → Local = λ begun added. record (with_cursor (Activity.Read Read.Link) w l) { number = begun; pairs = added } in
+      let x : ℕ → List (ℕ × ℕ) → Local = λ begun added. record (with_cursor a w l) { number = begun; pairs = added } in
       let own : CarriesOn to_left_over (with_cursor (Activity.Read Read.Link) w l) m = subst (λ (n : Local). CarriesOn to_left_over n m) written on in
       let after : Follows s q m =
-      read_follows s p q (with_cursor (Activity.Read Read.Link) w l) m told (Activity.Read Read.Link) f word.makes refl (record {
-        carries = λ begun added. own.carries begun added ∙ ap (λ o. carried (list_reached product o (x begun added)).local) (sym none);
+      read_follows s p q (with_cursor a w l) m told a f word.makes refl (record {
+        carries = λ begun added.
+            own.carries begun added
+            ∙ (ap (λ (o : Outcome). carried o.local) (left_over_any (Activity.Read Read.Link) (x begun added))
+            ∙ (ap (λ o. carried (list_reached product o (x begun added)).local) (sym none)
+            ∙ ap (λ (o : Outcome). carried o.local) (sym (link_line a (x begun added) (view p).opening.rows told at))));
         number = own.number;
         pairs = own.pairs;
       })
       in
-      one_word f word after refl
+      one_word f word after (link_reading a at)
 
+module _ {s : Shared} {p q : Pass} {told : ℕ} (l : Local) (w : Cursor) where
   -- the key of the cell is below the range: it is gone by
   pub key_below : (x : Cursor) → x ≡ past w → key_of_word told < first_key l.call → Follows s p (with_cursor (Activity.Read Read.Key) w l) → ReadsWord s p (with_cursor (Activity.Read Read.Key) w l) told q → ReadsOn s p (with_cursor (Activity.Read Read.Key) w l) q (with_cursor (Activity.Read Read.Link) x l)
   key_below x is below f word =
@@ -148,30 +153,36 @@ module _ {s : Shared} {p q : Pass} {told : ℕ} (l : Local) (w : Cursor) where
 
 -- Both events of a reader that reaches a cell.
 
-module _ {s : Shared} {p q r : Pass} {link word : ℕ} (l m : Local) (w x : Cursor) (cell : ℕ) (is : x ≡ reached cell w) (left : m ≡ forgetting cell l) (leads : cell_of_link_word link ≡ Some cell) (f : Follows s p (with_cursor (Activity.Read Read.Link) w l)) (first : Follows s p (with_cursor (Activity.Read Read.Link) w l) → ReadsWord s p (with_cursor (Activity.Read Read.Link) w l) link q) (second : Follows s q (with_cursor (Activity.Read Read.Key) x m) → ReadsWord s q (with_cursor (Activity.Read Read.Key) x m) word r) where
-  led : ReadsOn s p (with_cursor (Activity.Read Read.Link) w l) q (with_cursor (Activity.Read Read.Key) x m)
-  led = link_led l w x m cell is left leads f (first f)
+module _ {s : Shared} {p q r : Pass} {link word : ℕ} (l m : Local) (w x : Cursor) (a : Activity) (at : IsAtReadLink a) (cell : ℕ) (is : x ≡ reached cell w) (left : m ≡ forgetting cell l) (leads : cell_of_link_word link ≡ Some cell) (f : Follows s p (with_cursor a w l)) (first : Follows s p (with_cursor a w l) → ReadsWord s p (with_cursor a w l) link q) (second : Follows s q (with_cursor (Activity.Read Read.Key) x m) → ReadsWord s q (with_cursor (Activity.Read Read.Key) x m) word r) where
+  led : ReadsOn s p (with_cursor a w l) q (with_cursor (Activity.Read Read.Key) x m)
+  led = link_led l w a at x m cell is left leads f (first f)
 
   -- the bounds of the call stay
   bound_stays : (bound_of : Option Call → ℕ) (bound : ℕ) (call : Option Call) → bound ≡ bound_of call → l.call ≡ call → bound ≡ bound_of m.call
   bound_stays bound_of bound call has same = has ∙ ap bound_of (sym (ap (λ (k : Local). k.call) left ∙ same))
 
-  pub cell_gone_by : (y : Cursor) (key from : ℕ) (call : Option Call) → y ≡ past x → key ≡ key_of_word word → from ≡ first_key call → l.call ≡ call → key < from → ReadsOn s p (with_cursor (Activity.Read Read.Link) w l) r (with_cursor (Activity.Read Read.Link) y m)
+  pub cell_gone_by : (y : Cursor) (key from : ℕ) (call : Option Call) → y ≡ past x → key ≡ key_of_word word → from ≡ first_key call → l.call ≡ call → key < from → ReadsOn s p (with_cursor a w l) r (with_cursor (Activity.Read Read.Link) y m)
   cell_gone_by y key from call passes keyed has same below =
       let under : key_of_word word < first_key m.call = subst (λ n. n < first_key m.call) keyed (subst (λ n. key < n) (bound_stays first_key from call has same) below) in
       reads_trans s p q r _ _ _ refl led (key_below m x y passes under led.follows (second led.follows))
 
-  pub cell_within : (y : Cursor) (key from upto : ℕ) (call : Option Call) → y ≡ record x { key = key } → key ≡ key_of_word word → from ≡ first_key call → upto ≡ last_key call → l.call ≡ call → from ≤ key → key ≤ upto → ReadsOn s p (with_cursor (Activity.Read Read.Link) w l) r (with_cursor (Activity.Read Read.Version) y m)
+  pub cell_within : (y : Cursor) (key from upto : ℕ) (call : Option Call) → y ≡ record x { key = key } → key ≡ key_of_word word → from ≡ first_key call → upto ≡ last_key call → l.call ≡ call → from ≤ key → key ≤ upto → ReadsOn s p (with_cursor a w l) r (with_cursor (Activity.Read Read.Version) y m)
   cell_within y key from upto call holds keyed begins ends same above below =
       let over : first_key m.call ≤ key = subst (λ n. n ≤ key) (bound_stays first_key from call begins same) above in
       let under : key ≤ last_key m.call = subst (λ n. key ≤ n) (bound_stays last_key upto call ends same) below in
       reads_trans s p q r _ _ _ refl led (key_within m x y key holds keyed over under led.follows (second led.follows))
 
-  pub cell_above : (k n : Local) (key from upto : ℕ) (call : Option Call) → k ≡ with_cursor (Activity.Read Read.Key) x m → key ≡ key_of_word word → from ≡ first_key call → upto ≡ last_key call → l.call ≡ call → from ≤ key → upto < key → CarriesOn to_left_over k n → ReadsOn s p (with_cursor (Activity.Read Read.Link) w l) r n
+  pub cell_above : (k n : Local) (key from upto : ℕ) (call : Option Call) → k ≡ with_cursor (Activity.Read Read.Key) x m → key ≡ key_of_word word → from ≡ first_key call → upto ≡ last_key call → l.call ≡ call → from ≤ key → upto < key → CarriesOn to_left_over k n → ReadsOn s p (with_cursor a w l) r n
   cell_above k n key from upto call written keyed begins ends same above beyond on =
       let over : first_key m.call ≤ key = subst (λ n. n ≤ key) (bound_stays first_key from call begins same) above in
       let under : last_key m.call < key = subst (λ n. n < key) (bound_stays last_key upto call ends same) beyond in
       reads_trans s p q r _ _ _ refl led (key_above m x k n key written keyed over under on led.follows (second led.follows))
+
+-- how many events are ahead is the same where the walk begins as at its link
+pub link_ahead : (a : Activity) (walked marks : ℕ) → IsAtReadLink a → read_ahead product a walked marks ≡ read_ahead product (Activity.Read Read.Link) walked marks
+link_ahead (Activity.Read Read.Start) walked marks at = refl
+link_ahead (Activity.Read Read.Link) walked marks at = refl
+link_ahead _ walked marks at = absurd at
 
 -- What stays while a cursor goes along the list.
 
@@ -213,3 +224,38 @@ module _ {s : Shared} {o p q : Pass} {l m n : Local} (before : IsListing s o l p
     ends = λ e. reads_on l m n _ _ _ before.call before.version before.want before.held (more.ends e);
     fewer = omega (arith, before.fewer, more.fewer);
   }
+
+-- a reader that begins a walk along the list, or has begun it, with its cursor here
+pub record IsAlong (s : Shared) (o : Pass) (l : Local) (p : Pass) (w : Cursor) (m : Local) : Type 0 where
+  pub activity : Activity
+  pub loads : IsAtReadLink activity
+  pub lists : IsListing s o l p (with_cursor activity w m)
+
+-- as it is once the walk has begun
+pub begins_along : {s : Shared} {p q : Pass} {l : Local} {w x : Cursor} → Follows s p l → l.activity ≡ Activity.Read Read.Start → with_cursor l.activity w l ≡ l → BeginsList s p l w q x → IsAlong s p l q x l
+begins_along {s} {p} {q} {l} {w} {x} f is own b = record {
+  activity = b.activity;
+  loads = b.loads;
+  lists = record {
+    goes = b.goes;
+    follows = b.follows;
+    calls = b.calls;
+    call = refl;
+    version = refl;
+    want = refl;
+    held = b.held;
+    fewer =
+        let walked : x.walked ≡ l.walked = b.walked ∙ ap (λ (k : Local). k.walked) own in
+        let ahead : reads_ahead (with_cursor b.activity x l) ≡ reads_ahead l = link_ahead b.activity x.walked (length l.remembered) b.loads ∙ (ap (λ n. read_ahead product (Activity.Read Read.Link) n (length l.remembered)) walked ∙ ap (λ (a : Activity). read_ahead product a l.walked (length l.remembered)) (sym is)) in
+        omega (arith, ahead);
+  };
+}
+
+module _ {s : Shared} {o p q : Pass} {l m : Local} (n : Local) {w x : Cursor} (before : IsAlong s o l p w m) (more : ReadsOn s p (with_cursor before.activity w m) q (with_cursor (Activity.Read Read.Link) x n)) where
+  -- the walk is further
+  pub along_on : IsAlong s o l q x n
+  along_on = record { activity = Activity.Read Read.Link; loads = tt; lists = lists_on before.lists more refl }
+
+  -- and has fewer events ahead
+  pub along_fewer : reads_ahead (with_cursor (Activity.Read Read.Link) x n) < reads_ahead (with_cursor (Activity.Read Read.Link) w m)
+  along_fewer = subst (λ k. reads_ahead (with_cursor (Activity.Read Read.Link) x n) < k) (link_ahead before.activity w.walked (length m.remembered) before.loads) more.fewer

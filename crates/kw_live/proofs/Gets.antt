@@ -4,7 +4,7 @@ use Rattle.std.proofs.lemmas.Bool.Decides.{nat_tests}
 use Rattle.kw_words.specs.declared.state.State.{State}
 use Rattle.kw_words.specs.declared.state.State.TheVariants.{Free, Infant, Normal, Leader, Follower, Retired}
 use Rattle.kw_words.specs.Link.{link_of}
-use Rattle.kw_words.specs.Plain.{key_of_word}
+use Rattle.kw_words.specs.Plain.{built_of_word, key_of_word}
 use Rattle.kw_words.specs.State.{state_of}
 use Rattle.kw_cells.specs.Cells.{shown_at}
 use Rattle.kw_model.specs.declared.call.Call.{Call}
@@ -91,18 +91,19 @@ module _ {s : Shared} {p q : Pass} {told : ℕ} (w : Way) where
   least_above least keyed above f makes =
       let beyond : nat_le (key_of_word told) w.key ≡ false = grind (arith, nat_tests) in
       walked (Activity.Walk Walk.GuessedLeast) (on_way (Activity.Walk Walk.First) w)
-      (ap (λ (b : Bool). let o : Outcome = if b then to (Activity.Walk Walk.Next) (record (on_way (Activity.Walk Walk.GuessedLeast) w) { lower = key_of_word told }) else to (Activity.Walk Walk.First) (on_way (Activity.Walk Walk.GuessedLeast) w) in o) (sym beyond)
+      (ap (λ (b : Bool). let o : Outcome = if b then to (Activity.Walk Walk.Next) (record (on_way (Activity.Walk Walk.GuessedLeast) w) { lower = key_of_word told; built = built_of_word told }) else to (Activity.Walk Walk.First) (on_way (Activity.Walk Walk.GuessedLeast) w) in o) (sym beyond)
       ∙ next_at s.opening.rows (Activity.Walk Walk.GuessedLeast) (on_way (Activity.Walk Walk.GuessedLeast) w) told refl)
       tt f makes
 
   -- or is not
-  pub least_below : (least : ℕ) → least ≡ key_of_word told → least ≤ w.key → Follows s p (on_way (Activity.Walk Walk.GuessedLeast) w) → Makes s p Go told q → Reaches s p q (on_way (Activity.Walk Walk.Next) (record w { lower = least }))
-  least_below least keyed below f makes =
+  pub least_below : (least built : ℕ) → least ≡ key_of_word told → built ≡ built_of_word told → least ≤ w.key → Follows s p (on_way (Activity.Walk Walk.GuessedLeast) w) → Makes s p Go told q → Reaches s p q (on_way (Activity.Walk Walk.Next) (record w { lower = least; built = built }))
+  least_below least built keyed counted below f makes =
       let within : nat_le least w.key ≡ true = grind (arith, nat_tests) in
-      walked (Activity.Walk Walk.GuessedLeast) (on_way (Activity.Walk Walk.Next) (record w { lower = least }))
-      (ap (λ (b : Bool). let o : Outcome = if b then to (Activity.Walk Walk.Next) (record (on_way (Activity.Walk Walk.GuessedLeast) w) { lower = least }) else to (Activity.Walk Walk.First) (on_way (Activity.Walk Walk.GuessedLeast) w) in o) (sym within)
-      ∙ (ap (λ n. let o : Outcome = if nat_le n w.key then to (Activity.Walk Walk.Next) (record (on_way (Activity.Walk Walk.GuessedLeast) w) { lower = n }) else to (Activity.Walk Walk.First) (on_way (Activity.Walk Walk.GuessedLeast) w) in o) keyed
-      ∙ next_at s.opening.rows (Activity.Walk Walk.GuessedLeast) (on_way (Activity.Walk Walk.GuessedLeast) w) told refl))
+      walked (Activity.Walk Walk.GuessedLeast) (on_way (Activity.Walk Walk.Next) (record w { lower = least; built = built }))
+      (ap (λ (b : Bool). let o : Outcome = if b then to (Activity.Walk Walk.Next) (record (on_way (Activity.Walk Walk.GuessedLeast) w) { lower = least; built = built }) else to (Activity.Walk Walk.First) (on_way (Activity.Walk Walk.GuessedLeast) w) in o) (sym within)
+      ∙ (ap (λ n. let o : Outcome = if nat_le n w.key then to (Activity.Walk Walk.Next) (record (on_way (Activity.Walk Walk.GuessedLeast) w) { lower = n; built = built }) else to (Activity.Walk Walk.First) (on_way (Activity.Walk Walk.GuessedLeast) w) in o) keyed
+      ∙ (ap (λ n. let o : Outcome = if nat_le (key_of_word told) w.key then to (Activity.Walk Walk.Next) (record (on_way (Activity.Walk Walk.GuessedLeast) w) { lower = key_of_word told; built = n }) else to (Activity.Walk Walk.First) (on_way (Activity.Walk Walk.GuessedLeast) w) in o) counted
+      ∙ next_at s.opening.rows (Activity.Walk Walk.GuessedLeast) (on_way (Activity.Walk Walk.GuessedLeast) w) told refl)))
       tt f makes
 
   -- the link after the row was told, and leads to none: the get is at its row
@@ -120,14 +121,15 @@ module _ {s : Shared} {p q : Pass} {told : ℕ} (w : Way) where
       tt f makes
 
   -- whose least key is not above the key: the walk goes on there
-  pub next_below : (least : ℕ) → least ≡ key_of_word told → least ≤ w.key → Follows s p (on_way (Activity.Walk Walk.NextLeast) w) → Makes s p Go told q → Reaches s p q (on_way (Activity.Walk Walk.Next) (record w { row = w.candidate; lower = least }))
-  next_below least keyed below f makes =
+  pub next_below : (least built : ℕ) → least ≡ key_of_word told → built ≡ built_of_word told → least ≤ w.key → Follows s p (on_way (Activity.Walk Walk.NextLeast) w) → Makes s p Go told q → Reaches s p q (on_way (Activity.Walk Walk.Next) (record w { row = w.candidate; lower = least; built = built }))
+  next_below least built keyed counted below f makes =
       let l : Local = on_way (Activity.Walk Walk.NextLeast) w in
       let within : nat_le least w.key ≡ true = grind (arith, nat_tests) in
-      walked (Activity.Walk Walk.NextLeast) (on_way (Activity.Walk Walk.Next) (record w { row = w.candidate; lower = least }))
-      (ap (λ (b : Bool). let o : Outcome = if b then to (Activity.Walk Walk.Next) (record l { row = w.candidate; lower = least }) else arrive l.call (record l { next = Some w.candidate; upper = least }) in o) (sym within)
-      ∙ (ap (λ n. let o : Outcome = if nat_le n w.key then to (Activity.Walk Walk.Next) (record l { row = w.candidate; lower = n }) else arrive l.call (record l { next = Some w.candidate; upper = n }) in o) keyed
-      ∙ next_at s.opening.rows (Activity.Walk Walk.NextLeast) l told refl))
+      walked (Activity.Walk Walk.NextLeast) (on_way (Activity.Walk Walk.Next) (record w { row = w.candidate; lower = least; built = built }))
+      (ap (λ (b : Bool). let o : Outcome = if b then to (Activity.Walk Walk.Next) (record l { row = w.candidate; lower = least; built = built }) else arrive l.call (record l { next = Some w.candidate; upper = least }) in o) (sym within)
+      ∙ (ap (λ n. let o : Outcome = if nat_le n w.key then to (Activity.Walk Walk.Next) (record l { row = w.candidate; lower = n; built = built }) else arrive l.call (record l { next = Some w.candidate; upper = n }) in o) keyed
+      ∙ (ap (λ n. let o : Outcome = if nat_le (key_of_word told) w.key then to (Activity.Walk Walk.Next) (record l { row = w.candidate; lower = key_of_word told; built = n }) else arrive l.call (record l { next = Some w.candidate; upper = key_of_word told }) in o) counted
+      ∙ next_at s.opening.rows (Activity.Walk Walk.NextLeast) l told refl)))
       tt f makes
 
   -- or is: the get is at its row
@@ -136,8 +138,8 @@ module _ {s : Shared} {p q : Pass} {told : ℕ} (w : Way) where
       let l : Local = on_way (Activity.Walk Walk.NextLeast) w in
       let beyond : nat_le least w.key ≡ false = grind (arith, nat_tests) in
       walked (Activity.Walk Walk.NextLeast) (on_way (Activity.Look (Look.Entry 0)) (record w { next = Some w.candidate; upper = least }))
-      (ap (λ (b : Bool). let o : Outcome = if b then to (Activity.Walk Walk.Next) (record l { row = w.candidate; lower = least }) else arrive l.call (record l { next = Some w.candidate; upper = least }) in o) (sym beyond)
-      ∙ (ap (λ n. let o : Outcome = if nat_le n w.key then to (Activity.Walk Walk.Next) (record l { row = w.candidate; lower = n }) else arrive l.call (record l { next = Some w.candidate; upper = n }) in o) keyed
+      (ap (λ (b : Bool). let o : Outcome = if b then to (Activity.Walk Walk.Next) (record l { row = w.candidate; lower = least; built = built_of_word told }) else arrive l.call (record l { next = Some w.candidate; upper = least }) in o) (sym beyond)
+      ∙ (ap (λ n. let o : Outcome = if nat_le n w.key then to (Activity.Walk Walk.Next) (record l { row = w.candidate; lower = n; built = built_of_word told }) else arrive l.call (record l { next = Some w.candidate; upper = n }) in o) keyed
       ∙ next_at s.opening.rows (Activity.Walk Walk.NextLeast) l told refl))
       tt f makes
 

@@ -6,6 +6,7 @@ pub mod InsertStages
 pub mod WalkStages
 pub mod Drawing
 pub mod Anew
+pub mod Beginnings
 pub mod CursorEvents
 pub mod AfterList
 pub mod NewestCell

@@ -42,7 +42,7 @@ pub record Looked (z : Sizes) (l m : Local) (ahead : ℕ) : Type 0 where
 goes_on : (z : Sizes) (l x : Local) (i ahead : ℕ) → x.call ≡ l.call → x.want ≡ l.want → x.version ≡ l.version → 0 < ahead → (i < z.seats → 4 * (z.seats - i) + 4 < ahead) → Looked z l (to_look z i x).local ahead
 goes_on z l x i ahead a b c some fewer = saw (nat_lt i z.seats) refl
   where
-    saw : (e : Bool) → nat_lt i z.seats ≡ e → Looked z l (let o : Outcome = if e then to (Activity.Look (Look.Entry i)) x else to (Activity.Read Read.Link) x in o).local ahead
+    saw : (e : Bool) → nat_lt i z.seats ≡ e → Looked z l (let o : Outcome = if e then to (Activity.Look (Look.Entry i)) x else to (Activity.Read Read.Start) x in o).local ahead
     saw true h = record { looks = record { call = a; want = b; version = c; stage = λ f. true_false refl f }; fewer = fewer (grind (arith, nat_tests)) }
     saw false h = record { looks = record { call = a; want = b; version = c; stage = λ f. refl }; fewer = some }
 
@@ -115,7 +115,7 @@ module _ {s : Shared} {p q : Pass} {told : ℕ} (l : Local) (i : ℕ) (f : Follo
   -- the next entry is looked at
   idle_line : pend_of told ≡ Some Idle → i + 1 < product.seats → outcome (looking (i + 1) l) Moved ≡ look_seen product i (pend_of told) (looking i l)
   idle_line idle more =
-      ap (λ (b : Bool). let o : Outcome = if b then to (Activity.Look (Look.Entry (i + 1))) (looking i l) else to (Activity.Read Read.Link) (looking i l) in o) (sym (lt-ltb (i + 1) product.seats more))
+      ap (λ (b : Bool). let o : Outcome = if b then to (Activity.Look (Look.Entry (i + 1))) (looking i l) else to (Activity.Read Read.Start) (looking i l) in o) (sym (lt-ltb (i + 1) product.seats more))
       ∙ ap (λ (e : Option Pend). look_seen product i e (looking i l)) (sym idle)
 
   pub goes_by_idle : pend_of told ≡ Some Idle → i + 1 < product.seats → LooksFurther s p (looking i l) q (looking (i + 1) l)
@@ -179,8 +179,8 @@ looked_from {s} {p} {q} {l} {m} {from} {entry} {told} {done} is up line =
     (looked_on up.on (sees_entry l entry up.on.follows up.makes m done line))
 
 -- after the last entry, at which nothing is announced, the list is gone along
-pub last_line : (l : Local) (i told : ℕ) → is_idle (pend_of told) ≡ true → product.seats ≤ i + 1 → outcome (record l { activity = Activity.Read Read.Link }) Moved ≡ look_seen product i (pend_of told) (looking i l)
+pub last_line : (l : Local) (i told : ℕ) → is_idle (pend_of told) ≡ true → product.seats ≤ i + 1 → outcome (record l { activity = Activity.Read Read.Start }) Moved ≡ look_seen product i (pend_of told) (looking i l)
 last_line l i told idle last =
     let over : nat_lt (i + 1) product.seats ≡ false = grind (arith, nat_tests) in
-    ap (λ (b : Bool). let o : Outcome = if b then to (Activity.Look (Look.Entry (i + 1))) (looking i l) else to (Activity.Read Read.Link) (looking i l) in o) (sym over)
+    ap (λ (b : Bool). let o : Outcome = if b then to (Activity.Look (Look.Entry (i + 1))) (looking i l) else to (Activity.Read Read.Start) (looking i l) in o) (sym over)
     ∙ ap (λ (e : Option Pend). look_seen product i e (looking i l)) (sym (idle_is (pend_of told) idle))

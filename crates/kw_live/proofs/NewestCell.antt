@@ -10,7 +10,7 @@ use Rattle.kw_cells.specs.InOrder.{AreInOrder, stands_before, with_cell}
 use Rattle.kw_cells.proofs.FirstFit.{first_is_best}
 use Rattle.kw_cells.proofs.InOrder.{before_apart, in_order_head, length-with_cell, with_cell-all, with_cell-in_order}
 use Rattle.kw_model.specs.declared.call.Call.TheVariants.{Get}
-use Rattle.kw_world.specs.declared.activity.Activity.TheVariants as Activity
+use Rattle.kw_world.specs.declared.activity.Activity.{Activity}
 use Rattle.kw_world.specs.declared.activity.read.Read.TheVariants as Read
 use Rattle.kw_world.specs.declared.limits.TheConstants.{NEWEST}
 use Rattle.kw_world.specs.declared.local.Local.{Local}
@@ -28,8 +28,10 @@ use Rattle.kw_follow.proofs.OneEvent.{follows_ranges}
 use Rattle.kw_follow.specs.Reaching.{Reaches}
 use Rattle.kw_live.specs.Getting.{HasFound, newer_of}
 use Rattle.kw_live.specs.Reading.{ReadsOn, reads_ahead}
-use Rattle.kw_live.proofs.CursorEvents.{cell_above, cell_counts, cell_gone_by, cell_within, link_ended, link_led, value_told, version_told}
-use Rattle.kw_follow.proofs.Reaching.{reaches_none, reaches_trans}
+use Rattle.kw_core.specs.Stages.{IsAtReadLink}
+use Rattle.kw_live.specs.Beginning.{BeginsAt, BeginsList}
+use Rattle.kw_live.proofs.CursorEvents.{cell_above, cell_counts, cell_gone_by, cell_within, link_ahead, link_ended, link_led, value_told, version_told}
+use Rattle.kw_follow.proofs.Reaching.{reaches_trans}
 use Rattle.kw_live.proofs.ReadEvent.{reads_trans}
 
 -- The newest cell.
@@ -81,32 +83,40 @@ reading w cells = record (on_way (Activity.Read Read.Link) w) { gathered = cells
 -- what stays while a get goes along the list
 pub record KeepsNewest (s : Shared) (o : Pass) (way : Way) (p : Pass) (w : Cursor) (newest : Option Cell) : Type 0 where
   pub cells : List Cell
-  pub gets : Reaches s o p (with_cursor (Activity.Read Read.Link) w (reading way cells))
+  pub activity : Activity
+  pub loads : IsAtReadLink activity
+  pub gets : Reaches s o p (with_cursor activity w (reading way cells))
   pub keeps : IsNewest way.key cells newest
   pub few : length cells ≤ w.walked
 
--- a get begins at the first link
-pub newest_begins : {s : Shared} {p : Pass} (way : Way) (w : Cursor) → w ≡ first_of way.row → Follows s p (on_way (Activity.Read Read.Link) way) → KeepsNewest s p way p w None
-newest_begins {s} {p} way w is f = record {
+-- a get that is to begin
+pub newest_at : {s : Shared} {p : Pass} (way : Way) (w : Cursor) → w ≡ first_of way.row → Follows s p (on_way (Activity.Read Read.Start) way) → BeginsAt s p (Activity.Read Read.Start) (reading way []) w way.built way.key
+newest_at {s} {p} way w is f = record { follows = subst (λ (x : Cursor). Follows s p (with_cursor (Activity.Read Read.Start) x (reading way []))) (sym is) f; counted = refl; least = refl }
+
+-- it has begun
+pub newest_begins : {s : Shared} {p q : Pass} (way : Way) (w x : Cursor) → BeginsList s p (reading way []) w q x → KeepsNewest s p way q x None
+newest_begins {s} {p} {q} way w x b = record {
   cells = [];
-  gets = reaches_none (subst (λ (x : Cursor). Follows s p (with_cursor (Activity.Read Read.Link) x (reading way []))) (sym is) f);
+  activity = b.activity;
+  loads = b.loads;
+  gets = record { goes = b.goes; follows = b.follows; calls = b.calls };
   keeps = record { in_order = λ i j d u v. absurd (omega arith); of_key = λ k d u. absurd (omega arith); first = refl };
   few = omega arith;
 }
 
-module _ {s : Shared} {o p q : Pass} {way : Way} {w : Cursor} {newest : Option Cell} {link : ℕ} (before : KeepsNewest s o way p w newest) (first : (l : Local) → Follows s p (with_cursor (Activity.Read Read.Link) w l) → ReadsWord s p (with_cursor (Activity.Read Read.Link) w l) link q) where
+module _ {s : Shared} {o p q : Pass} {way : Way} {w : Cursor} {newest : Option Cell} {link : ℕ} (before : KeepsNewest s o way p w newest) (first : (a : Activity) (l : Local) → IsAtReadLink a → Follows s p (with_cursor a w l) → ReadsWord s p (with_cursor a w l) link q) where
   abbrev l : Local
   l = reading way before.cells
 
-  f : Follows s p (with_cursor (Activity.Read Read.Link) w l)
+  f : Follows s p (with_cursor before.activity w l)
   f = before.gets.follows
 
   -- what a reading adds
-  further : {r : Pass} {m : Local} → ReadsOn s p (with_cursor (Activity.Read Read.Link) w l) r m → Reaches s o r m
+  further : {r : Pass} {m : Local} → ReadsOn s p (with_cursor before.activity w l) r m → Reaches s o r m
   further on = reaches_trans before.gets (record { goes = on.goes; follows = on.follows; calls = on.calls })
 
   -- it has found what the newest cell shows
-  found_by : {r : Pass} {m : Local} (value : Option ℕ) → value ≡ value_in newest → m.activity ≡ Activity.Leave (answer_found (shown_at before.cells NEWEST way.key)) → ReadsOn s p (with_cursor (Activity.Read Read.Link) w l) r m → HasFound s o r value
+  found_by : {r : Pass} {m : Local} (value : Option ℕ) → value ≡ value_in newest → m.activity ≡ Activity.Leave (answer_found (shown_at before.cells NEWEST way.key)) → ReadsOn s p (with_cursor before.activity w l) r m → HasFound s o r value
   found_by {r} {m} value is leaves on = record {
     local = m;
     gets = further on;
@@ -117,31 +127,31 @@ module _ {s : Shared} {o p q : Pass} {way : Way} {w : Cursor} {newest : Option C
   pub newest_ends : (value : Option ℕ) → value ≡ value_in newest → cell_of_link_word link ≡ None → HasFound s o q value
   newest_ends value is none =
       let k : Local = with_cursor (Activity.Read Read.Link) w l in
-      found_by value is refl (link_ended l w k (record (without_rows k) { activity = Activity.Leave (answer_found (shown_at before.cells NEWEST way.key)) }) refl none (record { carries = λ begun added. refl; number = refl; pairs = refl }) f (first l f))
+      found_by value is refl (link_ended l w before.activity before.loads k (record (without_rows k) { activity = Activity.Leave (answer_found (shown_at before.cells NEWEST way.key)) }) refl none (record { carries = λ begun added. refl; number = refl; pairs = refl }) f (first before.activity l before.loads f))
 
   -- a link leads to a cell
   module _ (x : Cursor) (cell : ℕ) (is : x ≡ reached cell w) (leads : cell_of_link_word link ≡ Some cell) where
     -- of which there are more than the get has reached
     pub newest_counts : w.walked < CELLS
-    newest_counts = cell_counts l w cell leads (first l f)
+    newest_counts = cell_counts l w before.activity before.loads cell leads (first before.activity l before.loads f)
 
     pub newest_led : Follows s q (with_cursor (Activity.Read Read.Key) x l)
-    newest_led = (link_led l w x l cell is refl leads f (first l f)).follows
+    newest_led = (link_led l w before.activity before.loads x l cell is refl leads f (first before.activity l before.loads f)).follows
 
     module _ {r : Pass} {word : ℕ} (key : ℕ) (keyed : key ≡ key_of_word word) (second : (m : Local) → Follows s q (with_cursor (Activity.Read Read.Key) x m) → ReadsWord s q (with_cursor (Activity.Read Read.Key) x m) word r) where
       -- its key is below the own: it is gone by
       module _ (y : Cursor) (passes : y ≡ past x) (below : key < way.key) where
-        passing : ReadsOn s p (with_cursor (Activity.Read Read.Link) w l) r (with_cursor (Activity.Read Read.Link) y l)
-        passing = cell_gone_by l l w x cell is refl leads f (first l) (second l) y key way.key (Some (Get way.key)) passes keyed refl refl below
+        passing : ReadsOn s p (with_cursor before.activity w l) r (with_cursor (Activity.Read Read.Link) y l)
+        passing = cell_gone_by l l w x before.activity before.loads cell is refl leads f (first before.activity l before.loads) (second l) y key way.key (Some (Get way.key)) passes keyed refl refl below
 
         pub newest_goes_by : KeepsNewest s o way r y newest
         newest_goes_by =
             let on : y.walked ≡ min (w.walked + 1) CELLS = ap (λ (z : Cursor). z.walked) (passes ∙ ap past is) in
             let few = before.few in
-            record { cells = before.cells; gets = further passing; keeps = before.keeps; few = omega (arith, on, few, newest_counts) }
+            record { cells = before.cells; activity = Activity.Read Read.Link; loads = tt; gets = further passing; keeps = before.keeps; few = omega (arith, on, few, newest_counts) }
 
         pub newest_goes_by_fewer : reads_ahead (with_cursor (Activity.Read Read.Link) y (reading way [])) < reads_ahead (with_cursor (Activity.Read Read.Link) w (reading way []))
-        newest_goes_by_fewer = passing.fewer
+        newest_goes_by_fewer = subst (λ k. reads_ahead (with_cursor (Activity.Read Read.Link) y (reading way [])) < k) (link_ahead before.activity w.walked 0 before.loads) passing.fewer
 
       -- it is above it: the walk is over
       pub newest_above : (value : Option ℕ) → value ≡ value_in newest → way.key < key → HasFound s o r value
@@ -149,12 +159,12 @@ module _ {s : Shared} {o p q : Pass} {way : Way} {w : Cursor} {newest : Option C
           let k : Local = with_cursor (Activity.Read Read.Key) x l in
           let within : way.key ≤ key = omega (arith, above) in
           found_by value shows refl
-          (cell_above l l w x cell is refl leads f (first l) (second l) k (record (without_rows k) { activity = Activity.Leave (answer_found (shown_at before.cells NEWEST way.key)) }) key way.key way.key (Some (Get way.key)) refl keyed refl refl refl within above (record { carries = λ begun added. refl; number = refl; pairs = refl }))
+          (cell_above l l w x before.activity before.loads cell is refl leads f (first before.activity l before.loads) (second l) k (record (without_rows k) { activity = Activity.Leave (answer_found (shown_at before.cells NEWEST way.key)) }) key way.key way.key (Some (Get way.key)) refl keyed refl refl refl within above (record { carries = λ begun added. refl; number = refl; pairs = refl }))
 
       -- it is the own key
       module _ (y : Cursor) (ranged : y ≡ record x { key = key }) (from : way.key ≤ key) (upto : key ≤ way.key) where
-        within : ReadsOn s p (with_cursor (Activity.Read Read.Link) w l) r (with_cursor (Activity.Read Read.Version) y l)
-        within = cell_within l l w x cell is refl leads f (first l) (second l) y key way.key way.key (Some (Get way.key)) ranged keyed refl refl refl from upto
+        within : ReadsOn s p (with_cursor before.activity w l) r (with_cursor (Activity.Read Read.Version) y l)
+        within = cell_within l l w x before.activity before.loads cell is refl leads f (first before.activity l before.loads) (second l) y key way.key way.key (Some (Get way.key)) ranged keyed refl refl refl from upto
 
         pub newest_ranged : Follows s r (with_cursor (Activity.Read Read.Version) y l)
         newest_ranged = within.follows
@@ -177,7 +187,7 @@ module _ {s : Shared} {o p q : Pass} {way : Way} {w : Cursor} {newest : Option C
                 ap (λ (c : Cell). reading way (with_cell c before.cells)) read
                 ∙ ap (λ (b : Bool). reading way (if b then with_cell (cell_at z (value_of_word value)) before.cells else before.cells)) (sym room)
 
-            gathering : ReadsOn s p (with_cursor (Activity.Read Read.Link) w l) u (with_cursor (Activity.Read Read.Link) last (reading way (with_cell cell_read before.cells)))
+            gathering : ReadsOn s p (with_cursor before.activity w l) u (with_cursor (Activity.Read Read.Link) last (reading way (with_cell cell_read before.cells)))
             gathering =
                 reads_trans s p t u _ _ _ refl (reads_trans s p r t _ _ _ refl within told)
                 (value_told l z last (reading way (with_cell cell_read before.cells)) passes gathered told.follows (fourth l told.follows))
@@ -193,10 +203,12 @@ module _ {s : Shared} {o p q : Pass} {way : Way} {w : Cursor} {newest : Option C
                 let old = before.few in
                 record {
                   cells = with_cell cell_read before.cells;
+                  activity = Activity.Read Read.Link;
+                  loads = tt;
                   gets = further gathering;
                   keeps = subst (IsNewest way.key (with_cell cell_read before.cells)) (sym new) (newest_with way.key before.cells newest cell_read same before.keeps);
                   few = omega (arith, on, more, old, newest_counts);
                 }
 
             pub newest_gathers_fewer : reads_ahead (with_cursor (Activity.Read Read.Link) last (reading way [])) < reads_ahead (with_cursor (Activity.Read Read.Link) w (reading way []))
-            newest_gathers_fewer = gathering.fewer
+            newest_gathers_fewer = subst (λ k. reads_ahead (with_cursor (Activity.Read Read.Link) last (reading way [])) < k) (link_ahead before.activity w.walked 0 before.loads) gathering.fewer

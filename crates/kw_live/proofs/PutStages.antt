@@ -53,7 +53,7 @@ use Rattle.kw_follow.specs.Moving.{WentOn}
 use Rattle.kw_follow.specs.OwnEvents.{Saw, SawAs}
 use Rattle.kw_live.specs.Sights.{IsFullCount, SawFull, TellsFull}
 use Rattle.kw_live.specs.Putting.{InsertsFurther, put_ahead}
-use Rattle.kw_core.specs.Stages.{is_putting}
+use Rattle.kw_core.specs.Stages.{IsAtInsertLink, is_putting}
 use Rattle.kw_follow.proofs.OwnEvents.{goes_trans, saw_earlier}
 use Rattle.kw_follow.proofs.Reaching.{reaches_none}
 use Rattle.kw_follow.proofs.Untidied.{keeps, untidied}
@@ -153,12 +153,11 @@ module _ (s : Shared) (o p q : Pass) (l m : Local) (rows told : ℕ) (was : Goes
   stamps None f is own next = absurd own
 
   -- on its walk the put has reached fewer cells than there are, and has lost fewer exchanges
-  has_walked : l.activity ≡ Activity.Insert Insert.Link → l.walked < CELLS
-  unfolding here
-  has_walked is =
-      let x = here (Activity.Insert Insert.Link) is in
-      let laws = saw_laws s p q (Activity.Insert Insert.Link) Go told goes x in
-      subst (λ n. n < CELLS) (ap (λ (k : Local). k.walked) saw.knew) (laws.walked (view p).number (local_at p x.front) (saw_local p q (Activity.Insert Insert.Link) Go told x) x.activity)
+  has_walked : IsAtInsertLink l.activity → l.walked < CELLS
+  has_walked at =
+      let x : Saw p q l.activity Go told = saw.saw in
+      let laws = saw_laws s p q l.activity Go told goes x in
+      subst (λ n. n < CELLS) (ap (λ (k : Local). k.walked) saw.knew) (laws.walked (view p).number (local_at p x.front) (saw_local p q l.activity Go told x) (subst IsAtInsertLink (sym x.activity) at))
 
   has_lost : l.activity ≡ Activity.Insert Insert.Exchange → l.lost < CELLS
   unfolding here
@@ -168,7 +167,7 @@ module _ (s : Shared) (o p q : Pass) (l m : Local) (rows told : ℕ) (was : Goes
       subst (λ n. n < CELLS) (ap (λ (k : Local). k.lost) saw.knew) (laws.lost (view p).number (local_at p x.front) (saw_local p q (Activity.Insert Insert.Exchange) Go told x) (subst IsInserting (sym x.activity) tt))
 
   -- the link leads to a cell, or to none
-  from_link : (x : Option ℕ) → l.activity ≡ Activity.Insert Insert.Link → m ≡ (insert_from product x l).local → GoesOn o q m (put_ahead (Activity.Insert Insert.Link) l.walked l.lost)
+  from_link : (x : Option ℕ) → IsAtInsertLink l.activity → m ≡ (insert_from product x l).local → GoesOn o q m (put_ahead (Activity.Insert Insert.Link) l.walked l.lost)
   from_link (Some c) is e = goes_on o q m (Activity.Insert Insert.Key) _ (ap (λ (x : Local). x.activity) e) refl (omega (arith, has_walked is, ap (λ (x : Local). x.walked) e, ap (λ (x : Local). x.lost) e))
   from_link None is e = goes_on o q m (Activity.Insert Insert.Set) _ (ap (λ (x : Local). x.activity) e) refl (omega (arith, ap (λ (x : Local). x.lost) e))
 
@@ -185,7 +184,7 @@ module _ (s : Shared) (o p q : Pass) (l m : Local) (rows told : ℕ) (was : Goes
   -- the exchange is made, or lost
   from_exchange : (b : Bool) → l.activity ≡ Activity.Insert Insert.Exchange → m ≡ (insert_tried product b l).local → GoesOn o q m (put_ahead (Activity.Insert Insert.Exchange) l.walked l.lost)
   from_exchange true is e = goes_on o q m (Activity.Put Put.Clear) _ (ap (λ (x : Local). x.activity) e) refl (omega arith)
-  from_exchange false is e = goes_on o q m (Activity.Insert Insert.Link) _ (ap (λ (x : Local). x.activity) e) refl (omega (arith, has_lost is, ap (λ (x : Local). x.walked) e, ap (λ (x : Local). x.lost) e))
+  from_exchange false is e = goes_on o q m (Activity.Insert Insert.Start) _ (ap (λ (x : Local). x.activity) e) refl (omega (arith, has_lost is, ap (λ (x : Local). x.walked) e, ap (λ (x : Local). x.lost) e))
 
   -- an event of a put takes it on
   event : (a : Activity) → l.activity ≡ a → is_putting a ≡ true → GoesOn o q m (put_ahead a l.walked l.lost)
@@ -197,9 +196,10 @@ module _ (s : Shared) (o p q : Pass) (l m : Local) (rows told : ℕ) (was : Goes
   event (Activity.Put Put.Announce) is put = announces (told == pend_word Idle) refl is (next_is rows (Activity.Put Put.Announce) l m told is line)
   event (Activity.Put Put.Clock) is put = goes_on o q m (Activity.Put Put.Stamp) _ (next_is rows (Activity.Put Put.Clock) l m told is line) refl (omega arith)
   event (Activity.Put Put.Stamp) is put = stamps (pend_of told) refl is (subst (λ n. HasCellOrFrozen n (pend_of told)) (ap (λ (k : Local). k.cell) saw.knew) (stamped s p q told goes (here (Activity.Put Put.Stamp) is))) (next_is rows (Activity.Put Put.Stamp) l m told is line)
-  event (Activity.Put Put.Version) is put = goes_on o q m (Activity.Insert Insert.Link) _ (next_is rows (Activity.Put Put.Version) l m told is line) refl
+  event (Activity.Put Put.Version) is put = goes_on o q m (Activity.Insert Insert.Start) _ (next_is rows (Activity.Put Put.Version) l m told is line) refl
       (omega (arith, ap (λ (x : Local). x.walked) (local_is rows (Activity.Put Put.Version) l m told is line), ap (λ (x : Local). x.lost) (local_is rows (Activity.Put Put.Version) l m told is line)))
-  event (Activity.Insert Insert.Link) is put = from_link (cell_of_link_word told) is (local_is rows (Activity.Insert Insert.Link) l m told is line)
+  event (Activity.Insert Insert.Start) is put = from_link (cell_of_link_word told) (subst IsAtInsertLink (sym is) tt) (local_is rows (Activity.Insert Insert.Start) l m told is line)
+  event (Activity.Insert Insert.Link) is put = from_link (cell_of_link_word told) (subst IsAtInsertLink (sym is) tt) (local_is rows (Activity.Insert Insert.Link) l m told is line)
   event (Activity.Insert Insert.Key) is put = from_key (nat_lt (key_of_word told) (first_key l.call)) (key_of_word told == first_key l.call) (local_is rows (Activity.Insert Insert.Key) l m told is line)
   event (Activity.Insert Insert.Version) is put = from_version (is_newer (unwrap_or (version_of_word told) 0) l.place l) (local_is rows (Activity.Insert Insert.Version) l m told is line)
   event (Activity.Insert Insert.Set) is put = goes_on o q m (Activity.Insert Insert.Exchange) _ (next_is rows (Activity.Insert Insert.Set) l m told is line) refl (omega (arith, ap (λ (x : Local). x.lost) (local_is rows (Activity.Insert Insert.Set) l m told is line)))
@@ -213,6 +213,7 @@ module _ (s : Shared) (o p q : Pass) (l m : Local) (rows told : ℕ) (was : Goes
   work (Activity.Put Put.Add) put = keeps product (Activity.Put Put.Add) 0 Go l rows told tt
   work (Activity.Put Put.Announce) put = keeps product (Activity.Put Put.Announce) 0 Go l rows told tt
   work (Activity.Put Put.Stamp) put = keeps product (Activity.Put Put.Stamp) 0 Go l rows told tt
+  work (Activity.Insert Insert.Start) put = keeps product (Activity.Insert Insert.Start) 0 Go l rows told tt
   work (Activity.Insert Insert.Link) put = keeps product (Activity.Insert Insert.Link) 0 Go l rows told tt
   work (Activity.Insert Insert.Key) put = keeps product (Activity.Insert Insert.Key) 0 Go l rows told tt
   work (Activity.Insert Insert.Version) put = keeps product (Activity.Insert Insert.Version) 0 Go l rows told tt

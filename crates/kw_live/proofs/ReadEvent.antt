@@ -14,11 +14,12 @@ use Rattle.kw_world.specs.declared.event.Choice.TheVariants.{Go}
 use Rattle.kw_world.specs.declared.local.Local.{Local}
 use Rattle.kw_world.specs.Calls.{first_key, is_scan}
 use Rattle.kw_world.specs.Sizes.{product}
-use Rattle.kw_world.specs.Step.{next_of, transition_of}
+use Rattle.kw_world.specs.Step.{next_of, transition_of, word}
 use Rattle.kw_laws.specs.Laws.{KeepsLaws}
 use Rattle.kw_reads.specs.Replies.{RisesBelow}
 use Rattle.kw_core.specs.Run.{history}
-use Rattle.kw_core.specs.Stages.{IsAtRow, IsCovering}
+use Rattle.kw_core.specs.Stages.{IsAtReadLink, IsAtRow, IsCovering}
+use Rattle.kw_world.specs.ListTransitions.{link_name}
 use Rattle.kw_laws.proofs.LawProofs.{laws_hold}
 use Rattle.kw_puts.proofs.Owners.{true_false}
 use Rattle.kw_table.specs.declared.pass.Pass.{Pass}
@@ -75,6 +76,20 @@ has_read None want version m before after below e = tt
 
 -- The event.
 
+-- what a reader was told at a link is what that link held
+link_told : (p q : Pass) (told : ℕ) (a : Activity) → IsAtReadLink a → (x : Saw p q a Go told) → told ≡ word product (history product (view p).opening x.front).world (link_name (local_at p x.front).row (local_at p x.front).link)
+link_told p q told (Activity.Read Read.Start) at x = saw_told p q (Activity.Read Read.Start) Go told x _ refl
+link_told p q told (Activity.Read Read.Link) at x = saw_told p q (Activity.Read Read.Link) Go told x _ refl
+link_told p q told _ at x = absurd at
+
+-- one that a link leads to a cell has reached fewer cells than there are
+pub link_counts : (s : Shared) (p q : Pass) (l : Local) (told : ℕ) → GoesTo s p q → (saw : SawAs p q l Go told) → IsAtReadLink l.activity → (c : ℕ) → cell_of_link_word told ≡ Some c → l.walked < CELLS
+link_counts s p q l told goes saw at c leads =
+    let x : Saw p q l.activity Go told = saw.saw in
+    let laws = saw_laws s p q l.activity Go told goes x in
+    subst (λ n. n < CELLS) (ap (λ (k : Local). k.walked) saw.knew)
+    (laws.reads_on (view p).number (local_at p x.front) (saw_local p q l.activity Go told x) (subst IsAtReadLink (sym x.activity) at) c (ap cell_of_link_word (sym (link_told p q told l.activity at x)) ∙ leads))
+
 -- what follows from one event: the reader goes on in the row, or has read it to its end
 pub record Reads (l m : Local) (before after : List (ℕ × ℕ)) : Type 0 where
   pub call : m.call ≡ l.call
@@ -99,22 +114,12 @@ below_wanted q scan is =
     rises
 
 module _ (s : Shared) (p q : Pass) (l m : Local) (told : ℕ) (f : Follows s p l) (goes : GoesTo s p q) (after : Follows s q m) (seat : local_in (view q) ≡ (next_of product (view p).opening.rows Go (local_in (view p)) told).local) (saw : SawAs p q l Go told) (reading : is_reading_list l.activity ≡ true) where
-  -- the event at a link
-  here : l.activity ≡ Activity.Read Read.Link → Saw p q (Activity.Read Read.Link) Go told
-  here is = record { front = saw.saw.front; later = saw.saw.later; here = saw.saw.here; activity = saw.saw.activity ∙ is; tells = saw.saw.tells }
-
   -- a reader that a link leads to a cell has reached fewer cells than there are
-  led_on : l.activity ≡ Activity.Read Read.Link → (c : ℕ) → cell_of_link_word told ≡ Some c → l.walked < CELLS
-  unfolding here
-  led_on is c leads =
-      let x = here is in
-      let laws = saw_laws s p q (Activity.Read Read.Link) Go told goes x in
-      let word = saw_told p q (Activity.Read Read.Link) Go told x _ refl in
-      subst (λ n. n < CELLS) (ap (λ (k : Local). k.walked) saw.knew)
-      (laws.reads_on (view p).number (local_at p x.front) (saw_local p q (Activity.Read Read.Link) Go told x) x.activity c (ap cell_of_link_word (sym word) ∙ leads))
+  led_on : IsAtReadLink l.activity → (c : ℕ) → cell_of_link_word told ≡ Some c → l.walked < CELLS
+  led_on at c leads = link_counts s p q l told goes saw at c leads
 
-  led_in : activity_in p ≡ Activity.Read Read.Link → (c : ℕ) → cell_of_link_word told ≡ Some c → (local_in (view p)).walked < CELLS
-  led_in is c leads = subst (λ (k : Local). k.walked < CELLS) f.carries (led_on (ap (λ (k : Local). k.activity) f.carries ∙ is) c leads)
+  led_in : IsAtReadLink (activity_in p) → (c : ℕ) → cell_of_link_word told ≡ Some c → (local_in (view p)).walked < CELLS
+  led_in at c leads = subst (λ (k : Local). k.walked < CELLS) f.carries (led_on (subst (λ (k : Local). IsAtReadLink k.activity) (sym f.carries) at) c leads)
 
   -- the seat goes on by the table
   both : Goes product (local_in (view p)).call (local_in (view p)).want (local_in (view p)).version (held p) (reads_ahead (local_in (view p))) (next_of product (view p).opening.rows Go (local_in (view p)) told)

@@ -21,6 +21,7 @@ use Rattle.kw_world.specs.Transition.{Outcome, to}
 use Rattle.kw_world.specs.ReadTransitions.{gathering, list_key, list_reached, list_past, left_over_key, left_over_of, row_read, scan_on, scan_ended, to_left_over, with_pairs}
 use Rattle.kw_world.specs.Sizes.{Sizes}
 use Rattle.kw_world.specs.Table.{transition}
+use Rattle.kw_core.specs.Stages.{IsAtReadLink}
 use Rattle.kw_core.proofs.InRange.{unmarked_few}
 use Rattle.kw_puts.proofs.Owners.{true_false}
 use Rattle.kw_follow.specs.Following.{carried}
@@ -99,7 +100,7 @@ scans_on z from upto ahead y is some None above = scan_ends z from upto ahead y 
 scans_on z from upto ahead y is some (Some r) above = saw (nat_lt upto y.upper) refl
   where
     saw : (b : Bool) → nat_lt upto y.upper ≡ b → Goes z (Some (Scan from upto)) y.want y.version y.pairs ahead
-        (if b then scan_ended (with_pairs upto y) else to (Activity.Walk Walk.Next) (record (with_pairs upto y) { row = r; lower = y.upper; want = y.upper; next = None; upper = 0 }))
+        (if b then scan_ended (with_pairs upto y) else to (Activity.Walk Walk.Next) (record (with_pairs upto y) { row = r; lower = y.upper; built = 0; want = y.upper; next = None; upper = 0 }))
     saw true h = scan_ends z from upto ahead y is some
     saw false h = record {
       calls = is;
@@ -150,9 +151,10 @@ left_over_keys z key y above = saw (is_in_range y.call key)
     saw false = rests z _ y (omega arith) above
 
 -- what follows from an event there
-pub read_goes : (z : Sizes) (a : Activity) (k : Local) (rows told : ℕ) → is_reading_list a ≡ true → IsBelowNext k → (a ≡ Activity.Read Read.Link → (c : ℕ) → cell_of_link_word told ≡ Some c → k.walked < z.cells)
+pub read_goes : (z : Sizes) (a : Activity) (k : Local) (rows told : ℕ) → is_reading_list a ≡ true → IsBelowNext k → (IsAtReadLink a → (c : ℕ) → cell_of_link_word told ≡ Some c → k.walked < z.cells)
     → Goes z k.call k.want k.version k.pairs (read_ahead z a k.walked (length k.remembered)) ((transition z a 0 Go k).next rows told)
-read_goes z (Activity.Read Read.Link) k rows told u above led = links z (cell_of_link_word told) k (led refl) above
+read_goes z (Activity.Read Read.Start) k rows told u above led = links z (cell_of_link_word told) k (led tt) above
+read_goes z (Activity.Read Read.Link) k rows told u above led = links z (cell_of_link_word told) k (led tt) above
 read_goes z (Activity.Read Read.Key) k rows told u above led = keys z (key_of_word told) k above
 read_goes z (Activity.Read Read.Version) k rows told u above led = record { calls = refl; drawn = refl; on = λ e. (refl, refl); ends = λ e. true_false refl e; fewer = omega arith }
 read_goes z (Activity.Read Read.Value) k rows told u above led = record { calls = refl; drawn = refl; on = λ e. (refl, refl); ends = λ e. true_false refl e; fewer = omega arith }

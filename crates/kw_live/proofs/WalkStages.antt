@@ -3,7 +3,7 @@
 use Rattle.std.proofs.Common.{◌≡◌, ◌⊎◌, List, ℕ, ◌+◌, ◌*◌, ◌-◌, ◌<◌, ◌≤◌, Bool, true, false, nat_le, nat_lt, if◌then◌else◌, Option, Some, None, arith, refl, sym, ◌∙◌, ap, subst, inl, inr}
 use Rattle.kw_words.specs.declared.layout.Name.TheVariants as name
 use Rattle.kw_words.specs.Link.{link_of}
-use Rattle.kw_words.specs.Plain.{key_of_word}
+use Rattle.kw_words.specs.Plain.{built_of_word, key_of_word}
 use Rattle.kw_words.specs.State.{state_of}
 use Rattle.kw_words.specs.declared.state.State.{State}
 use Rattle.kw_words.specs.declared.state.State.TheVariants.{Free, Infant, Normal, Leader, Follower, Retired}
@@ -70,7 +70,7 @@ arrives l x (Some (Scan from upto)) ahead a b c d is more = record { walks = rec
 arrives l x None ahead a b c d is more = record { walks = record { call = a; want = b; version = c; has_read = d; stage = inr (ap arrived is) }; fewer = more }
 
 -- the walk begins at the first row, or tries the guessed one
-from_head : (l : Local) (w ahead : ℕ) → 2 * (l.want + 1) + 2 < ahead → Climbs l (record l { row = w; lower = 0; activity = Activity.Walk Walk.Next }) ahead
+from_head : (l : Local) (w ahead : ℕ) → 2 * (l.want + 1) + 2 < ahead → Climbs l (record l { row = w; lower = 0; built = 0; activity = Activity.Walk Walk.Next }) ahead
 from_head l w ahead more = record { walks = record { call = refl; want = refl; version = refl; has_read = refl; stage = inl refl }; fewer = omega (arith, more) }
 
 guesses : (l : Local) (r : ℕ) (state : Option State) (ahead : ℕ) → 2 * (l.want + 1) + 4 < ahead → Climbs l (guess_seen r state l).local ahead
@@ -83,9 +83,9 @@ guesses l r (Some (Retired number)) ahead more = record { walks = record { call 
 guesses l r None ahead more = record { walks = record { call = refl; want = refl; version = refl; has_read = refl; stage = inl refl }; fewer = omega (arith, more) }
 
 -- the guessed row serves, or does not
-least_seen : (l : Local) (least : ℕ) (b : Bool) → Climbs l (let x : Outcome = if b then to (Activity.Walk Walk.Next) (record l { lower = least }) else to (Activity.Walk Walk.First) l in x).local (2 * (l.want + 1) + 4)
-least_seen l least true = record { walks = record { call = refl; want = refl; version = refl; has_read = refl; stage = inl refl }; fewer = omega arith }
-least_seen l least false = record { walks = record { call = refl; want = refl; version = refl; has_read = refl; stage = inl refl }; fewer = omega arith }
+least_seen : (l : Local) (least built : ℕ) (b : Bool) → Climbs l (let x : Outcome = if b then to (Activity.Walk Walk.Next) (record l { lower = least; built = built }) else to (Activity.Walk Walk.First) l in x).local (2 * (l.want + 1) + 4)
+least_seen l least built true = record { walks = record { call = refl; want = refl; version = refl; has_read = refl; stage = inl refl }; fewer = omega arith }
+least_seen l least built false = record { walks = record { call = refl; want = refl; version = refl; has_read = refl; stage = inl refl }; fewer = omega arith }
 
 -- the row is the last one, or there is one after it
 links : (l : Local) (next : Option ℕ) → Climbs l (link_reached next l).local (2 * (l.want + 1 - l.lower) + 2)
@@ -94,10 +94,10 @@ links l (Some r) = record { walks = record { call = refl; want = refl; version =
 
 -- the row after it is taken, whose least key is greater and at most the wanted one, or the walk has
 -- arrived
-climbs : (l : Local) (least : ℕ) → l.lower < least → (b : Bool) → nat_le least l.want ≡ b
-    → Climbs l (let x : Outcome = if b then to (Activity.Walk Walk.Next) (record l { row = l.candidate; lower = least }) else arrive l.call (record l { next = Some l.candidate; upper = least }) in x).local (2 * (l.want + 1 - l.lower) + 1)
-climbs l least above true h = record { walks = record { call = refl; want = refl; version = refl; has_read = refl; stage = inl refl }; fewer = let below = at_most least l.want h in omega (arith, above, below) }
-climbs l least above false h = arrives l (record l { next = Some l.candidate; upper = least }) l.call _ refl refl refl refl refl (omega arith)
+climbs : (l : Local) (least built : ℕ) → l.lower < least → (b : Bool) → nat_le least l.want ≡ b
+    → Climbs l (let x : Outcome = if b then to (Activity.Walk Walk.Next) (record l { row = l.candidate; lower = least; built = built }) else arrive l.call (record l { next = Some l.candidate; upper = least }) in x).local (2 * (l.want + 1 - l.lower) + 1)
+climbs l least built above true h = record { walks = record { call = refl; want = refl; version = refl; has_read = refl; stage = inl refl }; fewer = let below = at_most least l.want h in omega (arith, above, below) }
+climbs l least built above false h = arrives l (record l { next = Some l.candidate; upper = least }) l.call _ refl refl refl refl refl (omega arith)
 
 module _ (s : Shared) (p q : Pass) (l m : Local) (rows told : ℕ) (goes : GoesTo s p q) (saw : SawAs p q l Go told) (line : outcome m Moved ≡ next_of product rows Go l told) where
   -- the event at this activity
@@ -117,9 +117,9 @@ module _ (s : Shared) (p q : Pass) (l m : Local) (rows told : ℕ) (goes : GoesT
   event : (a : Activity) → l.activity ≡ a → is_walking a ≡ true → Climbs l m (walk_ahead a l.lower l.want)
   event (Activity.Walk Walk.Start) is w = on l m _ _ (after_is rows (Activity.Walk Walk.Start) Go l m told is line) (from_head l (row_or_first (row_linked (link_of told))) _ (omega arith))
   event (Activity.Walk Walk.First) is w = on l m _ _ (after_is rows (Activity.Walk Walk.First) Go l m told is line) (from_head l (row_or_first (row_linked (link_of told))) _ (omega arith))
-  event (Activity.Walk Walk.GuessedLeast) is w = on l m _ _ (after_is rows (Activity.Walk Walk.GuessedLeast) Go l m told is line) (least_seen l (key_of_word told) (nat_le (key_of_word told) l.want))
+  event (Activity.Walk Walk.GuessedLeast) is w = on l m _ _ (after_is rows (Activity.Walk Walk.GuessedLeast) Go l m told is line) (least_seen l (key_of_word told) (built_of_word told) (nat_le (key_of_word told) l.want))
   event (Activity.Walk Walk.Next) is w = on l m _ _ (after_is rows (Activity.Walk Walk.Next) Go l m told is line) (links l (row_linked (link_of told)))
-  event (Activity.Walk Walk.NextLeast) is w = on l m _ _ (after_is rows (Activity.Walk Walk.NextLeast) Go l m told is line) (climbs l (key_of_word told) (above is) (nat_le (key_of_word told) l.want) refl)
+  event (Activity.Walk Walk.NextLeast) is w = on l m _ _ (after_is rows (Activity.Walk Walk.NextLeast) Go l m told is line) (climbs l (key_of_word told) (built_of_word told) (above is) (nat_le (key_of_word told) l.want) refl)
   event _ is w = true_false w refl
 
   -- each event of a walk takes it on
@@ -184,17 +184,18 @@ module _ {s : Shared} {p q : Pass} {told : ℕ} (l : Local) where
   link_told m done line f makes = walks_by (walking (Activity.Walk Walk.Next) l) m done f makes refl (line ∙ next_at _ (Activity.Walk Walk.Next) (walking (Activity.Walk Walk.Next) l) told refl)
 
   -- the row's least key is not above the wanted one: it is taken
-  pub row_taken : (key : ℕ) → key ≡ key_of_word told → key ≤ l.want → Follows s p (walking (Activity.Walk Walk.NextLeast) l) → Makes s p Go told q → WalksFurther s p (walking (Activity.Walk Walk.NextLeast) l) q (walking (Activity.Walk Walk.Next) (record l { row = l.candidate; lower = key }))
-  row_taken key keyed serves f makes =
+  pub row_taken : (key built : ℕ) → key ≡ key_of_word told → built ≡ built_of_word told → key ≤ l.want → Follows s p (walking (Activity.Walk Walk.NextLeast) l) → Makes s p Go told q → WalksFurther s p (walking (Activity.Walk Walk.NextLeast) l) q (walking (Activity.Walk Walk.Next) (record l { row = l.candidate; lower = key; built = built }))
+  row_taken key built keyed counted serves f makes =
       let under : key_of_word told ≤ l.want = subst (λ n. n ≤ l.want) keyed serves in
       let below : nat_le (key_of_word told) l.want ≡ true = grind (arith) in
-      subst (λ n. WalksFurther s p (walking (Activity.Walk Walk.NextLeast) l) q (walking (Activity.Walk Walk.Next) (record l { row = l.candidate; lower = n }))) (sym keyed)
-      (walks_by (walking (Activity.Walk Walk.NextLeast) l) (walking (Activity.Walk Walk.Next) (record l { row = l.candidate; lower = key_of_word told })) Moved f makes refl
-      (ap (λ (b : Bool). let o : Outcome = if b then to (Activity.Walk Walk.Next) (record (walking (Activity.Walk Walk.NextLeast) l) { row = l.candidate; lower = key_of_word told }) else arrive l.call (record (walking (Activity.Walk Walk.NextLeast) l) { next = Some l.candidate; upper = key_of_word told }) in o) (sym below)
-      ∙ next_at _ (Activity.Walk Walk.NextLeast) (walking (Activity.Walk Walk.NextLeast) l) told refl))
+      subst (λ n. WalksFurther s p (walking (Activity.Walk Walk.NextLeast) l) q (walking (Activity.Walk Walk.Next) (record l { row = l.candidate; lower = n; built = built }))) (sym keyed)
+      (subst (λ n. WalksFurther s p (walking (Activity.Walk Walk.NextLeast) l) q (walking (Activity.Walk Walk.Next) (record l { row = l.candidate; lower = key_of_word told; built = n }))) (sym counted)
+      (walks_by (walking (Activity.Walk Walk.NextLeast) l) (walking (Activity.Walk Walk.Next) (record l { row = l.candidate; lower = key_of_word told; built = built_of_word told })) Moved f makes refl
+      (ap (λ (b : Bool). let o : Outcome = if b then to (Activity.Walk Walk.Next) (record (walking (Activity.Walk Walk.NextLeast) l) { row = l.candidate; lower = key_of_word told; built = built_of_word told }) else arrive l.call (record (walking (Activity.Walk Walk.NextLeast) l) { next = Some l.candidate; upper = key_of_word told }) in o) (sym below)
+      ∙ next_at _ (Activity.Walk Walk.NextLeast) (walking (Activity.Walk Walk.NextLeast) l) told refl)))
 
   -- what follows from a least key that was told
-  pub least_told : (m : Local) (done : StepDone) → outcome m done ≡ walk_least (key_of_word told) (walking (Activity.Walk Walk.NextLeast) l) → Follows s p (walking (Activity.Walk Walk.NextLeast) l) → Makes s p Go told q → WalksFurther s p (walking (Activity.Walk Walk.NextLeast) l) q m
+  pub least_told : (m : Local) (done : StepDone) → outcome m done ≡ walk_least (key_of_word told) (built_of_word told) (walking (Activity.Walk Walk.NextLeast) l) → Follows s p (walking (Activity.Walk Walk.NextLeast) l) → Makes s p Go told q → WalksFurther s p (walking (Activity.Walk Walk.NextLeast) l) q m
   least_told m done line f makes = walks_by (walking (Activity.Walk Walk.NextLeast) l) m done f makes refl (line ∙ next_at _ (Activity.Walk Walk.NextLeast) (walking (Activity.Walk Walk.NextLeast) l) told refl)
 
 -- What stays through all events of a walk.
@@ -301,8 +302,8 @@ arrive_at (Some (Scan from upto)) l = refl
 arrive_at None l = refl
 
 -- a row whose least key is above the wanted one ends the walk
-stops_before : (least : ℕ) (l : Local) → nat_le least l.want ≡ false → walk_least least l ≡ arrive l.call (record l { next = Some l.candidate; upper = least })
-stops_before least l h = ap (λ (b : Bool). let o : Outcome = if b then to (Activity.Walk Walk.Next) (record l { row = l.candidate; lower = least }) else arrive l.call (record l { next = Some l.candidate; upper = least }) in o) h
+stops_before : (least built : ℕ) (l : Local) → nat_le least l.want ≡ false → walk_least least built l ≡ arrive l.call (record l { next = Some l.candidate; upper = least })
+stops_before least built l h = ap (λ (b : Bool). let o : Outcome = if b then to (Activity.Walk Walk.Next) (record l { row = l.candidate; lower = least; built = built }) else arrive l.call (record l { next = Some l.candidate; upper = least }) in o) h
 
 -- all of the walk, which has arrived
 pub record HasArrived (s : Shared) (o : Pass) (l : Local) (p : Pass) (m : Local) : Type 0 where
@@ -326,25 +327,25 @@ module _ {s : Shared} {o p q : Pass} {told : ℕ} {first : Local} (l : Local) (x
 
 module _ {s : Shared} {o p q r : Pass} {link told : ℕ} {first : Local} (l : Local) (x : IsGoingBy s o first p l) (row : ℕ) (leads : row_linked (link_of link) ≡ Some row) (makes : Makes s p Go link q) (makes_next : Makes s q Go told r) where
   -- the row after is taken
-  pub going_by_taken : (key : ℕ) → key ≡ key_of_word told → key ≤ l.want → WalksFurther s p (walking (Activity.Walk Walk.Next) (record l { gathered = x.cells })) r (walking (Activity.Walk Walk.Next) (record l { gathered = x.cells; candidate = row; row = row; lower = key }))
-  going_by_taken key keyed serves =
+  pub going_by_taken : (key built : ℕ) → key ≡ key_of_word told → built ≡ built_of_word told → key ≤ l.want → WalksFurther s p (walking (Activity.Walk Walk.Next) (record l { gathered = x.cells })) r (walking (Activity.Walk Walk.Next) (record l { gathered = x.cells; candidate = row; row = row; lower = key; built = built }))
+  going_by_taken key built keyed counted serves =
       let led = going_by_led l x makes row leads in
-      further_trans _ _ _ _ _ _ _ led (row_taken (record l { gathered = x.cells; candidate = row }) key keyed serves led.follows makes_next)
+      further_trans _ _ _ _ _ _ _ led (row_taken (record l { gathered = x.cells; candidate = row }) key built keyed counted serves led.follows makes_next)
 
   -- and the walk goes on from it
-  pub going_by_on : (key : ℕ) → key ≡ key_of_word told → key ≤ l.want → IsGoingBy s o first r (record l { candidate = row; row = row; lower = key })
-  going_by_on key keyed serves = record { cells = x.cells; on = walking_on x.on (going_by_taken key keyed serves); forgets = x.forgets }
+  pub going_by_on : (key built : ℕ) → key ≡ key_of_word told → built ≡ built_of_word told → key ≤ l.want → IsGoingBy s o first r (record l { candidate = row; row = row; lower = key; built = built })
+  going_by_on key built keyed counted serves = record { cells = x.cells; on = walking_on x.on (going_by_taken key built keyed counted serves); forgets = x.forgets }
 
   -- the row after begins above the wanted key
-  pub arrives_before : (key : ℕ) → key ≡ key_of_word told → l.want < key → (m : Local) (done : StepDone) → outcome m done ≡ walk_least (key_of_word told) (walking (Activity.Walk Walk.NextLeast) (record l { candidate = row })) → HasArrived s o first r m
+  pub arrives_before : (key : ℕ) → key ≡ key_of_word told → l.want < key → (m : Local) (done : StepDone) → outcome m done ≡ walk_least (key_of_word told) (built_of_word told) (walking (Activity.Walk Walk.NextLeast) (record l { candidate = row })) → HasArrived s o first r m
   arrives_before key keyed over m done line =
       let beyond : l.want < key_of_word told = subst (λ n. l.want < n) keyed over in
       let above : nat_le (key_of_word told) l.want ≡ false = grind (arith) in
       let here : Local = walking (Activity.Walk Walk.NextLeast) (record l { candidate = row }) in
       let there : Local = record here { next = Some row; upper = key_of_word told } in
-      let saw : outcome m done ≡ arrive l.call there = line ∙ stops_before (key_of_word told) here above in
+      let saw : outcome m done ≡ arrive l.call there = line ∙ stops_before (key_of_word told) (built_of_word told) here above in
       let led = going_by_led l x makes row leads in
       record {
-        walks = walked_on x.on (further_trans _ _ _ _ _ _ _ led (least_told (record l { gathered = x.cells; candidate = row }) m done (saw ∙ sym (arrive_over l.call there x.cells x.forgets) ∙ sym (stops_before (key_of_word told) (walking (Activity.Walk Walk.NextLeast) (record l { gathered = x.cells; candidate = row })) above)) led.follows makes_next));
+        walks = walked_on x.on (further_trans _ _ _ _ _ _ _ led (least_told (record l { gathered = x.cells; candidate = row }) m done (saw ∙ sym (arrive_over l.call there x.cells x.forgets) ∙ sym (stops_before (key_of_word told) (built_of_word told) (walking (Activity.Walk Walk.NextLeast) (record l { gathered = x.cells; candidate = row })) above)) led.follows makes_next));
         arrived = ap (λ (y : Outcome). y.local.activity) saw ∙ arrive_at l.call there ∙ ap arrived x.on.walks.call;
       }

@@ -1,3 +1,4 @@
+pub mod Beginning
 pub mod Sights
 pub mod Stages
 pub mod Walking

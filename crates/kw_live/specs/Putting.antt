@@ -27,7 +27,8 @@ abbrev pub Tried : Pass → Pass → ℕ → TryPut → Type 0
 Tried p q row Done = Unit {0}
 Tried p q row (RowFull full) = (full ≡ row) × SawFull p q
 
--- how many events a put makes at most from one exchange that it loses to the next: to load a link,
+-- how many events a put makes at most from one exchange that it loses to the next, but for the one
+-- by which its walk may begin behind a cell: to load a link,
 -- and the key and the version of the cell that it reaches there, for each cell; then to load the
 -- last link, to store its own, and to exchange
 abbrev pub each_walk : ℕ
@@ -44,6 +45,7 @@ put_ahead (Activity.Put Put.Announce) walked lost = CELLS * each_walk + each_wal
 put_ahead (Activity.Put Put.Clock) walked lost = CELLS * each_walk + each_walk + 3
 put_ahead (Activity.Put Put.Stamp) walked lost = CELLS * each_walk + each_walk + 2
 put_ahead (Activity.Put Put.Version) walked lost = CELLS * each_walk + each_walk + 1
+put_ahead (Activity.Insert Insert.Start) walked lost = (CELLS - lost) * each_walk + 3 * (CELLS - walked) + 4
 put_ahead (Activity.Insert Insert.Link) walked lost = (CELLS - lost) * each_walk + 3 * (CELLS - walked) + 4
 put_ahead (Activity.Insert Insert.Key) walked lost = (CELLS - lost) * each_walk + 3 * (CELLS - walked) + 6
 put_ahead (Activity.Insert Insert.Version) walked lost = (CELLS - lost) * each_walk + 3 * (CELLS - walked) + 5

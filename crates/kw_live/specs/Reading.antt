@@ -34,6 +34,7 @@ is_reading_list _ = false
 
 -- the reader goes along the row's list
 abbrev pub is_listing : Activity → Bool
+is_listing (Activity.Read Read.Start) = true
 is_listing (Activity.Read Read.Link) = true
 is_listing (Activity.Read Read.Key) = true
 is_listing (Activity.Read Read.Version) = true
@@ -56,7 +57,7 @@ pub record LooksOn (l m : Local) : Type 0 where
   pub call : m.call ≡ l.call
   pub want : m.want ≡ l.want
   pub version : m.version ≡ l.version
-  pub stage : is_looking m.activity ≡ false → m.activity ≡ Activity.Read Read.Link
+  pub stage : is_looking m.activity ≡ false → m.activity ≡ Activity.Read Read.Start
 
 -- how many events of looking a reader has yet to make at most, by the entry that it is at
 abbrev pub look_ahead : Sizes → Activity → ℕ → ℕ
@@ -118,8 +119,9 @@ abbrev pub HasRead : Local → Local → List (ℕ × ℕ) → List (ℕ × ℕ)
 HasRead l m before after = HasReadAs l.call l.want l.version m before after
 
 -- how many events of reading a reader has yet to make at most, with so many cells reached on its
--- walk and so many remembered
+-- walk and so many remembered; the one by which it may begin behind a cell is not counted
 abbrev pub read_ahead : Sizes → Activity → ℕ → ℕ → ℕ
+read_ahead z (Activity.Read Read.Start) walked marks = 4 * (z.cells - walked) + 2 * marks + 1
 read_ahead z (Activity.Read Read.Link) walked marks = 4 * (z.cells - walked) + 2 * marks + 1
 read_ahead z (Activity.Read Read.Key) walked marks = 4 * (z.cells - walked) + 2 * marks + 4
 read_ahead z (Activity.Read Read.Version) walked marks = 4 * (z.cells - walked) + 2 * marks + 3

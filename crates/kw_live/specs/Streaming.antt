@@ -5,8 +5,7 @@ use Rattle.kw_words.specs.declared.sizes.TheConstants.{CELLS}
 use Rattle.kw_cells.specs.Cells.{pairs_of}
 use Rattle.kw_cells.specs.InOrder.{AreInOrder, stands_before}
 use Rattle.kw_cells.specs.declared.cell.Cell.{Cell}
-use Rattle.kw_world.specs.declared.activity.Activity.TheVariants as Activity
-use Rattle.kw_world.specs.declared.activity.read.Read.TheVariants as Read
+use Rattle.kw_world.specs.declared.activity.Activity.{Activity}
 use Rattle.kw_world.specs.declared.local.Local.{Local}
 use Rattle.kw_table.specs.declared.pass.Pass.{Pass}
 use Rattle.kw_table.specs.declared.shared.Shared.{Shared}
@@ -14,12 +13,13 @@ use Rattle.kw_follow.specs.Calling.{KeepsCalls}
 use Rattle.kw_follow.specs.Cursors.{with_cursor}
 use Rattle.kw_follow.specs.Following.{Follows, GoesTo, held}
 use Rattle.kw_follow.specs.declared.cursor.Cursor.{Cursor}
+use Rattle.kw_core.specs.Stages.{IsAtReadLink}
 use Rattle.kw_live.specs.Reading.{GoesOn}
 
--- the local of a scan whose cursor is here and that has gathered these cells, of which code holds
--- none
-abbrev pub streaming : Cursor → List Cell → Local → Local
-streaming w cells l = with_cursor (Activity.Read Read.Link) w (record l { gathered = cells })
+-- the local of a scan at this activity whose cursor is here and that has gathered these cells, of
+-- which code holds none
+abbrev pub streaming : Activity → Cursor → List Cell → Local → Local
+streaming a w cells l = with_cursor a w (record l { gathered = cells })
 
 -- nothing is remembered of the row's entries, and another row comes after it, which begins in the
 -- range up to this key
@@ -31,11 +31,20 @@ pub record LeadsOn (upto : ℕ) (l : Local) : Type 0 where
 
 -- the scan has come so far in the list, and has gathered these cells
 pub record Streams (s : Shared) (p : Pass) (l : Local) (w : Cursor) (cells : List Cell) : Type 0 where
-  pub follows : Follows s p (streaming w cells l)
+  pub activity : Activity
+  pub loads : IsAtReadLink activity
+  pub follows : Follows s p (streaming activity w cells l)
   pub in_order : AreInOrder cells
   -- no more than it has reached, which are no more than there are
   pub few : length cells ≤ w.walked
   pub within : w.walked ≤ CELLS
+
+-- it has begun its walk along the list, and has gathered nothing
+pub record BeginsCells (s : Shared) (p : Pass) (l : Local) (q : Pass) (x : Cursor) : Type 0 where
+  pub goes : GoesTo s p q
+  pub calls : KeepsCalls p q
+  pub held : held q ≡ held p
+  pub streams : Streams s q l x []
 
 -- it went on to this cell, which stands behind all of these, and its cursor is now there
 pub record ReadsCell (s : Shared) (p : Pass) (l : Local) (last : ℕ) (w : Cursor) (cells : List Cell) (q : Pass) (c : Cell) (x : Cursor) : Type 0 where

@@ -27,7 +27,7 @@ use crate::walking::{linked, locate};
 use kw_follow::{Way, end_resting, load_row_least, load_row_link, see_entry};
 use kw_model::call::{Call, Reply};
 use kw_table::{Pass, Shared};
-use kw_words::plain::unpack_key;
+use kw_words::plain::{unpack_built, unpack_key};
 use kw_words::sizes::SEAT_COUNT;
 use kw_words::state::State;
 use kw_world::activity::Activity;
@@ -109,7 +109,8 @@ fn try_row(shared: &Shared, pass: &mut Pass, way: Way, row: u32) -> Place
     }
     let mut tried = way;
     tried.row = row;
-    let least = unpack_key(tried.load_least(shared, pass));
+    let word = tried.load_least(shared, pass);
+    let least = unpack_key(word);
     if least > way.key {
         return Place {
             activity: Activity::Walk(Walk::First),
@@ -117,6 +118,7 @@ fn try_row(shared: &Shared, pass: &mut Pass, way: Way, row: u32) -> Place
         };
     }
     tried.lower = least;
+    tried.built = unpack_built(word);
     step_on(shared, pass, tried)
 }
 
@@ -139,10 +141,12 @@ fn step_on(shared: &Shared, pass: &mut Pass, way: Way) -> Place
         };
     };
     next.candidate = row;
-    let least = unpack_key(load_row_least(shared, pass, row));
+    let word = load_row_least(shared, pass, row);
+    let least = unpack_key(word);
     if least <= way.key {
         next.row = row;
         next.lower = least;
+        next.built = unpack_built(word);
         return Place {
             activity: Activity::Walk(Walk::Next),
             way: next,
@@ -185,7 +189,7 @@ fn get_there(shared: &Shared, pass: &mut Pass, local: &mut Local, way: Way) -> O
 // The rest of a get of this key that has come to its row, by its local.
 fn get_slowly(shared: &Shared, pass: &mut Pass, local: &mut Local, key: u32) -> Option<u64>
     requires follows { Follows shared.now pass.old local.old }
-    requires stage { is_looking local.old.activity ≡ false → local.old.activity ≡ Activity.Read Read.Link }
+    requires stage { is_looking local.old.activity ≡ false → local.old.activity ≡ Activity.Read Read.Start }
     requires call { local.old.call ≡ Some (Call.Get key) }
     ensures { HasGot shared.now pass.old pass.new result local.new }
 {

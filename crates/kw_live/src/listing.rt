@@ -9,6 +9,7 @@ ghost use Rattle.kw_follow.specs.Cursors.{with_cursor};
 ghost use Rattle.kw_follow.specs.Following.{Follows};
 ghost use Rattle.kw_live.specs.Reading.{ReadsOn, is_listing};
 
+use crate::beginning::begin_list;
 use kw_follow::{Cursor, go_to_left_over};
 use kw_table::{Pass, Shared};
 use kw_words::plain::{unpack_cell_link, unpack_key};
@@ -22,13 +23,13 @@ use kw_world::local::Local;
 /// more. Takes no memory.
 pub(crate) fn read_listed(shared: &Shared, pass: &mut Pass, local: &mut Local)
     requires follows { Follows shared.now pass.old local.old }
-    requires activity { local.old.activity ≡ Activity.Read Read.Link }
+    requires activity { local.old.activity ≡ Activity.Read Read.Start }
     ensures reads { ReadsOn shared.now pass.old local.old pass.new local.new }
     ensures over { is_listing local.new.activity ≡ false }
 {
     let first = first_key(local.call);
     let last = last_key(local.call);
-    let mut cursor = Cursor::of(local);
+    let mut cursor = begin_list(shared, pass, Cursor::of(local), local.built, first);
     loop {
         let link = cursor.load_cell_link(shared, pass);
         let Some(cell) = unpack_cell_link(link) else {

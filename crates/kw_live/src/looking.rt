@@ -24,10 +24,10 @@ use kw_world::local::Local;
 /// The reader then stands at the first link of the row's list. Takes no memory.
 pub(crate) fn look_at_entries(shared: &Shared, pass: &mut Pass, local: &mut Local)
     requires follows { Follows shared.now pass.old local.old }
-    requires stage { is_looking local.old.activity ≡ false → local.old.activity ≡ Activity.Read Read.Link }
+    requires stage { is_looking local.old.activity ≡ false → local.old.activity ≡ Activity.Read Read.Start }
     ensures on { Advances shared.now pass.old pass.new local.new }
     ensures looks { LooksOn local.old local.new }
-    ensures activity { local.new.activity ≡ Activity.Read Read.Link }
+    ensures activity { local.new.activity ≡ Activity.Read Read.Start }
 {
     while is_looking(&local.activity) {
         look_on(shared, pass, local);

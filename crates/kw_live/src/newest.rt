@@ -9,6 +9,7 @@ ghost use Rattle.kw_follow.specs.Following.{Follows};
 ghost use Rattle.kw_follow.specs.Ways.{on_way};
 ghost use Rattle.kw_live.specs.Getting.{HasFound, newer_of};
 
+use crate::beginning::begin_list;
 use kw_cells::cell::Cell;
 use kw_follow::{Cursor, Way};
 use kw_table::{Pass, Shared};
@@ -21,11 +22,12 @@ use kw_world::activity::read::Read;
 /// cell of its key shows. Takes no memory.
 #[inline(always)]
 pub(crate) fn read_newest(shared: &Shared, pass: &mut Pass, way: Way) -> Option<u64>
-    requires { Follows shared.now pass.old (on_way (Activity.Read Read.Link) way) }
+    requires { Follows shared.now pass.old (on_way (Activity.Read Read.Start) way) }
     ensures { HasFound shared.now pass.old pass.new result }
 {
     let mut newest: Option<Cell> = None;
-    let mut cursor = Cursor::first(way.row);
+    let first = Cursor::first(way.row);
+    let mut cursor = begin_list(shared, pass, first, way.built, way.key);
     loop {
         let link = cursor.load_cell_link(shared, pass);
         let Some(cell) = unpack_cell_link(link) else {

@@ -44,7 +44,9 @@ pub fn try_put(shared: &Shared, pass: &mut Pass, local: &mut Local) -> TryPut
     let row = local.row;
     while is_putting(&local.activity) {
         match local.activity {
-            Activity::Insert(Insert::Link) => go_by_lesser(shared, pass, local),
+            Activity::Insert(Insert::Start) | Activity::Insert(Insert::Link) => {
+                go_by_lesser(shared, pass, local)
+            }
             _ => {
                 go_put(shared, pass, local);
             }

@@ -26,7 +26,7 @@ use kw_world::local::Local;
 /// next row.
 pub fn read_row(shared: &Shared, pass: &mut Pass, local: &mut Local)
     requires follows { Follows shared.now pass.old local.old }
-    requires stage { is_looking local.old.activity ≡ false → local.old.activity ≡ Activity.Read Read.Link }
+    requires stage { is_looking local.old.activity ≡ false → local.old.activity ≡ Activity.Read Read.Start }
     ensures on { Reaches shared.now pass.old pass.new local.new }
     ensures call { local.new.call ≡ local.old.call }
     ensures version { local.new.version ≡ local.old.version }
@@ -41,10 +41,10 @@ pub fn read_row(shared: &Shared, pass: &mut Pass, local: &mut Local)
 /// about to go along the row's list. Takes no memory.
 pub fn look_at_row(shared: &Shared, pass: &mut Pass, local: &mut Local)
     requires follows { Follows shared.now pass.old local.old }
-    requires stage { is_looking local.old.activity ≡ false → local.old.activity ≡ Activity.Read Read.Link }
+    requires stage { is_looking local.old.activity ≡ false → local.old.activity ≡ Activity.Read Read.Start }
     ensures on { Advances shared.now pass.old pass.new local.new }
     ensures looks { LooksOn local.old local.new }
-    ensures activity { local.new.activity ≡ Activity.Read Read.Link }
+    ensures activity { local.new.activity ≡ Activity.Read Read.Start }
 {
     if local.has_read {
         // a scan's next row, which no guess was made for
@@ -57,7 +57,7 @@ pub fn look_at_row(shared: &Shared, pass: &mut Pass, local: &mut Local)
 /// of them, to the end of the row, as `read_row` does. Takes no memory.
 pub fn read_list(shared: &Shared, pass: &mut Pass, local: &mut Local)
     requires follows { Follows shared.now pass.old local.old }
-    requires activity { local.old.activity ≡ Activity.Read Read.Link }
+    requires activity { local.old.activity ≡ Activity.Read Read.Start }
     ensures on { Reaches shared.now pass.old pass.new local.new }
     ensures call { local.new.call ≡ local.old.call }
     ensures version { local.new.version ≡ local.old.version }

@@ -8,8 +8,11 @@
 //! clauses to say. The walk to the next row is `go_by_rows`'s.
 ghost use Rattle.std.specs.Prelude.{◌≡◌, ◌≤◌, [], List, IsTrue, MatchOption};
 ghost use Rattle.kw_cells.specs.declared.cell.Cell.{Cell as AnyCell};
-ghost use Rattle.kw_live.specs.Streaming.{EndsRow, LeadsOn, ReadsCell, Streams};
+ghost use Rattle.kw_world.specs.Calls.{first_key};
+ghost use Rattle.kw_follow.specs.Following.{Follows};
+ghost use Rattle.kw_live.specs.Streaming.{BeginsCells, EndsRow, LeadsOn, ReadsCell, Streams};
 
+use crate::beginning::begin_list;
 use kw_cells::cell::Cell;
 use kw_follow::{Cursor, go_to_left_over};
 use kw_model::call::Call;
@@ -31,6 +34,19 @@ pub fn leads_on(local: &Local, upto: u32) -> bool
         && local.upper <= upto
         && local.remembered.as_slice().is_empty()
         && local.gathered.as_slice().is_empty()
+}
+
+/// Begins the walk of a scan along the list of a row that leads on; the least key that it reads is
+/// `first`. The answer is the cursor at its link. Takes no memory.
+#[inline(always)]
+pub fn begin_cells(shared: &Shared, pass: &mut Pass, local: &Local, first: u32) -> Cursor
+    requires follows { Follows shared.now pass.old local.now }
+    requires stage { local.now.activity ≡ Activity.Read Read.Start }
+    requires none { local.now.gathered ≡ [] }
+    requires least { first ≡ first_key local.now.call }
+    ensures { BeginsCells shared.now pass.old local.now pass.new result }
+{
+    begin_list(shared, pass, Cursor::of(local), local.built, first)
 }
 
 /// Goes on along the list to the next cell whose key is in the range from `first` to `upto`, that

@@ -16,7 +16,7 @@ use kw_follow::{
 };
 use kw_table::{Pass, Shared};
 use kw_words::link::Link;
-use kw_words::plain::unpack_key;
+use kw_words::plain::{unpack_built, unpack_key};
 use kw_world::activity::Activity;
 use kw_world::activity::look::Look;
 use kw_world::activity::walk::Walk;
@@ -96,8 +96,9 @@ fn walk_on(shared: &Shared, pass: &mut Pass, local: &mut Local)
     }
 }
 
-/// Goes from row to row, up to the one whose range holds the wanted key. Of the local the row and
-/// its least key are brought up alone, where the walk goes by a row.
+/// Goes from row to row, up to the one whose range holds the wanted key. Of the local the row,
+/// its least key and with how many cells it was built are brought up alone, where the walk goes by
+/// a row.
 ///
 /// What a get or a scan gathered in the row before, which the walk forgets, need not stand in the
 /// local. Takes no memory.
@@ -124,6 +125,7 @@ pub fn go_by_rows(shared: &Shared, pass: &mut Pass, local: &mut Local)
         if key <= local.want {
             local.row = row;
             local.lower = key;
+            local.built = unpack_built(least);
         } else {
             local.activity = Activity::Walk(Walk::NextLeast);
             see_row_least(local, least);

@@ -53,7 +53,7 @@ use Rattle.kw_world.specs.TakeTransitions.{keeping, left_of, take_reached}
 use Rattle.kw_world.specs.Transition.{Outcome, leave, outcome, row_linked, row_or_first, to}
 use Rattle.kw_world.specs.WalkTransitions.{offered}
 use Rattle.kw_world.specs.WorldView.{WorldView}
-use Rattle.kw_world.specs.WriteTransitions.{infant_cells, row_written, to_write_cell, to_write_entry, unmarked_link}
+use Rattle.kw_world.specs.WriteTransitions.{infant_cells, row_written, to_write_after, to_write_cell, to_write_entry, unmarked_link}
 use Rattle.kw_core.specs.Events.{event, local_of, world}
 use Rattle.kw_core.specs.Run.{history}
 use Rattle.kw_core.proofs.Runs.{history-world}
@@ -289,6 +289,9 @@ module _ (s : Shared) (o p q : Pass) (l m : Local) (c : Choice) (rows told : ℕ
   writes_cell : (j : ℕ) (k : Local) → Then (to_write_cell product j k)
   writes_cell j k = both (nat_lt j product.cells) _ _ (λ e. both (nat_lt j (length (infant_cells k))) _ _ (λ f. record { saw = tt }) (λ f. record { saw = tt })) (λ e. rows_on k)
 
+  writes_after : (j : ℕ) (k : Local) → Then (to_write_after product j k)
+  writes_after j k = both (nat_lt j (length (infant_cells k))) _ _ (λ e. record { saw = tt }) (λ e. writes_cell (j + 1) k)
+
   writes_entry : (i : ℕ) (k : Local) → Then (to_write_entry product i k)
   writes_entry i k = both (nat_lt i product.seats) _ _ (λ e. record { saw = tt }) (λ e. writes_cell 0 k)
 
@@ -393,7 +396,7 @@ module _ (s : Shared) (o p q : Pass) (l m : Local) (c : Choice) (rows told : ℕ
   event_at (Activity.Rebalance (Rebalance.Write (Write.Entry i))) is h n g e = so _ (next_is (Activity.Rebalance (Rebalance.Write (Write.Entry i))) is) (writes_entry (i + 1) l)
   event_at (Activity.Rebalance (Rebalance.Write (Write.Key j))) is h n g e = so _ (next_is (Activity.Rebalance (Rebalance.Write (Write.Key j))) is) record { saw = tt }
   event_at (Activity.Rebalance (Rebalance.Write (Write.Value j))) is h n g e = so _ (next_is (Activity.Rebalance (Rebalance.Write (Write.Value j))) is) record { saw = tt }
-  event_at (Activity.Rebalance (Rebalance.Write (Write.Version j))) is h n g e = so _ (next_is (Activity.Rebalance (Rebalance.Write (Write.Version j))) is) record { saw = tt }
+  event_at (Activity.Rebalance (Rebalance.Write (Write.Version j))) is h n g e = so _ (next_is (Activity.Rebalance (Rebalance.Write (Write.Version j))) is) (writes_after j l)
   event_at (Activity.Rebalance (Rebalance.Write (Write.After j))) is h n g e = so _ (next_is (Activity.Rebalance (Rebalance.Write (Write.After j))) is) (writes_cell (j + 1) l)
   event_at (Activity.Rebalance (Rebalance.Replace Replace.Start)) is h n g e = so _ (next_is (Activity.Rebalance (Rebalance.Replace Replace.Start)) is) (befores (offered rows c))
   event_at (Activity.Rebalance (Rebalance.Replace Replace.GuessedLeast)) is h n g e = so _ (next_is (Activity.Rebalance (Rebalance.Replace Replace.GuessedLeast)) is) (both (nat_lt (key_of_word told) l.lower) _ _ (λ f. record { saw = tt }) (λ f. record { saw = tt }))

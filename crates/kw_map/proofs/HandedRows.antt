@@ -22,7 +22,7 @@ use Rattle.kw_follow.specs.declared.cursor.Cursor.{Cursor}
 use Rattle.kw_follow.proofs.OneEvent.{follows_ranges}
 use Rattle.kw_follow.proofs.OwnEvents.{goes_trans}
 use Rattle.kw_follow.proofs.Reaching.{reaches_none}
-use Rattle.kw_live.specs.Streaming.{EndsRow, ReadsCell, Streams, streaming}
+use Rattle.kw_live.specs.Streaming.{BeginsCells, EndsRow, ReadsCell, Streams}
 use Rattle.kw_live.specs.Walking.{WalksFurther}
 use Rattle.kw_map.specs.Gather.{IsBelow, StandsAsBefore, Takes, TakesPrefix, last_key}
 use Rattle.kw_map.specs.Handing.{HandsOn, IsSettled, more_of, next_low, pair_with}
@@ -119,20 +119,14 @@ pub record IsHandingOn {S : Type 0} (g : GathererWords S) (s : Shared) (o : Pass
   pub took : HasTaken g old (pairs_of cells l.want upto l.version) low ended new
 
 -- at first no cell was read
-pub handed_begins : {S : Type 0} (g : GathererWords S) (s : Shared) (p : Pass) (l : Local) (upto : ℕ) (into : S) (w : Cursor) (low : ℕ) → Follows s p l → l.activity ≡ Activity.Read Read.Link → l.gathered ≡ [] → with_cursor l.activity w l ≡ l → low ≡ l.want → IsBelow (g.last into) l.want
-    → IsHandingOn g s p l upto into p l w low (Ok tt) into
-handed_begins g s p l upto into w low f lists none is wanted above = record {
+pub handed_begins : {S : Type 0} (g : GathererWords S) (s : Shared) (p q : Pass) (l : Local) (upto : ℕ) (into : S) (w : Cursor) (low : ℕ) → BeginsCells s p l q w → low ≡ l.want → IsBelow (g.last into) l.want → IsHandingOn g s p l upto into q l w low (Ok tt) into
+handed_begins g s p q l upto into w low begun wanted above = record {
   cells = [];
   same = refl;
-  goes = (reaches_none f).goes;
-  calls = refl;
-  held = refl;
-  streams = record {
-    follows = subst (λ (k : Local). Follows s p k) (sym same) f;
-    in_order = λ i j d u v. absurd (omega arith);
-    few = omega arith;
-    within = subst (λ n. n ≤ CELLS) (sym (ap (λ (k : Local). k.walked) is)) (follows_ranges s p l f).walked;
-  };
+  goes = begun.goes;
+  calls = begun.calls;
+  held = begun.held;
+  streams = begun.streams;
   settled = subst (IsSettled [] l.want l.version) (sym wanted) (settled_begins l.want upto l.version);
   took = record {
     below = subst (IsBelow (g.last into)) (sym wanted) above;
@@ -142,11 +136,6 @@ handed_begins g s p l upto into w low f lists none is wanted above = record {
     never_falls = omega arith;
   };
 }
-  where
-    same : streaming w [] l ≡ l
-    same =
-        ap (λ (a : Activity). with_cursor a w (record l { gathered = [] })) (sym lists)
-        ∙ (ap (λ (cells : List Cell). with_cursor l.activity w (record l { gathered = cells })) (sym none) ∙ is)
 
 module _ {S : Type 0} (g : GathererWords S) {s : Shared} {o p q : Pass} {l k n : Local} {upto : ℕ} {old mid : S} {w : Cursor} {low : ℕ} {ended : Result Unit Stop} (i : IsHandingOn g s o l upto old p k w low ended mid) where
   -- a cell more was read, and its pair handed on

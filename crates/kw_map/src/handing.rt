@@ -14,8 +14,7 @@ ghost use Rattle.kw_map.specs.Handing.{HandsOn, more_of, next_low};
 
 use crate::gather::{Gather, Stop};
 use kw_cells::cell::Cell;
-use kw_follow::Cursor;
-use kw_live::{go_by_rows, leads_on, look_at_row, next_cell};
+use kw_live::{begin_cells, go_by_rows, leads_on, look_at_row, next_cell};
 use kw_model::call::Call;
 use kw_table::{Pass, Shared};
 use kw_world::activity::Activity;
@@ -42,7 +41,7 @@ pub(crate) fn hand_rows<G: Gather>(
     requires above { IsBelow (G.last into.old) local.old.want }
     ensures goes { GoesTo shared.now pass.old pass.new }
     ensures follows { Follows shared.now pass.new local.new }
-    ensures activity { local.new.activity ≡ Activity.Read Read.Link }
+    ensures activity { local.new.activity ≡ Activity.Read Read.Start }
     ensures hands { HandsOn G.last G.stands G.stops pass.old local.old into.old pass.new local.new into.new result }
 {
     let mut ended = Ok(());
@@ -68,7 +67,7 @@ fn hand_row<G: Gather>(
     into: &mut G,
 ) -> Result<(), Stop>
     requires follows { Follows shared.now pass.old local.old }
-    requires stage { local.old.activity ≡ Activity.Read Read.Link }
+    requires stage { local.old.activity ≡ Activity.Read Read.Start }
     requires scan { (from : ℕ) × (local.old.call ≡ Some (Call.Scan from upto)) }
     requires leads { LeadsOn upto local.old }
     requires none { local.old.gathered ≡ [] }
@@ -84,7 +83,7 @@ fn hand_row<G: Gather>(
     let version = local.version;
     let mut low = u64::from(local.want);
     let mut ended = Ok(());
-    let mut cursor = Cursor::of(local);
+    let mut cursor = begin_cells(shared, pass, local, first);
     while let Some((cell, next)) = next_cell(shared, pass, local, cursor, first, upto) {
         cursor = next;
         ended = hand_cell(into, &mut low, version, cell, ended);

@@ -51,7 +51,7 @@ fn load(shared: &Shared, pass: &mut Pass, does: Operation) -> u64
         Kind::LoadCount => load_count(shared, pass, word),
         Kind::LoadClock => load_clock(shared, pass, word),
         Kind::LoadPend => load_pend(shared, pass, word),
-        Kind::LoadKey => load_key(shared, pass, word),
+        Kind::LoadKey => load_key(shared, pass, Choice::Go, word),
         Kind::LoadValue => load_value(shared, pass, word),
         Kind::LoadVersion => load_version(shared, pass, word),
         Kind::LoadAfter => load_after(shared, pass, word),

@@ -195,7 +195,7 @@ module _ (z : Sizes) (v : Words) (k : Local) (q : ℕ) (w : Written z v (Activit
     keys = λ j o. ap key_of_word (w.keys j (omega (arith, o, short)) o tt) ∙ ap (λ x. key_of_word (key_in x)) (here j o) ∙ key_of_word-key_word (cell_at j).key (sound j any_cell o).0;
     versions = λ j o. w.versions j (omega (arith, o, short)) tt ∙ ap (λ x. version_word (version_in x)) (here j o);
     first = ap cell_of_link_word (w.first tt) ∙ cell_of_link_word-cell_link_word (first_listed (infant_cells k)) (last_fits (infant_cells k) 0 z.cells _ refl short few);
-    after = λ j o. ap cell_of_link_word (w.afters j (omega (arith, o, short)) tt) ∙ cell_of_link_word-cell_link_word (listed_after (infant_cells k) j) (behind_fits (infant_cells k) j z.cells _ refl short few);
+    after = λ j o. ap cell_of_link_word (w.afters j (omega (arith, o, short)) o tt) ∙ cell_of_link_word-cell_link_word (listed_after (infant_cells k) j) (behind_fits (infant_cells k) j z.cells _ refl short few);
     listed = listed;
     below = below;
   }

@@ -121,6 +121,7 @@ own_balancing : (z : Sizes) (choice : Choice) (l : Local) (found : ℕ) (next : 
 own_balancing z choice l found next g o h settled Activity.Idle u = absurd u
 own_balancing z choice l found next g o h settled (Activity.Draw Draw.Settle) u = absurd u
 own_balancing z choice l found next g o h settled (Activity.Look (Look.Entry i)) u = absurd u
+own_balancing z choice l found next g o h settled (Activity.Read Read.Start) u = absurd u
 own_balancing z choice l found next g o h settled (Activity.Read Read.Link) u = absurd u
 own_balancing z choice l found next g o h settled (Activity.Read Read.Key) u = absurd u
 own_balancing z choice l found next g o h settled (Activity.Read Read.LeftOverKey) u = absurd u

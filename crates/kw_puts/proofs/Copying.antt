@@ -40,7 +40,7 @@ use Rattle.kw_core.specs.Stages.{IsAtRow}
 use Rattle.kw_core.specs.Step.{Step}
 use Rattle.kw_core.specs.Words.{Words}
 use Rattle.kw_core.proofs.Attempts.{in_range}
-use Rattle.kw_core.proofs.Arrows.{builds, Arrow, NextLook, looks, lists, NextLeftOver, goes_to_left_over, answers, ends_scan, scans_on, sees_stamped, sees_neither, is_gone_by, helps, finds_stamped, finds_other, list_ends, key_above, left_over_gone_by, gathers_left_over}
+use Rattle.kw_core.proofs.Arrows.{builds, Arrow, NextLook, looks, lists, NextLeftOver, goes_to_left_over, answers, ends_scan, scans_on, sees_stamped, sees_neither, is_gone_by, helps, finds_stamped, finds_other, list_ends, key_above, left_over_gone_by, gathers_left_over, first_ends}
 use Rattle.kw_core.proofs.Building.{Building, first_is_free, first_is_taken, sought_is_free, sought_is_taken, first_is_retired, sought_is_retired, pass_is_old, pass_is_young, frees_row, takes_row, loses_row, gives_one_back, gives_last_back, writes_link, begins_before, guesses_before, guess_before_fails, before_serves, before_is_above, takes_head_before, leads_to_full, leads_on_marked, leads_to_other, leads_nowhere, walks_before, walks_past, replaces_row, is_marked_before, is_replaced, makes_normal, makes_last_normal, draws_number, retires_row, retires_and_leaves}
 use Rattle.kw_core.proofs.Building as built
 use Rattle.kw_core.proofs.Copies.{ChangesListed, ChangesOrigin, copy_listed, listed_stays, none_listed_yet, origin_copied, origin_stays, rest_unlisted}
@@ -104,6 +104,10 @@ copied_entries z h o f l q i x = copied_like z h o f (Activity.Rebalance (Rebala
 -- a place beyond the row's cells
 copied_beyond : (z : Sizes) (h : History) (o : Origins) (f : Listed) (l : Local) (q i : ℕ) → Copied z h o f (Activity.Rebalance (Rebalance.Write (Write.Key i))) l q → Copied z h o f (Activity.Rebalance (Rebalance.Write (Write.Version i))) l q
 copied_beyond z h o f l q i x = copied_like z h o f (Activity.Rebalance (Rebalance.Write (Write.Key i))) (Activity.Rebalance (Rebalance.Write (Write.Version i))) l l q refl refl (λ j u m. m) (λ j u m. m) (λ n. (tt, λ j m. m)) x
+
+-- nor is one listed there
+copied_no_cell : (z : Sizes) (h : History) (o : Origins) (f : Listed) (l : Local) (q i : ℕ) → length (infant_cells l) ≤ i → Copied z h o f (Activity.Rebalance (Rebalance.Write (Write.After i))) l q → Copied z h o f (Activity.Rebalance (Rebalance.Write (Write.Key (i + 1)))) l q
+copied_no_cell z h o f l q i past x = copied_like z h o f (Activity.Rebalance (Rebalance.Write (Write.After i))) (Activity.Rebalance (Rebalance.Write (Write.Key (i + 1)))) l l q refl refl (λ j u m. omega (arith, m)) (λ j u m. omega (arith, u, past)) (λ n. (tt, λ j m. omega (arith, m))) x
 
 -- all cells are written
 copied_whole : (z : Sizes) (h : History) (o : Origins) (f : Listed) (l k : Local) (q i : ℕ) → infant_cells k ≡ infant_cells l → k.row ≡ l.row → z.cells ≤ i → length (infant_cells l) ≤ z.cells → Copied z h o f (Activity.Rebalance (Rebalance.Write (Write.Key i))) l q → Copied z h o f (Activity.Rebalance (Rebalance.Replace Replace.Start)) k q
@@ -349,7 +353,8 @@ module _ {z : Sizes} {r r' : Run} {s : ℕ} {choice : Choice} {l : Local} {e : L
   copies_own a k (built.writes_entry i next y) h n p w x = copies_entry z r'.history r'.origin r'.listed l short (n.hand tt) (i + 1) next y (copies_on st (Activity.Rebalance (Rebalance.Write (Write.Entry i))) (Activity.Rebalance (Rebalance.Write (Write.Entry (i + 1)))) h refl (λ q c d m. m) (λ q c d m. m) n (w tt) x (copies_stay st (Activity.Rebalance (Rebalance.Write (Write.Entry i))) (Activity.Rebalance (Rebalance.Write (Write.Entry (i + 1)))) h (λ q c m. m) (λ q c m. m) (λ j t m. m) (λ j t m. m) (λ t. (tt, λ j m. m))))
   copies_own a k (built.writes_key i) h n p w x = copies_at z r'.history r'.origin r'.listed (Activity.Rebalance (Rebalance.Write (Write.Value i))) l refl (copies_on st (Activity.Rebalance (Rebalance.Write (Write.Key i))) (Activity.Rebalance (Rebalance.Write (Write.Value i))) h refl (λ q c d m. m) (λ q c d m. m) n (w tt) x (copies_stay st (Activity.Rebalance (Rebalance.Write (Write.Key i))) (Activity.Rebalance (Rebalance.Write (Write.Value i))) h (λ q c m. m) (λ q c m. m) (λ j t m. m) (λ j t m. m) (λ t. (tt, λ j m. m))))
   copies_own a k (built.writes_value i) h n p w x = copies_at z r'.history r'.origin r'.listed (Activity.Rebalance (Rebalance.Write (Write.Version i))) l refl (copies_on st (Activity.Rebalance (Rebalance.Write (Write.Value i))) (Activity.Rebalance (Rebalance.Write (Write.Version i))) h refl (λ q c d m. m) (λ q c d m. m) n (w tt) x (copies_stay st (Activity.Rebalance (Rebalance.Write (Write.Value i))) (Activity.Rebalance (Rebalance.Write (Write.Version i))) h (λ q c m. m) (λ q c m. m) (λ j t m. m) (λ j t m. m) (λ t. (tt, λ j m. m))))
-  copies_own a k (built.writes_version i) h n p w x = copies_at z r'.history r'.origin r'.listed (Activity.Rebalance (Rebalance.Write (Write.After i))) l refl (copies_on st (Activity.Rebalance (Rebalance.Write (Write.Version i))) (Activity.Rebalance (Rebalance.Write (Write.After i))) h refl (λ q c d m. d m.0) (λ q c d m. m) n (w tt) x (copies_version st i h (w tt) (all_part (IsGathered r.history r.origin l.row) _ _ l.rebalance.kept (p tt))))
+  copies_own a k (built.writes_version i u) h n p w x = copies_at z r'.history r'.origin r'.listed (Activity.Rebalance (Rebalance.Write (Write.After i))) l refl (copies_on st (Activity.Rebalance (Rebalance.Write (Write.Version i))) (Activity.Rebalance (Rebalance.Write (Write.After i))) h refl (λ q c d m. d m.0) (λ q c d m. m) n (w tt) x (copies_version st i h (w tt) (all_part (IsGathered r.history r.origin l.row) _ _ l.rebalance.kept (p tt))))
+  copies_own a k (built.writes_no_cell i next u y) h n p w x = copies_cell z r'.history r'.origin r'.listed l short (n.hand tt) (i + 1) next y (copies_on st (Activity.Rebalance (Rebalance.Write (Write.Version i))) (Activity.Rebalance (Rebalance.Write (Write.Key (i + 1)))) h refl (λ q c d m. d m.0) (λ q c d m. m) n (w tt) x (λ m. copied_no_cell z r'.history r'.origin r'.listed l (infant l) i u (copies_version st i h (w tt) (all_part (IsGathered r.history r.origin l.row) _ _ l.rebalance.kept (p tt)) m)))
   copies_own a k (built.writes_after i next y) h n p w x = copies_cell z r'.history r'.origin r'.listed l short (n.hand tt) (i + 1) next y (copies_on st (Activity.Rebalance (Rebalance.Write (Write.After i))) (Activity.Rebalance (Rebalance.Write (Write.Key (i + 1)))) h refl (λ q c d m. m) (λ q c d m. d m.0) n (w tt) x (copies_link st i h))
   copies_own a k (begins_before next y) h n p w x = copies_before st (Activity.Rebalance (Rebalance.Replace Replace.Start)) h refl (λ q c m. m) (λ q c m. m) _ next y x
   copies_own a k (guesses_before q c y) h n p w x = copies_link_on st (Activity.Rebalance (Rebalance.Replace Replace.Start)) (Activity.Rebalance (Rebalance.Replace Replace.GuessedLeast)) _ h refl refl (λ q c m. m) (λ q c m. m) refl refl (λ i. refl) x
@@ -469,6 +474,7 @@ copies_by z v s choice l a l' h o f (is_gone_by next e n) built = copies_look z 
 copies_by z v s choice l a l' h o f (helps next e n) built = copies_look z h o f _ next _ n
 copies_by z v s choice l a l' h o f (finds_stamped c version next e n) built = copies_look z h o f _ next _ n
 copies_by z v s choice l a l' h o f (finds_other next e n) built = copies_look z h o f _ next _ n
+copies_by z v s choice l a l' h o f (first_ends next e n) built = copies_left_over z h o f _ next n
 copies_by z v s choice l a l' h o f (list_ends next e n) built = copies_left_over z h o f _ next n
 copies_by z v s choice l a l' h o f (key_above next e n) built = copies_left_over z h o f _ next n
 copies_by z v s choice l a l' h o f (left_over_gone_by next e n) built = copies_left_over z h o f _ next n

@@ -27,7 +27,7 @@ use Rattle.kw_core.proofs.Happens.{log_entry}
 use Rattle.kw_core.proofs.Happens.{Happens, knows_next, knows_other, not_chosen}
 use Rattle.kw_core.proofs.Building.{IsBuilding}
 use Rattle.kw_core.proofs.Arrows.{builds, Arrow, takes_full, announces_full, stamps_full, IsNotOwn, tidies}
-use Rattle.kw_core.proofs.Arrows.{takes_cell, stores_key, stores_value, announces, loads_clock, stamps, is_stamped, stores_version, reaches_cell, sees_none, key_before, key_same, key_after, version_before, version_after, stores_after, inserts, loses, clears}
+use Rattle.kw_core.proofs.Arrows.{takes_cell, stores_key, stores_value, announces, loads_clock, stamps, is_stamped, stores_version, reaches_cell, sees_none, key_before, key_same, key_after, version_before, version_after, stores_after, inserts, loses, clears, first_reaches, first_sees_none, inserts_at_first, inserts_behind}
 use Rattle.kw_core.proofs.InfantFrames.{version_stays}
 use Rattle.kw_puts.proofs.Owners.{true_false}
 use Rattle.kw_puts.proofs.Rely.{SameAttempt}
@@ -90,8 +90,12 @@ own_goes z r r' s choice l a l' (stamps e) h i p = inl (tt, ap (λ g. g.own) h.l
 own_goes z r r' s choice l a l' (is_stamped version e) h i p = inl (tt, ap (λ g. g.own) h.log)
 own_goes z r r' s choice l a l' (stamps_full n) h i p = inr (inr (lost_now z r r' s choice l l' n h i))
 own_goes z r r' s choice l a l' stores_version h i p = inl (tt, ap (λ g. g.own) h.log)
+own_goes z r r' s choice l a l' (first_reaches c y) h i p = inl (tt, ap (λ g. g.own) h.log)
 own_goes z r r' s choice l a l' (reaches_cell c y) h i p = inl (tt, ap (λ g. g.own) h.log)
+own_goes z r r' s choice l a l' (first_sees_none y) h i p = inl (tt, ap (λ g. g.own) h.log)
 own_goes z r r' s choice l a l' (sees_none y) h i p = inl (tt, ap (λ g. g.own) h.log)
+own_goes z r r' s choice l a l' (inserts_behind guess inside y) h i p = inl (tt, ap (λ g. g.own) h.log)
+own_goes z r r' s choice l a l' (inserts_at_first guess y) h i p = inl (tt, ap (λ g. g.own) h.log)
 own_goes z r r' s choice l a l' (key_before y) h i p = inl (tt, ap (λ g. g.own) h.log)
 own_goes z r r' s choice l a l' (key_same y) h i p = inl (tt, ap (λ g. g.own) h.log)
 own_goes z r r' s choice l a l' (key_after y) h i p = inl (tt, ap (λ g. g.own) h.log)

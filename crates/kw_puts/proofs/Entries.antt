@@ -37,7 +37,7 @@ use Rattle.kw_core.proofs.Happens.{Happens, knows_next, knows_other, not_exchang
 use Rattle.kw_core.proofs.Building.{IsBuilding}
 use Rattle.kw_core.proofs.BuiltNext.{IsAfterBuilding, built_next}
 use Rattle.kw_core.proofs.Arrows.{builds, Arrow, NextLook, looks, lists, NextLeftOver, goes_to_left_over, answers, ends_scan, scans_on, announces_full, stamps_full, IsNotOwn, tidies}
-use Rattle.kw_core.proofs.Arrows.{sees_pending, sees_stamped, sees_neither, is_wanted, is_gone_by, loads_to_help, helps, finds_stamped, finds_other, list_ends, key_above, left_over_gone_by, gathers_left_over, announces, loads_clock, stamps, is_stamped, stores_version, reaches_cell, sees_none, key_before, key_same, key_after, version_before, version_after, stores_after, inserts, loses, clears}
+use Rattle.kw_core.proofs.Arrows.{sees_pending, sees_stamped, sees_neither, is_wanted, is_gone_by, loads_to_help, helps, finds_stamped, finds_other, list_ends, key_above, left_over_gone_by, gathers_left_over, announces, loads_clock, stamps, is_stamped, stores_version, reaches_cell, sees_none, key_before, key_same, key_after, version_before, version_after, stores_after, inserts, loses, clears, first_ends, first_reaches, first_sees_none, inserts_at_first, inserts_behind}
 use Rattle.kw_core.proofs.FreezeFrame.{entry_frozen, entry_left}
 use Rattle.kw_core.proofs.InfantFrames.{ChangesEntry, entry_stays, entry_written}
 use Rattle.kw_rows.specs.Rows.{WasLinked}
@@ -155,8 +155,12 @@ published_goes z r r' s choice l a l' (stamps e) h i p = inr (inr (tt, refl))
 published_goes z r r' s choice l a l' (is_stamped version e) h i p = inr (inr (tt, refl))
 published_goes z r r' s choice l a l' (stamps_full n) h i p = inr (inl (unstamped_frozen z r r' s choice l l' n h i))
 published_goes z r r' s choice l a l' stores_version h i p = inr (inr (tt, refl))
+published_goes z r r' s choice l a l' (first_reaches c y) h i p = inr (inr (tt, refl))
 published_goes z r r' s choice l a l' (reaches_cell c y) h i p = inr (inr (tt, refl))
+published_goes z r r' s choice l a l' (first_sees_none y) h i p = inr (inr (tt, refl))
 published_goes z r r' s choice l a l' (sees_none y) h i p = inr (inr (tt, refl))
+published_goes z r r' s choice l a l' (inserts_behind guess inside y) h i p = inr (inr (tt, refl))
+published_goes z r r' s choice l a l' (inserts_at_first guess y) h i p = inr (inr (tt, refl))
 published_goes z r r' s choice l a l' (key_before y) h i p = inr (inr (tt, refl))
 published_goes z r r' s choice l a l' (key_same y) h i p = inr (inr (tt, refl))
 published_goes z r r' s choice l a l' (key_after y) h i p = inr (inr (tt, refl))
@@ -240,6 +244,7 @@ tries_own z r r' s choice l a l' (is_gone_by next e n) = look_tries z _ next _ n
 tries_own z r r' s choice l a l' (helps next e n) = look_tries z _ next _ n
 tries_own z r r' s choice l a l' (finds_stamped c version next e n) = look_tries z _ next _ n
 tries_own z r r' s choice l a l' (finds_other next e n) = look_tries z _ next _ n
+tries_own z r r' s choice l a l' (first_ends next e n) = left_over_tries _ next n
 tries_own z r r' s choice l a l' (list_ends next e n) = left_over_tries _ next n
 tries_own z r r' s choice l a l' (key_above next e n) = left_over_tries _ next n
 tries_own z r r' s choice l a l' (left_over_gone_by next e n) = left_over_tries _ next n
@@ -375,6 +380,7 @@ helps_own z r r' s choice l a l' (is_gone_by next e n) h i st p = look_sees z _ 
 helps_own z r r' s choice l a l' (helps next e n) h i st p = look_sees z _ next n p
 helps_own z r r' s choice l a l' (finds_stamped c version next e n) h i st p = look_sees z _ next n p
 helps_own z r r' s choice l a l' (finds_other next e n) h i st p = look_sees z _ next n p
+helps_own z r r' s choice l a l' (first_ends next e n) h i st p = cell_sees _ next n p
 helps_own z r r' s choice l a l' (list_ends next e n) h i st p = cell_sees _ next n p
 helps_own z r r' s choice l a l' (key_above next e n) h i st p = cell_sees _ next n p
 helps_own z r r' s choice l a l' (left_over_gone_by next e n) h i st p = cell_sees _ next n p

@@ -33,7 +33,7 @@ use Rattle.kw_core.proofs.Building.{Building, IsBuilding, makes_normal, makes_la
 use Rattle.kw_core.proofs.Arrows.{builds, Arrow, NextLook, looks, lists, NextLeftOver, goes_to_left_over, answers, ends_scan, scans_on}
 use Rattle.kw_core.proofs.Arrows.{sees_stamped, sees_neither, is_gone_by, helps, finds_stamped, finds_other, list_ends, key_above, left_over_gone_by, gathers_left_over, takes_cell, stores_key, stores_value}
 use Rattle.kw_core.proofs.Arrows.{freezes_count, sees_idle, sees_unstamped, remembers, remembers_last, sees_frozen, sees_frozen_last, freezes_entry, freezes_last, looks_again, sees_quiet, sees_quiet_last, helps_scan, sees_drawn, sees_drawn_last, draws_for, settles_scan, settles_last, finds_drawn, finds_drawn_last, finds_no_scan, finds_no_scan_last}
-use Rattle.kw_core.proofs.Arrows.{take_leads, takes_left, takes_no_more, takes_key, takes_version, keeps_taken, takes_left_key, keeps_left, keeps_no_more}
+use Rattle.kw_core.proofs.Arrows.{take_leads, takes_left, takes_no_more, takes_key, takes_version, keeps_taken, takes_left_key, keeps_left, keeps_no_more, first_ends}
 use Rattle.kw_core.proofs.FreezeFrame.{entry_frozen, entry_left, freezes_given}
 use Rattle.kw_core.proofs.BuiltNext.{IsAfterBuilding, built_keeps, built_next}
 use Rattle.kw_rows.specs.Rows.{WasLinked}
@@ -108,6 +108,7 @@ fresh_from z v s choice l a l' (is_gone_by next e n) p = look_puts z _ next n (f
 fresh_from z v s choice l a l' (helps next e n) p = look_puts z _ next n (fresh_puts next p)
 fresh_from z v s choice l a l' (finds_stamped c version next e n) p = look_puts z _ next n (fresh_puts next p)
 fresh_from z v s choice l a l' (finds_other next e n) p = look_puts z _ next n (fresh_puts next p)
+fresh_from z v s choice l a l' (first_ends next e n) p = cell_puts _ next n (fresh_puts next.activity p)
 fresh_from z v s choice l a l' (list_ends next e n) p = cell_puts _ next n (fresh_puts next.activity p)
 fresh_from z v s choice l a l' (key_above next e n) p = cell_puts _ next n (fresh_puts next.activity p)
 fresh_from z v s choice l a l' (left_over_gone_by next e n) p = cell_puts _ next n (fresh_puts next.activity p)
@@ -334,6 +335,7 @@ freezes_own z r r' s choice l a l' (is_gone_by next e n) h i = unfrozen z r r' s
 freezes_own z r r' s choice l a l' (helps next e n) h i = unfrozen z r r' s choice l _ l' h i _ l' (look_freezes z _ next n)
 freezes_own z r r' s choice l a l' (finds_stamped c version next e n) h i = unfrozen z r r' s choice l _ l' h i _ l' (look_freezes z _ next n)
 freezes_own z r r' s choice l a l' (finds_other next e n) h i = unfrozen z r r' s choice l _ l' h i _ l' (look_freezes z _ next n)
+freezes_own z r r' s choice l a l' (first_ends next e n) h i = unfrozen z r r' s choice l _ l' h i _ l' (left_over_freezes _ next n)
 freezes_own z r r' s choice l a l' (list_ends next e n) h i = unfrozen z r r' s choice l _ l' h i _ l' (left_over_freezes _ next n)
 freezes_own z r r' s choice l a l' (key_above next e n) h i = unfrozen z r r' s choice l _ l' h i _ l' (left_over_freezes _ next n)
 freezes_own z r r' s choice l a l' (left_over_gone_by next e n) h i = unfrozen z r r' s choice l _ l' h i _ l' (left_over_freezes _ next n)

@@ -179,6 +179,7 @@ helps_from z v s choice l (Activity.Look (Look.Entry j)) k t b x = absurd (helps
 helps_from z v s choice l (Activity.Look Look.Key) k t b x = absurd (helps_not_read t k.activity x (after_read z v s choice l (Activity.Look Look.Key) k b tt))
 helps_from z v s choice l (Activity.Look Look.Clock) k t b x = absurd (helps_not_read t k.activity x (after_read z v s choice l (Activity.Look Look.Clock) k b tt))
 helps_from z v s choice l (Activity.Look Look.Help) k t b x = absurd (helps_not_read t k.activity x (after_read z v s choice l (Activity.Look Look.Help) k b tt))
+helps_from z v s choice l (Activity.Read Read.Start) k t b x = absurd (helps_not_read t k.activity x (after_read z v s choice l (Activity.Read Read.Start) k b tt))
 helps_from z v s choice l (Activity.Read Read.Link) k t b x = absurd (helps_not_read t k.activity x (after_read z v s choice l (Activity.Read Read.Link) k b tt))
 helps_from z v s choice l (Activity.Read Read.Key) k t b x = absurd (helps_not_read t k.activity x (after_read z v s choice l (Activity.Read Read.Key) k b tt))
 helps_from z v s choice l (Activity.Read Read.Version) k t b x = absurd (helps_not_read t k.activity x (after_read z v s choice l (Activity.Read Read.Version) k b tt))

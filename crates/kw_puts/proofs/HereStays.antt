@@ -21,7 +21,7 @@ use Rattle.kw_core.specs.declared.seat_log.SeatLog.{SeatLog}
 use Rattle.kw_core.specs.Stages.{IsAtRow, IsPutting}
 use Rattle.kw_core.specs.Step.{Step}
 use Rattle.kw_core.proofs.Arrows.{builds, Arrow}
-use Rattle.kw_core.proofs.Arrows.{sees_stamped, sees_neither, is_gone_by, helps, finds_stamped, finds_other, list_ends, key_above, left_over_gone_by, gathers_left_over, takes_cell, stores_key, stores_value, announces, loads_clock, stamps, is_stamped, stores_version, reaches_cell, sees_none, key_before, key_same, key_after, version_before, version_after, stores_after, inserts, loses}
+use Rattle.kw_core.proofs.Arrows.{sees_stamped, sees_neither, is_gone_by, helps, finds_stamped, finds_other, list_ends, key_above, left_over_gone_by, gathers_left_over, takes_cell, stores_key, stores_value, announces, loads_clock, stamps, is_stamped, stores_version, reaches_cell, sees_none, key_before, key_same, key_after, version_before, version_after, stores_after, inserts, loses, first_ends, first_reaches, first_sees_none, inserts_at_first, inserts_behind}
 use Rattle.kw_core.proofs.BuiltNext.{built_next}
 use Rattle.kw_core.proofs.Fates.{fate_stays}
 use Rattle.kw_core.proofs.Happens.{Happens, log_entry}
@@ -51,8 +51,12 @@ puts_from z r r' s choice l a l' loads_clock h p = puts_on tt (ap (λ (g : SeatL
 puts_from z r r' s choice l a l' (stamps e) h p = puts_on tt (ap (λ (g : SeatLog). g.own) h.log)
 puts_from z r r' s choice l a l' (is_stamped version e) h p = puts_on tt (ap (λ (g : SeatLog). g.own) h.log)
 puts_from z r r' s choice l a l' stores_version h p = puts_on tt (ap (λ (g : SeatLog). g.own) h.log)
+puts_from z r r' s choice l a l' (first_reaches c y) h p = puts_on tt (ap (λ (g : SeatLog). g.own) h.log)
 puts_from z r r' s choice l a l' (reaches_cell c y) h p = puts_on tt (ap (λ (g : SeatLog). g.own) h.log)
+puts_from z r r' s choice l a l' (first_sees_none y) h p = puts_on tt (ap (λ (g : SeatLog). g.own) h.log)
 puts_from z r r' s choice l a l' (sees_none y) h p = puts_on tt (ap (λ (g : SeatLog). g.own) h.log)
+puts_from z r r' s choice l a l' (inserts_behind guess inside y) h p = puts_on tt (ap (λ (g : SeatLog). g.own) h.log)
+puts_from z r r' s choice l a l' (inserts_at_first guess y) h p = puts_on tt (ap (λ (g : SeatLog). g.own) h.log)
 puts_from z r r' s choice l a l' (key_before y) h p = puts_on tt (ap (λ (g : SeatLog). g.own) h.log)
 puts_from z r r' s choice l a l' (key_same y) h p = puts_on tt (ap (λ (g : SeatLog). g.own) h.log)
 puts_from z r r' s choice l a l' (key_after y) h p = puts_on tt (ap (λ (g : SeatLog). g.own) h.log)
@@ -67,6 +71,7 @@ puts_from z r r' s choice l a l' (is_gone_by next e n) h p = look_puts z _ next 
 puts_from z r r' s choice l a l' (helps next e n) h p = look_puts z _ next n p
 puts_from z r r' s choice l a l' (finds_stamped c version next e n) h p = look_puts z _ next n p
 puts_from z r r' s choice l a l' (finds_other next e n) h p = look_puts z _ next n p
+puts_from z r r' s choice l a l' (first_ends next e n) h p = cell_puts _ next n p
 puts_from z r r' s choice l a l' (list_ends next e n) h p = cell_puts _ next n p
 puts_from z r r' s choice l a l' (key_above next e n) h p = cell_puts _ next n p
 puts_from z r r' s choice l a l' (left_over_gone_by next e n) h p = cell_puts _ next n p

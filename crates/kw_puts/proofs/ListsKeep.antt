@@ -15,7 +15,8 @@ use Rattle.kw_world.specs.Step.{word}
 use Rattle.kw_core.specs.History.{attempt}
 use Rattle.kw_core.specs.Run.{Run, start}
 use Rattle.kw_core.specs.Listed.{none_listed}
-use Rattle.kw_words.specs.Plain.{cell_of_link_word}
+use Rattle.kw_words.specs.Plain.{built_of_word, cell_of_link_word}
+use Rattle.kw_words.proofs.PlainWords.{built_of_word-zero}
 use Rattle.kw_core.specs.Stages.{IsPutting, IsStamped, IsStored, IsPutClear, IsInserting}
 use Rattle.kw_core.specs.Step.{Step}
 use Rattle.kw_core.proofs.Happens.{Happens, log_entry, each_seat}
@@ -24,7 +25,7 @@ use Rattle.kw_puts.specs.Here.{IsHere}
 use Rattle.kw_puts.specs.Puts.{IsCurrent, IsOver, Puts}
 use Rattle.kw_puts.proofs.CellsOf.{cell_key}
 use Rattle.kw_rows.specs.Rows.{WasLinked}
-use Rattle.kw_shape.proofs.LinkedRows.{fresh_linked, was_below}
+use Rattle.kw_shape.proofs.LinkedRows.{fresh_linked, linked_built, was_below}
 use Rattle.kw_core.proofs.Attempts.{in_range}
 use Rattle.kw_puts.proofs.AttemptCells.{copy_was}
 use Rattle.kw_puts.proofs.Relinked.{ListAt, new_list}
@@ -123,6 +124,7 @@ module _ (z : Sizes) (r r' : Run) (s : ℕ) (choice : Choice) (l : Local) (a : A
         cells = λ c t. cells_keep q c w k t;
         leads = stays_sound z.cells _ _ (list_step z r r' s choice l a l' h i q w) (i.lists.leads q w);
         copied = λ c put o e d. copied_keep q c put w o e d;
+        built = λ c u. listed_stays z r r' s choice l a l' h i q c w (i.lists.built q c w (omega (arith, u, linked_built a h i.shape q w)));
       }
       which (inr n) = new_list z r r' s choice l a l' h i st q k n
 
@@ -152,6 +154,7 @@ module _ (z : Sizes) (r r' : Run) (s : ℕ) (choice : Choice) (l : Local) (a : A
     cells = λ q c k t. (list_at q k).cells c t;
     leads = λ q k. (list_at q k).leads;
     copied = λ q c put k o e d. (list_at q k).copied c put o e d;
+    built = λ q c k u. (list_at q k).built c u;
     own = each_seat h (λ t k. IsOwnListed r'.listed k.activity k) (own_listed z r r' s choice l a l' h.arrow h i) own_other;
     old = old_listed;
     inserts = each_seat h (λ t k. Inserts z.cells (list_in (word z r'.world) r'.listed k.row) k.activity k) (inserts_if z.cells _ l'.activity l' (inserts_own z r r' s choice l a l' h.arrow h i)) inserts_other;
@@ -168,6 +171,7 @@ pub lists_start : (z : Sizes) (o : Opening) → IsOpening z o → Lists z (start
 lists_start z o i = record {
   cells = λ q c k t. let x : false ≡ true = t in absurd (cc);
   copied = λ q c p k o e d. let x : None ≡ Some p = e in absurd (cc);
+  built = λ q c k u. absurd (omega (arith, u, ap built_of_word (opens z o i (name.Least q) (was_below z (start z o) (shape_starts z o i) q k)), built_of_word-zero));
   leads = λ q k. empty_sound z.cells (list_in (word z (opened z o)) none_listed q) (record { none = λ c. refl; first = ap cell_of_link_word (opens z o i (name.First q) (was_below z (start z o) (shape_starts z o i) q k)) ∙ no_link });
   own = each_rests z o (λ t l. IsOwnListed none_listed l.activity l) (λ t. record { unlisted = λ u. refl; listed = λ u. absurd u });
   old = λ p w. absurd (omega arith);

@@ -43,7 +43,7 @@ use Rattle.kw_core.proofs.Changes.{Makes, makes_nothing, makes_begin, makes_add,
 use Rattle.kw_core.proofs.Arrows.{builds, Arrow}
 use Rattle.kw_core.proofs.Arrows.{sees_stamped, sees_neither, is_gone_by, helps, finds_stamped, finds_other, list_ends, key_above, left_over_gone_by, gathers_left_over}
 use Rattle.kw_core.proofs.Arrows.{freezes_count, sees_idle, sees_unstamped, remembers, remembers_last, sees_frozen, sees_frozen_last, freezes_entry, freezes_last, looks_again, sees_quiet, sees_quiet_last, helps_scan, sees_drawn, sees_drawn_last, draws_for, settles_scan, settles_last, finds_drawn, finds_drawn_last, finds_no_scan, finds_no_scan_last}
-use Rattle.kw_core.proofs.Arrows.{take_leads, takes_left, takes_no_more, takes_key, takes_version, keeps_taken, takes_left_key, keeps_left, keeps_no_more}
+use Rattle.kw_core.proofs.Arrows.{take_leads, takes_left, takes_no_more, takes_key, takes_version, keeps_taken, takes_left_key, keeps_left, keeps_no_more, first_ends}
 use Rattle.kw_core.proofs.Happens.{Happens, log_entry}
 use Rattle.kw_puts.specs.Freezes.{IsToFreeze, IsUnsettled, HasFrozen, IsMarkOf, IsBeforeTaking, Remembers}
 use Rattle.kw_puts.specs.Puts.{OwnsAttempt, HasCell, Helps, IsCurrent, IsHere, IsMadeIn, IsOver, IsPublishedAt, entry_of}
@@ -380,6 +380,7 @@ remembers_own z r r' s choice l a l' (is_gone_by next e n) h i st = unfrozen z r
 remembers_own z r r' s choice l a l' (helps next e n) h i st = unfrozen z r r' s choice l _ l' h i st next l' (look_freezes z _ next n) (before_taking next (look_freezes z _ next n))
 remembers_own z r r' s choice l a l' (finds_stamped c version next e n) h i st = unfrozen z r r' s choice l _ l' h i st next l' (look_freezes z _ next n) (before_taking next (look_freezes z _ next n))
 remembers_own z r r' s choice l a l' (finds_other next e n) h i st = unfrozen z r r' s choice l _ l' h i st next l' (look_freezes z _ next n) (before_taking next (look_freezes z _ next n))
+remembers_own z r r' s choice l a l' (first_ends next e n) h i st = unfrozen z r r' s choice l _ l' h i st next.activity l' (left_over_freezes _ next n) (before_taking next.activity (left_over_freezes _ next n))
 remembers_own z r r' s choice l a l' (list_ends next e n) h i st = unfrozen z r r' s choice l _ l' h i st next.activity l' (left_over_freezes _ next n) (before_taking next.activity (left_over_freezes _ next n))
 remembers_own z r r' s choice l a l' (key_above next e n) h i st = unfrozen z r r' s choice l _ l' h i st next.activity l' (left_over_freezes _ next n) (before_taking next.activity (left_over_freezes _ next n))
 remembers_own z r r' s choice l a l' (left_over_gone_by next e n) h i st = unfrozen z r r' s choice l _ l' h i st next.activity l' (left_over_freezes _ next n) (before_taking next.activity (left_over_freezes _ next n))

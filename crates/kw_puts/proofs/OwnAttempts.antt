@@ -42,7 +42,7 @@ use Rattle.kw_core.proofs.Steps.{new_stands}
 use Rattle.kw_core.proofs.Happens.{Happens, chosen, not_chosen, exchanged, not_exchanged}
 use Rattle.kw_core.proofs.BuiltNext.{IsAfterBuilding, built_next}
 use Rattle.kw_core.proofs.Arrows.{builds, Arrow, NextLook, looks, lists, NextLeftOver, goes_to_left_over, answers, ends_scan, scans_on, IsNotOwn}
-use Rattle.kw_core.proofs.Arrows.{sees_stamped, sees_neither, is_gone_by, helps, finds_stamped, finds_other, list_ends, key_above, left_over_gone_by, gathers_left_over, takes_cell, stores_key, stores_value, announces, loads_clock, stamps, is_stamped, stores_version, reaches_cell, sees_none, key_before, key_same, key_after, version_before, version_after, stores_after, inserts, loses}
+use Rattle.kw_core.proofs.Arrows.{sees_stamped, sees_neither, is_gone_by, helps, finds_stamped, finds_other, list_ends, key_above, left_over_gone_by, gathers_left_over, takes_cell, stores_key, stores_value, announces, loads_clock, stamps, is_stamped, stores_version, reaches_cell, sees_none, key_before, key_same, key_after, version_before, version_after, stores_after, inserts, loses, first_ends, first_reaches, first_sees_none, inserts_at_first, inserts_behind}
 use Rattle.kw_core.proofs.Frame.{WritesOwnEntry}
 use Rattle.kw_core.proofs.FreezeFrame.{FreezesEntry}
 use Rattle.kw_core.proofs.InfantFrames.{entry_stays as entry_same, key_stays}
@@ -394,8 +394,8 @@ found_stamped z r r' s choice l version e h i st = subst (OwnsAttempt (word z r'
     is = stamped_entry (attempt r.history (r.seats s).own) l.cell version own.cell entry
 
 -- the version is stored
-version_stored : (z : Sizes) (r r' : Run) (s : ℕ) (choice : Choice) (l : Local) → Happens z r r' s choice l (to_insert l).local (Activity.Put Put.Version) → Below z r → Step r.history r'.history (log_entry z r (Activity.Put Put.Version) s choice l) → OwnsAttempt (word z r'.world) r'.history s (Activity.Insert Insert.Link) (to_insert l).local (r'.seats s)
-version_stored z r r' s choice l h i st = subst (OwnsAttempt (word z r'.world) r'.history s (Activity.Insert Insert.Link) (to_insert l).local) (sym h.log) (record {
+version_stored : (z : Sizes) (r r' : Run) (s : ℕ) (choice : Choice) (l : Local) → Happens z r r' s choice l (to_insert l).local (Activity.Put Put.Version) → Below z r → Step r.history r'.history (log_entry z r (Activity.Put Put.Version) s choice l) → OwnsAttempt (word z r'.world) r'.history s (Activity.Insert Insert.Start) (to_insert l).local (r'.seats s)
+version_stored z r r' s choice l h i st = subst (OwnsAttempt (word z r'.world) r'.history s (Activity.Insert Insert.Start) (to_insert l).local) (sym h.log) (record {
   within = omega (arith, own.within, goes.more_attempts);
   seat = rw same own.seat;
   call = rw same own.call;
@@ -539,8 +539,12 @@ owns_own z r r' s choice l a l' loads_clock h i st after k p = clock_loaded z r 
 owns_own z r r' s choice l a l' (stamps e) h i st after k p = cell_stamped z r r' s choice l (sym (pend_word_of _ _ e)) h i st
 owns_own z r r' s choice l a l' (is_stamped version e) h i st after k p = found_stamped z r r' s choice l version (sym (pend_word_of _ _ e)) h i st
 owns_own z r r' s choice l a l' stores_version h i st after k p = version_stored z r r' s choice l h i st
+owns_own z r r' s choice l a l' (first_reaches c y) h i st after k p = insert_stays z r r' s choice l (Activity.Insert Insert.Start) l' h i st tt (Activity.Insert Insert.Key) (λ x. x) (λ x. x) (λ x. x) (λ x. x) h.log h.history (λ x. x) (λ x. x) (λ x. x) refl refl refl refl
 owns_own z r r' s choice l a l' (reaches_cell c y) h i st after k p = insert_stays z r r' s choice l (Activity.Insert Insert.Link) l' h i st tt (Activity.Insert Insert.Key) (λ x. x) (λ x. x) (λ x. x) (λ x. x) h.log h.history (λ x. x) (λ x. x) (λ x. x) refl refl refl refl
+owns_own z r r' s choice l a l' (first_sees_none y) h i st after k p = insert_stays z r r' s choice l (Activity.Insert Insert.Start) l' h i st tt (Activity.Insert Insert.Set) (λ x. x) (λ x. x) (λ x. x) (λ x. x) h.log h.history (λ x. x) (λ x. x) (λ x. x) refl refl refl refl
 owns_own z r r' s choice l a l' (sees_none y) h i st after k p = insert_stays z r r' s choice l (Activity.Insert Insert.Link) l' h i st tt (Activity.Insert Insert.Set) (λ x. x) (λ x. x) (λ x. x) (λ x. x) h.log h.history (λ x. x) (λ x. x) (λ x. x) refl refl refl refl
+owns_own z r r' s choice l a l' (inserts_behind guess inside y) h i st after k p = insert_stays z r r' s choice l (Activity.Insert Insert.Start) l' h i st tt (Activity.Insert Insert.Link) (λ x. x) (λ x. x) (λ x. x) (λ x. x) h.log h.history (λ x. x) (λ x. x) (λ x. x) refl refl refl refl
+owns_own z r r' s choice l a l' (inserts_at_first guess y) h i st after k p = insert_stays z r r' s choice l (Activity.Insert Insert.Start) l' h i st tt (Activity.Insert Insert.Link) (λ x. x) (λ x. x) (λ x. x) (λ x. x) h.log h.history (λ x. x) (λ x. x) (λ x. x) refl refl refl refl
 owns_own z r r' s choice l a l' (key_before y) h i st after k p = insert_stays z r r' s choice l (Activity.Insert Insert.Key) l' h i st tt (Activity.Insert Insert.Link) (λ x. x) (λ x. x) (λ x. x) (λ x. x) h.log h.history (λ x. x) (λ x. x) (λ x. x) refl refl refl refl
 owns_own z r r' s choice l a l' (key_same y) h i st after k p = insert_stays z r r' s choice l (Activity.Insert Insert.Key) l' h i st tt (Activity.Insert Insert.Version) (λ x. x) (λ x. x) (λ x. x) (λ x. x) h.log h.history (λ x. x) (λ x. x) (λ x. x) refl refl refl refl
 owns_own z r r' s choice l a l' (key_after y) h i st after k p = insert_stays z r r' s choice l (Activity.Insert Insert.Key) l' h i st tt (Activity.Insert Insert.Set) (λ x. x) (λ x. x) (λ x. x) (λ x. x) h.log h.history (λ x. x) (λ x. x) (λ x. x) refl refl refl refl
@@ -548,13 +552,14 @@ owns_own z r r' s choice l a l' (version_before y) h i st after k p = insert_sta
 owns_own z r r' s choice l a l' (version_after y) h i st after k p = insert_stays z r r' s choice l (Activity.Insert Insert.Version) l' h i st tt (Activity.Insert Insert.Set) (λ x. x) (λ x. x) (λ x. x) (λ x. x) h.log h.history (λ x. x) (λ x. x) (λ x. x) refl refl refl refl
 owns_own z r r' s choice l a l' stores_after h i st after k p = insert_stays z r r' s choice l (Activity.Insert Insert.Set) l' h i st tt (Activity.Insert Insert.Exchange) (λ x. x) (λ x. x) (λ x. x) (λ x. x) h.log h.history (λ x. x) (λ x. x) (λ x. x) refl refl refl refl
 owns_own z r r' s choice l a l' (inserts y) h i st after k p = insert_stays z r r' s choice l (Activity.Insert Insert.Exchange) l' h i st tt (Activity.Put Put.Clear) (λ x. x) (λ x. x) (λ x. x) (λ x. x) h.log h.history (λ x. x) (λ x. x) (λ x. x) refl refl refl refl
-owns_own z r r' s choice l a l' (loses y) h i st after k p = insert_stays z r r' s choice l (Activity.Insert Insert.Exchange) l' h i st tt (Activity.Insert Insert.Link) (λ x. x) (λ x. x) (λ x. x) (λ x. x) h.log h.history (λ x. x) (λ x. x) (λ x. x) refl refl refl refl
+owns_own z r r' s choice l a l' (loses y) h i st after k p = insert_stays z r r' s choice l (Activity.Insert Insert.Exchange) l' h i st tt (Activity.Insert Insert.Start) (λ x. x) (λ x. x) (λ x. x) (λ x. x) h.log h.history (λ x. x) (λ x. x) (λ x. x) refl refl refl refl
 owns_own z r r' s choice l a l' (sees_stamped j c version next e n) h i st after k p = look_puts z _ next n p
 owns_own z r r' s choice l a l' (sees_neither j next e n) h i st after k p = look_puts z _ next n p
 owns_own z r r' s choice l a l' (is_gone_by next e n) h i st after k p = look_puts z _ next n p
 owns_own z r r' s choice l a l' (helps next e n) h i st after k p = look_puts z _ next n p
 owns_own z r r' s choice l a l' (finds_stamped c version next e n) h i st after k p = look_puts z _ next n p
 owns_own z r r' s choice l a l' (finds_other next e n) h i st after k p = look_puts z _ next n p
+owns_own z r r' s choice l a l' (first_ends next e n) h i st after k p = cell_puts _ next n p
 owns_own z r r' s choice l a l' (list_ends next e n) h i st after k p = cell_puts _ next n p
 owns_own z r r' s choice l a l' (key_above next e n) h i st after k p = cell_puts _ next n p
 owns_own z r r' s choice l a l' (left_over_gone_by next e n) h i st after k p = cell_puts _ next n p

@@ -20,18 +20,20 @@ use Rattle.kw_world.specs.declared.activity.walk.Walk.TheVariants as Walk
 use Rattle.kw_world.specs.declared.local.Local.{Local}
 use Rattle.kw_world.specs.declared.event.Choice.{Choice}
 use Rattle.kw_world.specs.Calls.{first_key}
-use Rattle.kw_world.specs.ListTransitions.{link_name, one_more, is_newer}
+use Rattle.kw_world.specs.ListTransitions.{link_name, cell_guess, one_more, is_newer}
 use Rattle.kw_world.specs.Sane.{IsCellBelow, IsKnown}
 use Rattle.kw_world.specs.Sizes.{Sizes}
 use Rattle.kw_world.specs.Step.{word}
+use Rattle.kw_world.proofs.Transitions.{first_loads}
 use Rattle.kw_core.specs.Run.{Run}
 use Rattle.kw_core.specs.Stages.{IsPublished, IsPutting, IsStamped, IsStored, IsInserting, IsUnlisted, IsAtRow}
 use Rattle.kw_core.proofs.BuiltNext.{built_next}
-use Rattle.kw_core.proofs.Arrows.{builds, Arrow, sees_stamped, sees_neither, is_gone_by, helps, finds_stamped, finds_other, list_ends, key_above, left_over_gone_by, gathers_left_over, stores_version, reaches_cell, sees_none, key_before, key_same, key_after, version_before, version_after, stores_after, loses}
+use Rattle.kw_core.proofs.Arrows.{builds, Arrow, sees_stamped, sees_neither, is_gone_by, helps, finds_stamped, finds_other, list_ends, key_above, left_over_gone_by, gathers_left_over, stores_version, reaches_cell, sees_none, key_before, key_same, key_after, version_before, version_after, stores_after, loses, first_ends, first_sees_none, first_reaches, inserts_behind, inserts_at_first}
 use Rattle.kw_core.proofs.InfantFrames.{key_stays, version_stays}
 use Rattle.kw_core.proofs.Happens.{Happens}
 use Rattle.kw_rows.specs.Rows.{WasLinked}
 use Rattle.kw_shape.proofs.LinkedRows.{fresh_linked}
+use Rattle.kw_shape.proofs.Walking.{past}
 use Rattle.kw_puts.specs.Puts.{OwnsAttempt}
 use Rattle.kw_puts.specs.Lists.{list_in, Inserts, WalksList}
 use Rattle.kw_puts.specs.Below.{Below}
@@ -43,6 +45,7 @@ use Rattle.kw_puts.proofs.OwnAttempts.{acting_own, built_puts, inserting_puts, i
 
 -- what a put knows it still knows, where its own cell is left as it was
 pub inserts_stay : (n : ℕ) (row row' : Row) (b : Activity) (k : Local) → Leaves n row row' → (IsInserting b → LeavesOwn row row' k.cell) → Inserts n row b k → Inserts n row' b k
+inserts_stay n row row' (Activity.Insert Insert.Start) k w o x = from_stays n row row' k.cell w (o tt).cell k.lost k.link x
 inserts_stay n row row' (Activity.Insert Insert.Link) k w o x = from_stays n row row' k.cell w (o tt).cell k.lost k.link x
 inserts_stay n row row' (Activity.Insert Insert.Key) k w o x = (at_stays n row row' k.cell w (o tt).cell k.lost k.link k.held x.0, x.1)
 inserts_stay n row row' (Activity.Insert Insert.Version) k w o x =
@@ -54,6 +57,7 @@ inserts_stay n row row' _ k w o x = tt
 
 -- so is its walk
 pub walks_stay : (n : ℕ) (row row' : Row) (b : Activity) (k : Local) → Leaves n row row' → Inserts n row b k → WalksList n row b k → WalksList n row' b k
+walks_stay n row row' (Activity.Insert Insert.Start) k w x y = (walk_stays n row row' k.link k.walked w y.0, y.1)
 walks_stay n row row' (Activity.Insert Insert.Link) k w x y = walk_stays n row row' k.link k.walked w y
 walks_stay n row row' (Activity.Insert Insert.Key) k w x y = (behind_same row row' w.cell k.link k.place x.0.from.on (w.cell k.place y.1.on) y.0, walk_stays n row row' (Some k.place) k.walked w y.1)
 walks_stay n row row' (Activity.Insert Insert.Version) k w x y = (behind_same row row' w.cell k.link k.place x.0.from.on (w.cell k.place y.1.on) y.0, walk_stays n row row' (Some k.place) k.walked w y.1)
@@ -76,6 +80,7 @@ inserts_if n row (Activity.Walk Walk.First) k f = tt
 inserts_if n row _ k f = tt
 
 pub walks_if : (n : ℕ) (row : Row) (b : Activity) (k : Local) → (IsInserting b → WalksList n row b k) → WalksList n row b k
+walks_if n row (Activity.Insert Insert.Start) k f = f tt
 walks_if n row (Activity.Insert Insert.Link) k f = f tt
 walks_if n row (Activity.Insert Insert.Key) k f = f tt
 walks_if n row (Activity.Insert Insert.Version) k f = f tt
@@ -168,6 +173,10 @@ module _ (z : Sizes) (r r' : Run) (s : ℕ) (choice : Choice) (l : Local) (a : A
   walked : (b : Activity) (k : Local) → k.row ≡ l.row → IsAtRow a → Inserts z.cells row b k → WalksList z.cells row b k → WalksList z.cells (list_in (word z r'.world) r'.listed k.row) b k
   walked b k e p x y = subst (λ q. WalksList z.cells (list_in (word z r'.world) r'.listed q) b k) (sym e) (walks_stay z.cells row (list_in (word z r'.world) r'.listed l.row) b k (leaves z.cells _ _ (list_step z r r' s choice l a l' h i l.row (linked p))) x y)
 
+  -- a cell with which the row was built is one of the list
+  its_built : (c : ℕ) → IsAtRow a → c < l.built → row.listed c ≡ true
+  its_built c p o = i.lists.built l.row c (linked p) (omega (arith, o, (i.shape.walks s l h.knows).built (past l.activity (subst IsAtRow (sym h.activity) p))))
+
   its_list : IsAtRow a → IsSound z.cells row
   its_list p = i.lists.leads l.row (linked p)
 
@@ -234,6 +243,24 @@ loses_insert z r r' s choice l l' n h i = rw (one_more_is z l.lost (omega (arith
 pub inserts_own : (z : Sizes) (r r' : Run) (s : ℕ) (choice : Choice) (l : Local) (a : Activity) (l' : Local) → Arrow z (word z r.world) s choice l a l' → Happens z r r' s choice l l' a → Below z r → IsInserting l'.activity → Inserts z.cells (list_in (word z r'.world) r'.listed l'.row) l'.activity l'
 inserts_own z r r' s choice l a l' (builds b next y t) h i m = built_puts next.activity (built_next z (word z r.world) choice l b next t) (inserting_puts next.activity m)
 inserts_own z r r' s choice l a l' stores_version h i m = begins_insert z r r' s choice l l' h i
+inserts_own z r r' s choice l a l' (first_reaches c e) h i m =
+    let k = knows_list z r r' s choice l (Activity.Insert Insert.Start) l' h i in
+    let sound = its_list z r r' s choice l (Activity.Insert Insert.Start) l' h i tt in
+    let here : link_in (word z r.world) l.row l.link ≡ Some c = link_is (word z r.world) l.row l.link ∙ e in
+    let at = put_loads z.cells (row z r r' s choice l (Activity.Insert Insert.Start) l' h i) l.cell l.lost l.link sound.list k in
+    learned z r r' s choice l (Activity.Insert Insert.Start) l' h i (Activity.Insert Insert.Key) l' refl refl tt tt h.listed (h.changed.loaded (first_loads (cell_guess choice l) l)) (subst (IsAt z.cells (row z r r' s choice l (Activity.Insert Insert.Start) l' h i) l.cell l.lost l.link) here at, refl)
+inserts_own z r r' s choice l a l' (first_sees_none e) h i m =
+    let k = knows_list z r r' s choice l (Activity.Insert Insert.Start) l' h i in
+    let sound = its_list z r r' s choice l (Activity.Insert Insert.Start) l' h i tt in
+    let here : link_in (word z r.world) l.row l.link ≡ None = link_is (word z r.world) l.row l.link ∙ e in
+    let at = put_loads z.cells (row z r r' s choice l (Activity.Insert Insert.Start) l' h i) l.cell l.lost l.link sound.list k in
+    learned z r r' s choice l (Activity.Insert Insert.Start) l' h i (Activity.Insert Insert.Set) l' refl refl tt tt h.listed (h.changed.loaded (first_loads (cell_guess choice l) l)) (subst (IsAt z.cells (row z r r' s choice l (Activity.Insert Insert.Start) l' h i) l.cell l.lost l.link) here at, tt)
+inserts_own z r r' s choice l a l' (inserts_behind c inside e) h i m =
+    let k = knows_list z r r' s choice l (Activity.Insert Insert.Start) l' h i in
+    learned z r r' s choice l (Activity.Insert Insert.Start) l' h i (Activity.Insert Insert.Link) l' refl refl tt tt h.listed (h.changed.loaded (first_loads (cell_guess choice l) l))
+    (record { unlisted = k.unlisted; on = its_built z r r' s choice l (Activity.Insert Insert.Start) l' h i c tt inside; behind = inl (omega (arith, e, its_key z r r' s choice l (Activity.Insert Insert.Start) l' h i tt)); fewer = k.fewer })
+inserts_own z r r' s choice l a l' (inserts_at_first guess e) h i m =
+    learned z r r' s choice l (Activity.Insert Insert.Start) l' h i (Activity.Insert Insert.Link) l' refl refl tt tt h.listed (h.changed.loaded (first_loads (cell_guess choice l) l)) (knows_list z r r' s choice l (Activity.Insert Insert.Start) l' h i)
 inserts_own z r r' s choice l a l' (reaches_cell c e) h i m =
     let k = knows_list z r r' s choice l (Activity.Insert Insert.Link) l' h i in
     let sound = its_list z r r' s choice l (Activity.Insert Insert.Link) l' h i tt in
@@ -281,6 +308,7 @@ inserts_own z r r' s choice l a l' (is_gone_by next e n) h i m = look_puts z _ n
 inserts_own z r r' s choice l a l' (helps next e n) h i m = look_puts z _ next n (inserting_puts next m)
 inserts_own z r r' s choice l a l' (finds_stamped c version next e n) h i m = look_puts z _ next n (inserting_puts next m)
 inserts_own z r r' s choice l a l' (finds_other next e n) h i m = look_puts z _ next n (inserting_puts next m)
+inserts_own z r r' s choice l a l' (first_ends next e n) h i m = cell_puts _ next n (inserting_puts next.activity m)
 inserts_own z r r' s choice l a l' (list_ends next e n) h i m = cell_puts _ next n (inserting_puts next.activity m)
 inserts_own z r r' s choice l a l' (key_above next e n) h i m = cell_puts _ next n (inserting_puts next.activity m)
 inserts_own z r r' s choice l a l' (left_over_gone_by next e n) h i m = cell_puts _ next n (inserting_puts next.activity m)
@@ -290,7 +318,25 @@ inserts_own z r r' s choice l a l' _ h i m = absurd m
 -- where the acting seat's walk is
 pub walks_own : (z : Sizes) (r r' : Run) (s : ℕ) (choice : Choice) (l : Local) (a : Activity) (l' : Local) → Arrow z (word z r.world) s choice l a l' → Happens z r r' s choice l l' a → Below z r → IsInserting l'.activity → WalksList z.cells (list_in (word z r'.world) r'.listed l'.row) l'.activity l'
 walks_own z r r' s choice l a l' (builds b next y t) h i m = built_puts next.activity (built_next z (word z r.world) choice l b next t) (inserting_puts next.activity m)
-walks_own z r r' s choice l a l' stores_version h i m = walk_begins z.cells _
+walks_own z r r' s choice l a l' stores_version h i m = (walk_begins z.cells _, refl)
+walks_own z r r' s choice l a l' (first_reaches c e) h i m =
+    let before = row z r r' s choice l (Activity.Insert Insert.Start) l' h i in
+    let k = knows_list z r r' s choice l (Activity.Insert Insert.Start) l' h i in
+    let w = (walks_list z r r' s choice l (Activity.Insert Insert.Start) l' h i).0 in
+    let sound = its_list z r r' s choice l (Activity.Insert Insert.Start) l' h i tt in
+    let cell = (known z r r' s choice l (Activity.Insert Insert.Start) l' h i).ranges.cell in
+    let next = at_next before l.link (before.link l.link) c (sound.list l.link k.on) (link_is (word z r.world) l.row l.link ∙ e) in
+    let fewer = walked_fewer z.cells before l.link l.walked l.cell cell k.unlisted w in
+    let on = walk_goes_on z.cells before l.link l.walked c (sound.below c next.listed) next.listed next.behind w in
+    let left = leaves z.cells _ _ (list_step z r r' s choice l (Activity.Insert Insert.Start) l' h i l.row (linked z r r' s choice l (Activity.Insert Insert.Start) l' h i tt)) in
+    (behind_same before _ left.cell l.link c k.on (left.cell c next.listed) next.behind, rw (one_more_is z l.walked (omega (arith, fewer))) (walk_stays z.cells before _ (Some c) (l.walked + 1) left on))
+walks_own z r r' s choice l a l' (inserts_behind c inside e) h i m =
+    let w = walks_list z r r' s choice l (Activity.Insert Insert.Start) l' h i in
+    let left = leaves z.cells _ _ (list_step z r r' s choice l (Activity.Insert Insert.Start) l' h i l.row (linked z r r' s choice l (Activity.Insert Insert.Start) l' h i tt)) in
+    walk_stays z.cells _ _ (Some c) l.walked left (record { on = its_built z r r' s choice l (Activity.Insert Insert.Start) l' h i c tt inside; counted = omega (arith, w.1) })
+walks_own z r r' s choice l a l' (inserts_at_first guess e) h i m =
+    let left = leaves z.cells _ _ (list_step z r r' s choice l (Activity.Insert Insert.Start) l' h i l.row (linked z r r' s choice l (Activity.Insert Insert.Start) l' h i tt)) in
+    walk_stays z.cells _ _ l.link l.walked left (walks_list z r r' s choice l (Activity.Insert Insert.Start) l' h i).0
 walks_own z r r' s choice l a l' (reaches_cell c e) h i m =
     let before = row z r r' s choice l (Activity.Insert Insert.Link) l' h i in
     let k = knows_list z r r' s choice l (Activity.Insert Insert.Link) l' h i in
@@ -309,17 +355,19 @@ walks_own z r r' s choice l a l' (key_same e) h i m = walked z r r' s choice l (
 walks_own z r r' s choice l a l' (version_before e) h i m =
     let left = leaves z.cells _ _ (list_step z r r' s choice l (Activity.Insert Insert.Version) l' h i l.row (linked z r r' s choice l (Activity.Insert Insert.Version) l' h i tt)) in
     walk_stays z.cells _ _ (Some l.place) l.walked left (walks_list z r r' s choice l (Activity.Insert Insert.Version) l' h i).1
-walks_own z r r' s choice l a l' (loses n) h i m = walk_begins z.cells _
+walks_own z r r' s choice l a l' (loses n) h i m = (walk_begins z.cells _, refl)
 walks_own z r r' s choice l a l' (sees_stamped j c version next e n) h i m = look_puts z _ next n (inserting_puts next m)
 walks_own z r r' s choice l a l' (sees_neither j next e n) h i m = look_puts z _ next n (inserting_puts next m)
 walks_own z r r' s choice l a l' (is_gone_by next e n) h i m = look_puts z _ next n (inserting_puts next m)
 walks_own z r r' s choice l a l' (helps next e n) h i m = look_puts z _ next n (inserting_puts next m)
 walks_own z r r' s choice l a l' (finds_stamped c version next e n) h i m = look_puts z _ next n (inserting_puts next m)
 walks_own z r r' s choice l a l' (finds_other next e n) h i m = look_puts z _ next n (inserting_puts next m)
+walks_own z r r' s choice l a l' (first_ends next e n) h i m = cell_puts _ next n (inserting_puts next.activity m)
 walks_own z r r' s choice l a l' (list_ends next e n) h i m = cell_puts _ next n (inserting_puts next.activity m)
 walks_own z r r' s choice l a l' (key_above next e n) h i m = cell_puts _ next n (inserting_puts next.activity m)
 walks_own z r r' s choice l a l' (left_over_gone_by next e n) h i m = cell_puts _ next n (inserting_puts next.activity m)
 walks_own z r r' s choice l a l' (gathers_left_over next n) h i m = cell_puts _ next n (inserting_puts next.activity m)
+walks_own z r r' s choice l a l' (first_sees_none e) h i m = tt
 walks_own z r r' s choice l a l' (sees_none e) h i m = tt
 walks_own z r r' s choice l a l' (key_after e) h i m = tt
 walks_own z r r' s choice l a l' (version_after e) h i m = tt

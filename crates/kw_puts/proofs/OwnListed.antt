@@ -15,7 +15,7 @@ use Rattle.kw_core.specs.Run.{Run}
 use Rattle.kw_core.specs.Stages.{IsAtRow, IsPutting, IsUnlisted, IsPutClear}
 use Rattle.kw_core.specs.Words.{given_in}
 use Rattle.kw_core.proofs.BuiltNext.{built_next}
-use Rattle.kw_core.proofs.Arrows.{builds, Arrow, sees_stamped, sees_neither, is_gone_by, helps, finds_stamped, finds_other, list_ends, key_above, left_over_gone_by, gathers_left_over, takes_cell, stores_key, stores_value, announces, loads_clock, stamps, is_stamped, stores_version, reaches_cell, sees_none, key_before, key_same, key_after, version_before, version_after, stores_after, inserts, loses}
+use Rattle.kw_core.proofs.Arrows.{builds, Arrow, sees_stamped, sees_neither, is_gone_by, helps, finds_stamped, finds_other, list_ends, key_above, left_over_gone_by, gathers_left_over, takes_cell, stores_key, stores_value, announces, loads_clock, stamps, is_stamped, stores_version, reaches_cell, sees_none, key_before, key_same, key_after, version_before, version_after, stores_after, inserts, loses, first_ends, first_reaches, first_sees_none, inserts_at_first, inserts_behind}
 use Rattle.kw_core.proofs.Happens.{Happens}
 use Rattle.kw_core.proofs.RoomBelow.{room_below}
 use Rattle.kw_puts.specs.Lists.{IsOwnListed}
@@ -49,8 +49,12 @@ unlisted_own z r r' s choice l a l' loads_clock h i u = ap (λ f. f l.row l.cell
 unlisted_own z r r' s choice l a l' (stamps e) h i u = ap (λ f. f l.row l.cell) h.listed ∙ (i.lists.own s l h.knows).unlisted (subst IsUnlisted (sym h.activity) tt)
 unlisted_own z r r' s choice l a l' (is_stamped version e) h i u = ap (λ f. f l.row l.cell) h.listed ∙ (i.lists.own s l h.knows).unlisted (subst IsUnlisted (sym h.activity) tt)
 unlisted_own z r r' s choice l a l' stores_version h i u = ap (λ f. f l.row l.cell) h.listed ∙ (i.lists.own s l h.knows).unlisted (subst IsUnlisted (sym h.activity) tt)
+unlisted_own z r r' s choice l a l' (first_reaches c e) h i u = ap (λ f. f l.row l.cell) h.listed ∙ (i.lists.own s l h.knows).unlisted (subst IsUnlisted (sym h.activity) tt)
 unlisted_own z r r' s choice l a l' (reaches_cell c e) h i u = ap (λ f. f l.row l.cell) h.listed ∙ (i.lists.own s l h.knows).unlisted (subst IsUnlisted (sym h.activity) tt)
+unlisted_own z r r' s choice l a l' (first_sees_none e) h i u = ap (λ f. f l.row l.cell) h.listed ∙ (i.lists.own s l h.knows).unlisted (subst IsUnlisted (sym h.activity) tt)
 unlisted_own z r r' s choice l a l' (sees_none e) h i u = ap (λ f. f l.row l.cell) h.listed ∙ (i.lists.own s l h.knows).unlisted (subst IsUnlisted (sym h.activity) tt)
+unlisted_own z r r' s choice l a l' (inserts_behind guess inside e) h i u = ap (λ f. f l.row l.cell) h.listed ∙ (i.lists.own s l h.knows).unlisted (subst IsUnlisted (sym h.activity) tt)
+unlisted_own z r r' s choice l a l' (inserts_at_first guess e) h i u = ap (λ f. f l.row l.cell) h.listed ∙ (i.lists.own s l h.knows).unlisted (subst IsUnlisted (sym h.activity) tt)
 unlisted_own z r r' s choice l a l' (key_before e) h i u = ap (λ f. f l.row l.cell) h.listed ∙ (i.lists.own s l h.knows).unlisted (subst IsUnlisted (sym h.activity) tt)
 unlisted_own z r r' s choice l a l' (key_same e) h i u = ap (λ f. f l.row l.cell) h.listed ∙ (i.lists.own s l h.knows).unlisted (subst IsUnlisted (sym h.activity) tt)
 unlisted_own z r r' s choice l a l' (key_after e) h i u = ap (λ f. f l.row l.cell) h.listed ∙ (i.lists.own s l h.knows).unlisted (subst IsUnlisted (sym h.activity) tt)
@@ -63,6 +67,7 @@ unlisted_own z r r' s choice l a l' (is_gone_by next e n) h i u = look_puts z _ 
 unlisted_own z r r' s choice l a l' (helps next e n) h i u = look_puts z _ next n (unlisted_puts next u)
 unlisted_own z r r' s choice l a l' (finds_stamped c version next e n) h i u = look_puts z _ next n (unlisted_puts next u)
 unlisted_own z r r' s choice l a l' (finds_other next e n) h i u = look_puts z _ next n (unlisted_puts next u)
+unlisted_own z r r' s choice l a l' (first_ends next e n) h i u = cell_puts _ next n (unlisted_puts next.activity u)
 unlisted_own z r r' s choice l a l' (list_ends next e n) h i u = cell_puts _ next n (unlisted_puts next.activity u)
 unlisted_own z r r' s choice l a l' (key_above next e n) h i u = cell_puts _ next n (unlisted_puts next.activity u)
 unlisted_own z r r' s choice l a l' (left_over_gone_by next e n) h i u = cell_puts _ next n (unlisted_puts next.activity u)
@@ -83,6 +88,7 @@ listed_own z r r' s choice l a l' (is_gone_by next e n) h i u = look_puts z _ ne
 listed_own z r r' s choice l a l' (helps next e n) h i u = look_puts z _ next n (clear_puts next u)
 listed_own z r r' s choice l a l' (finds_stamped c version next e n) h i u = look_puts z _ next n (clear_puts next u)
 listed_own z r r' s choice l a l' (finds_other next e n) h i u = look_puts z _ next n (clear_puts next u)
+listed_own z r r' s choice l a l' (first_ends next e n) h i u = cell_puts _ next n (clear_puts next.activity u)
 listed_own z r r' s choice l a l' (list_ends next e n) h i u = cell_puts _ next n (clear_puts next.activity u)
 listed_own z r r' s choice l a l' (key_above next e n) h i u = cell_puts _ next n (clear_puts next.activity u)
 listed_own z r r' s choice l a l' (left_over_gone_by next e n) h i u = cell_puts _ next n (clear_puts next.activity u)

@@ -47,7 +47,7 @@ use Rattle.kw_core.proofs.Happens.{Changed, Happens, exchanged}
 use Rattle.kw_core.proofs.Building.{IsBuilding}
 use Rattle.kw_core.proofs.BuiltNext.{built_next}
 use Rattle.kw_puts.proofs.BuiltStages.{after_at_read, after_drawn, after_loaded, after_reading, after_settled, after_settling, after_waiting, building_after, building_underway, no_scan_replaced}
-use Rattle.kw_core.proofs.Arrows.{builds, NextLook, looks, lists, NextLeftOver, goes_to_left_over, answers, ends_scan, scans_on, Arrow, begins, enters, stores_waiting, draws, settles_empty, settles, stops, starts_at_head, guesses, guess_fails, takes_head, guess_serves, guess_is_above, reads_last, reads_before, puts_in_last, puts_before, reaches_next, walks_on, sees_pending, is_wanted, loads_to_help, list_leads, key_below, key_within, loads_version, gathers_listed, left_over_wanted, sees_stamped, sees_neither, is_gone_by, helps, finds_stamped, finds_other, list_ends, key_above, left_over_gone_by, gathers_left_over, clears_scan, leaves, waits}
+use Rattle.kw_core.proofs.Arrows.{builds, NextLook, looks, lists, NextLeftOver, goes_to_left_over, answers, ends_scan, scans_on, Arrow, begins, enters, stores_waiting, draws, settles_empty, settles, stops, starts_at_head, guesses, guess_fails, takes_head, guess_serves, guess_is_above, reads_last, reads_before, puts_in_last, puts_before, reaches_next, walks_on, sees_pending, is_wanted, loads_to_help, list_leads, key_below, key_within, loads_version, gathers_listed, left_over_wanted, sees_stamped, sees_neither, is_gone_by, helps, finds_stamped, finds_other, list_ends, key_above, left_over_gone_by, gathers_left_over, clears_scan, leaves, waits, begins_at_first, begins_behind, first_ends, first_leads}
 use Rattle.kw_core.proofs.SeatLogs.{IsNoDraw, call_kept, draw_kept, look_kept, settle_kept, settle_lost}
 use Rattle.kw_shape.proofs.NextCalls.{arrow_call}
 use Rattle.kw_core.specs.Ledger.{Ledger}
@@ -87,6 +87,7 @@ after_read z v s choice l a k (is_gone_by next e n) x = look_after z _ next n
 after_read z v s choice l a k (helps next e n) x = look_after z _ next n
 after_read z v s choice l a k (finds_stamped c version next e n) x = look_after z _ next n
 after_read z v s choice l a k (finds_other next e n) x = look_after z _ next n
+after_read z v s choice l a k (first_ends next e n) x = cell_after _ next n
 after_read z v s choice l a k (list_ends next e n) x = cell_after _ next n
 after_read z v s choice l a k (key_above next e n) x = cell_after _ next n
 after_read z v s choice l a k (left_over_gone_by next e n) x = cell_after _ next n
@@ -94,6 +95,7 @@ after_read z v s choice l a k (gathers_left_over next n) x = cell_after _ next n
 after_read z v s choice l (Activity.Look (Look.Entry j)) k b x = tt
 after_read z v s choice l (Activity.Look Look.Key) k b x = tt
 after_read z v s choice l (Activity.Look Look.Clock) k b x = tt
+after_read z v s choice l (Activity.Read Read.Start) k b x = tt
 after_read z v s choice l (Activity.Read Read.Link) k b x = tt
 after_read z v s choice l (Activity.Read Read.Key) k b x = tt
 after_read z v s choice l (Activity.Read Read.Version) k b x = tt
@@ -129,6 +131,7 @@ waits_from z v s choice l (Activity.Look (Look.Entry j)) k b x = absurd (waiting
 waits_from z v s choice l (Activity.Look Look.Key) k b x = absurd (waiting_not_read k.activity x (after_read z v s choice l (Activity.Look Look.Key) k b tt))
 waits_from z v s choice l (Activity.Look Look.Clock) k b x = absurd (waiting_not_read k.activity x (after_read z v s choice l (Activity.Look Look.Clock) k b tt))
 waits_from z v s choice l (Activity.Look Look.Help) k b x = absurd (waiting_not_read k.activity x (after_read z v s choice l (Activity.Look Look.Help) k b tt))
+waits_from z v s choice l (Activity.Read Read.Start) k b x = absurd (waiting_not_read k.activity x (after_read z v s choice l (Activity.Read Read.Start) k b tt))
 waits_from z v s choice l (Activity.Read Read.Link) k b x = absurd (waiting_not_read k.activity x (after_read z v s choice l (Activity.Read Read.Link) k b tt))
 waits_from z v s choice l (Activity.Read Read.Key) k b x = absurd (waiting_not_read k.activity x (after_read z v s choice l (Activity.Read Read.Key) k b tt))
 waits_from z v s choice l (Activity.Read Read.Version) k b x = absurd (waiting_not_read k.activity x (after_read z v s choice l (Activity.Read Read.Version) k b tt))
@@ -181,6 +184,7 @@ cell_version l k (scans_on r w e f o) = refl
 -- a scan that has its version keeps it
 pub not_idle_drawn : (z : Sizes) (v : Words) (s : ℕ) (choice : Choice) (l : Local) (a : Activity) (k : Local) → Arrow z v s choice l a k → HasDrawn a → HasDrawn k.activity → k.version ≡ l.version
 not_idle_drawn z v s choice l a k (builds b next building t) x y = after_drawn next.activity (built_next z v choice l b next t) y
+not_idle_drawn z v s choice l a k (first_ends next e n) x y = cell_version _ next n
 not_idle_drawn z v s choice l a k (list_ends next e n) x y = cell_version _ next n
 not_idle_drawn z v s choice l a k (key_above next e n) x y = cell_version _ next n
 not_idle_drawn z v s choice l a k (left_over_gone_by next e n) x y = cell_version _ next n
@@ -385,6 +389,7 @@ settled_next z v s choice l a k (is_gone_by next e n) f x = inl (look_settled z 
 settled_next z v s choice l a k (helps next e n) f x = inl (look_settled z _ next n)
 settled_next z v s choice l a k (finds_stamped c version next e n) f x = inl (look_settled z _ next n)
 settled_next z v s choice l a k (finds_other next e n) f x = inl (look_settled z _ next n)
+settled_next z v s choice l a k (first_ends next e n) f x = inl (cell_settled _ next f n)
 settled_next z v s choice l a k (list_ends next e n) f x = inl (cell_settled _ next f n)
 settled_next z v s choice l a k (key_above next e n) f x = inl (cell_settled _ next f n)
 settled_next z v s choice l a k (left_over_gone_by next e n) f x = inl (cell_settled _ next f n)
@@ -404,7 +409,10 @@ settled_next z v s choice l (Activity.Walk Walk.NextLeast) k (reads_before e n) 
 settled_next z v s choice l a k (sees_pending j c e) f x = inl tt
 settled_next z v s choice l (Activity.Look Look.Key) k (is_wanted e) f x = inl tt
 settled_next z v s choice l (Activity.Look Look.Clock) k loads_to_help f x = inl tt
+settled_next z v s choice l a k (first_leads c e) f x = inl tt
 settled_next z v s choice l a k (list_leads c e) f x = inl tt
+settled_next z v s choice l (Activity.Read Read.Start) k (begins_behind guess inside e) f x = inl tt
+settled_next z v s choice l (Activity.Read Read.Start) k (begins_at_first guess e) f x = inl tt
 settled_next z v s choice l (Activity.Read Read.Key) k (key_below e) f x = inl tt
 settled_next z v s choice l (Activity.Read Read.Key) k (key_within e w) f x = inl tt
 settled_next z v s choice l (Activity.Read Read.Version) k loads_version f x = inl tt
@@ -523,6 +531,7 @@ loaded_from z v s choice l (Activity.Look (Look.Entry j)) k b x = absurd (loaded
 loaded_from z v s choice l (Activity.Look Look.Key) k b x = absurd (loaded_not_read k.activity x (after_read z v s choice l (Activity.Look Look.Key) k b tt))
 loaded_from z v s choice l (Activity.Look Look.Clock) k b x = absurd (loaded_not_read k.activity x (after_read z v s choice l (Activity.Look Look.Clock) k b tt))
 loaded_from z v s choice l (Activity.Look Look.Help) k b x = absurd (loaded_not_read k.activity x (after_read z v s choice l (Activity.Look Look.Help) k b tt))
+loaded_from z v s choice l (Activity.Read Read.Start) k b x = absurd (loaded_not_read k.activity x (after_read z v s choice l (Activity.Read Read.Start) k b tt))
 loaded_from z v s choice l (Activity.Read Read.Link) k b x = absurd (loaded_not_read k.activity x (after_read z v s choice l (Activity.Read Read.Link) k b tt))
 loaded_from z v s choice l (Activity.Read Read.Key) k b x = absurd (loaded_not_read k.activity x (after_read z v s choice l (Activity.Read Read.Key) k b tt))
 loaded_from z v s choice l (Activity.Read Read.Version) k b x = absurd (loaded_not_read k.activity x (after_read z v s choice l (Activity.Read Read.Version) k b tt))

@@ -1,5 +1,5 @@
 -- Every event keeps what holds of the clock, the running calls and the scans.
-use Rattle.std.proofs.Common.{ℕ, ◌≡◌, ◌⊎◌, inl, inr, ◌+◌, ◌<◌, ◌≤◌, Bool, true, false, Some, None, [], ◌∷◌, arith, refl, sym, ◌∙◌, ap, subst, length}
+use Rattle.std.proofs.Common.{ℕ, ◌≡◌, ◌⊎◌, inl, inr, ◌+◌, ◌<◌, ◌≤◌, Bool, true, false, Option, Some, None, [], ◌∷◌, arith, refl, sym, ◌∙◌, ap, subst, length}
 use Rattle.kw_words.specs.declared.layout.Name.TheVariants as name
 use Rattle.kw_world.specs.declared.activity.Activity.{Activity}
 use Rattle.kw_world.specs.declared.activity.draw.Draw.TheVariants as Draw
@@ -48,6 +48,7 @@ use Rattle.kw_core.proofs.Arrows.{builds, Arrow}
 use Rattle.kw_core.proofs.SeatLogs.{settle_kept}
 use Rattle.std.proofs.Common.{length-append, length-set}
 use Rattle.kw_words.specs.declared.kind.Kind.{Kind}
+use Rattle.kw_world.specs.ListTransitions.{cell_guess, first_operation}
 use Rattle.kw_world.specs.WalkTransitions.{start_transition, walk_transition, is_stopped}
 use Rattle.kw_world.specs.SeekTransitions.{seek_first_transition}
 use Rattle.kw_world.specs.ReplaceTransitions.{before_transition}
@@ -190,6 +191,11 @@ draws_stable z r r' t k y c n = subst (λ g. Draws (word z r'.world) r'.history 
 
 -- The acting seat.
 
+-- the first event of a walk along a list draws nothing
+pub first_draws_none : (l : Local) (g : Option ℕ) → IsDraw (first_operation g l).kind → ⊥
+first_draws_none l (Some cell) x = x
+first_draws_none l None x = x
+
 -- the event of a draw raises the clock
 draw_raises : (z : Sizes) (r r' : Run) (s : ℕ) (choice : Choice) (l l' : Local) (a : Activity) → Happens z r r' s choice l l' a → IsDraw (transition z a s choice l).operation.kind → word z r.world name.Clock < word z r'.world name.Clock
 draw_raises z r r' s choice l l' (Activity.Draw Draw.Version) h d = omega (arith, h.changed.same)
@@ -222,8 +228,10 @@ draw_raises z r r' s choice l l' (Activity.Rebalance (Rebalance.Replace Replace.
     begins Stop x = x
 draw_raises z r r' s choice l l' (Activity.Enter Enter.Announce) h d = absurd d
 draw_raises z r r' s choice l l' (Activity.Look Look.Key) h d = absurd d
+draw_raises z r r' s choice l l' (Activity.Read Read.Start) h d = absurd (first_draws_none l (cell_guess choice l) d)
 draw_raises z r r' s choice l l' (Activity.Read Read.Link) h d = absurd d
 draw_raises z r r' s choice l l' (Activity.Put Put.Count) h d = absurd d
+draw_raises z r r' s choice l l' (Activity.Insert Insert.Start) h d = absurd (first_draws_none l (cell_guess choice l) d)
 draw_raises z r r' s choice l l' (Activity.Insert Insert.Link) h d = absurd d
 draw_raises z r r' s choice l l' (Activity.Rebalance (Rebalance.Engage Engage.Clock)) h d = absurd d
 draw_raises z r r' s choice l l' (Activity.Rebalance (Rebalance.Gather Gather.Link)) h d = absurd d
@@ -341,6 +349,11 @@ log_within z (Activity.Look (Look.Entry j)) choice l found next g o h settled f 
     saw : (b : Bool) → let g' : SeatLog = if b then record g { looked = length h.log; ids = []; read = None } else g in (g'.looked ≤ length h.log) × (g'.drawn ≤ length h.log)
     saw true = (omega arith, y)
     saw false = (x, y)
+log_within z (Activity.Read Read.Start) choice l found next g o h settled f x y = read (is_at_cell next)
+  where
+    read : (b : Bool) → let g' : SeatLog = if b then g else record g { read = Some l.row } in (g'.looked ≤ length h.log) × (g'.drawn ≤ length h.log)
+    read true = (x, y)
+    read false = (x, y)
 log_within z (Activity.Read Read.Link) choice l found next g o h settled f x y = read (is_at_cell next)
   where
     read : (b : Bool) → let g' : SeatLog = if b then g else record g { read = Some l.row } in (g'.looked ≤ length h.log) × (g'.drawn ≤ length h.log)

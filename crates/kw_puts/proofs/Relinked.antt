@@ -10,9 +10,9 @@ use Rattle.std.proofs.lemmas.Option.{get_or_from_slice_get, same_Some, slice_get
 use Rattle.kw_words.specs.declared.layout.Name.TheVariants as name
 use Rattle.kw_words.specs.declared.sizes.TheConstants.{MOST_CELLS}
 use Rattle.kw_words.specs.Count.{count_of}
-use Rattle.kw_words.specs.Plain.{value_of_word, version_word}
+use Rattle.kw_words.specs.Plain.{built_of_word, value_of_word, version_word}
 use Rattle.kw_words.proofs.CountWords.{count_of-count_word}
-use Rattle.kw_words.proofs.PlainWords.{value_of_word-value_word}
+use Rattle.kw_words.proofs.PlainWords.{built_of_word-least_word, value_of_word-value_word}
 use Rattle.kw_cells.specs.Cells as cells
 use Rattle.kw_cells.specs.Kept.{is_below, AreRising, kept_of}
 use Rattle.kw_cells.specs.declared.cell.Cell.{Cell}
@@ -32,14 +32,14 @@ use Rattle.kw_world.specs.Sane.{IsCopy}
 use Rattle.kw_world.specs.SeekTransitions.{at_infant}
 use Rattle.kw_world.specs.Sizes.{Sizes}
 use Rattle.kw_world.specs.Step.{word}
-use Rattle.kw_world.specs.WriteTransitions.{infant_cells, infant_count, version_in}
+use Rattle.kw_world.specs.WriteTransitions.{infant_cells, infant_count, infant_least, version_in}
 use Rattle.kw_core.specs.declared.history.Attempt.{Attempt}
 use Rattle.kw_core.specs.declared.history.Logged.{Logged}
 use Rattle.kw_core.specs.History.{History, attempt}
 use Rattle.kw_core.specs.Listed.{Listed}
 use Rattle.kw_core.specs.Run.{Origins, Run}
 use Rattle.kw_core.specs.Step.{AttemptStep, Step, as_it_was, is_added, is_announced, is_lost, is_stamped}
-use Rattle.kw_core.specs.Words.{Words, given_in}
+use Rattle.kw_core.specs.Words.{Words, built_in, given_in}
 use Rattle.kw_core.proofs.Attempts.{in_range}
 use Rattle.kw_core.proofs.Copies.{listed_stays, origin_stays}
 use Rattle.kw_core.proofs.Happens.{Happens, log_entry}
@@ -50,6 +50,7 @@ use Rattle.kw_shape.specs.Plans.{Plans}
 use Rattle.kw_shape.proofs.InfantsFit.{infant_counts, taken_below}
 use Rattle.kw_shape.proofs.InfantsRely.{linked_not_infant, index_of_row}
 use Rattle.kw_shape.proofs.InfantsStay.{written_stays}
+use Rattle.kw_shape.proofs.MayReplace.{least_fits}
 use Rattle.kw_shape.proofs.LinkedRows.{ComesNow, fresh_linked, infants_at, linked_before, search_at}
 use Rattle.kw_puts.specs.Below.{Below}
 use Rattle.kw_puts.specs.Builds.{Copied, IsCellOf}
@@ -75,6 +76,7 @@ pub record ListAt (z : Sizes) (v : Words) (g : Ledger) (h : History) (o : Origin
   pub cells : (c : ℕ) → f q c ≡ true → IsListedCell v h o q c
   pub leads : IsSound z.cells (list_in v f q)
   pub copied : (c p : ℕ) → c < z.cells → o q c ≡ Some p → (attempt h p).add < (g.fates q).born → f q c ≡ true
+  pub built : (c : ℕ) → c < built_in v q → f q c ≡ true
 
 -- Attempts over an event.
 
@@ -196,6 +198,11 @@ module _ {z : Sizes} {r r' : Run} {s : ℕ} {choice : Choice} {l l' : Local} {e 
   unfolding k
   gives = ap (λ x. given_of (count_of x)) (written.count tt) ∙ ap given_of (count_of-count_word (infant_count (at_infant place.0 l)) (infant_counts z r.world s l i.shape.sane h.knows place.0))
 
+  -- it was built with as many, as the word of its least key says
+  built_with : built_in (word z r'.world) q ≡ length (infant_cells k)
+  unfolding k
+  built_with = ap built_of_word (written.least tt) ∙ built_of_word-least_word (infant_least (at_infant place.0 l)) (length (infant_cells (at_infant place.0 l))) (least_fits h i.shape place.0 q place.1)
+
   -- it is a copy
   is_copy : (c p : ℕ) (d : Cell) → c < z.cells → IsCopied c d p → IsCopyAt (word z r'.world) r'.ledger.rows r'.history q c p
   is_copy c p d u x =
@@ -241,6 +248,7 @@ module _ {z : Sizes} {r r' : Run} {s : ℕ} {choice : Choice} {l l' : Local} {e 
     cells = λ c m. listed c (copied_after.unlisted tt c m).0;
     leads = written_sound z (word z r'.world) k q written few short sound (r'.listed q) rising (λ j u. copied_after.listed j u tt) (λ j m. (copied_after.unlisted tt j m).0);
     copied = λ c p u f m. copied_after.listed c (of_cell c p u f).1.within tt;
+    built = λ c u. copied_after.listed c (omega (arith, u, built_with)) tt;
   }
     where
       listed : (c : ℕ) → c < length (infant_cells k) → IsListedCell (word z r'.world) r'.history r'.origin q c

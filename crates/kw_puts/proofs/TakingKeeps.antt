@@ -26,7 +26,7 @@ use Rattle.kw_core.specs.Words.{Words}
 use Rattle.kw_core.proofs.Arrows.{builds, Arrow}
 use Rattle.kw_core.proofs.Arrows.{sees_stamped, sees_neither, is_gone_by, helps, finds_stamped, finds_other, list_ends, key_above, left_over_gone_by, gathers_left_over}
 use Rattle.kw_core.proofs.Arrows.{sees_quiet_last, sees_drawn_last, settles_last, finds_drawn_last, finds_no_scan_last}
-use Rattle.kw_core.proofs.Arrows.{take_leads, takes_left, takes_no_more, takes_key, takes_version, keeps_taken, takes_left_key, keeps_left, keeps_no_more}
+use Rattle.kw_core.proofs.Arrows.{take_leads, takes_left, takes_no_more, takes_key, takes_version, keeps_taken, takes_left_key, keeps_left, keeps_no_more, first_ends}
 use Rattle.kw_core.proofs.Building.{Building, replaces_row, makes_normal, makes_last_normal, draws_number, retires_row, IsBuilding, retires_and_leaves}
 use Rattle.kw_core.proofs.BuiltNext.{BuiltKeeps, IsAfterBuilding, built_keeps, built_next}
 use Rattle.kw_core.proofs.Happens.{Happens, log_entry, each_seat}
@@ -212,6 +212,7 @@ gathers_own z r r' s choice l a l' (is_gone_by next e n) h i st = unfrozen z r r
 gathers_own z r r' s choice l a l' (helps next e n) h i st = unfrozen z r r' s choice l _ l' h i st next l' (look_freezes z _ next n)
 gathers_own z r r' s choice l a l' (finds_stamped c version next e n) h i st = unfrozen z r r' s choice l _ l' h i st next l' (look_freezes z _ next n)
 gathers_own z r r' s choice l a l' (finds_other next e n) h i st = unfrozen z r r' s choice l _ l' h i st next l' (look_freezes z _ next n)
+gathers_own z r r' s choice l a l' (first_ends next e n) h i st = unfrozen z r r' s choice l _ l' h i st next.activity l' (left_over_freezes _ next n)
 gathers_own z r r' s choice l a l' (list_ends next e n) h i st = unfrozen z r r' s choice l _ l' h i st next.activity l' (left_over_freezes _ next n)
 gathers_own z r r' s choice l a l' (key_above next e n) h i st = unfrozen z r r' s choice l _ l' h i st next.activity l' (left_over_freezes _ next n)
 gathers_own z r r' s choice l a l' (left_over_gone_by next e n) h i st = unfrozen z r r' s choice l _ l' h i st next.activity l' (left_over_freezes _ next n)

@@ -20,7 +20,7 @@ use Rattle.kw_core.specs.History.{History, attempt}
 use Rattle.kw_core.specs.Listed.{Listed}
 use Rattle.kw_core.specs.Run.{Origins, Run}
 use Rattle.kw_core.specs.Stages.{IsUnlisted, IsPutClear}
-use Rattle.kw_core.specs.Words.{Words}
+use Rattle.kw_core.specs.Words.{Words, built_in}
 use Rattle.kw_rows.specs.Rows.{WasLinked}
 use Rattle.kw_puts.specs.Here.{IsHere}
 use Rattle.kw_puts.specs.Puts.{IsCurrent, IsOver, key_in}
@@ -51,6 +51,7 @@ pub record IsOwnListed (f : Listed) (a : Activity) (l : Local) : Type 0 where
 -- same, or fewer exchanges were lost than cells are listed. The cell of which it asks the version
 -- has the own key. What it stores in its own link stands behind its own cell
 abbrev pub Inserts : ℕ → Row → Activity → Local → Type 0
+Inserts n r (Activity.Insert Insert.Start) l = IsFrom n r l.cell l.lost l.link
 Inserts n r (Activity.Insert Insert.Link) l = IsFrom n r l.cell l.lost l.link
 Inserts n r (Activity.Insert Insert.Key) l = IsAt n r l.cell l.lost l.link l.held × (l.held ≡ Some l.place)
 Inserts n r (Activity.Insert Insert.Version) l = IsAt n r l.cell l.lost l.link l.held × (l.held ≡ Some l.place) × (r.key l.place ≡ r.key l.cell)
@@ -60,8 +61,9 @@ Inserts n r _ l = Unit {0}
 
 -- where a put's walk is: at its link, or at the cell that it has reached, which is listed and
 -- stands behind the link. It has counted no more cells than there are listed ones up to there, for
--- it reaches none twice
+-- it reaches none twice; where it begins it has reached none
 abbrev pub WalksList : ℕ → Row → Activity → Local → Type 0
+WalksList n r (Activity.Insert Insert.Start) l = IsWalking n r l.link l.walked × (l.walked ≡ 0)
 WalksList n r (Activity.Insert Insert.Link) l = IsWalking n r l.link l.walked
 WalksList n r (Activity.Insert Insert.Key) l = IsBehind r l.link l.place × IsWalking n r (Some l.place) l.walked
 WalksList n r (Activity.Insert Insert.Version) l = IsBehind r l.link l.place × IsWalking n r (Some l.place) l.walked
@@ -76,6 +78,8 @@ pub record Lists (z : Sizes) (r : Run) : Type 0 where
   pub cells : (q c : ℕ) → WasLinked r.ledger.rows q → r.listed q c ≡ true → IsListedCell (word z r.world) r.history r.origin q c
   pub leads : (q : ℕ) → WasLinked r.ledger.rows q → IsSound z.cells (list_in (word z r.world) r.listed q)
   pub copied : (q c p : ℕ) → WasLinked r.ledger.rows q → c < z.cells → r.origin q c ≡ Some p → (attempt r.history p).add < (r.ledger.rows.fates q).born → r.listed q c ≡ true
+  -- and so is each cell with which the word of its least key says that the row was built
+  pub built : (q c : ℕ) → WasLinked r.ledger.rows q → c < built_in (word z r.world) q → r.listed q c ≡ true
   pub own : (t : ℕ) (l : Local) → slice_get r.world.locals t ≡ Some l → IsOwnListed r.listed l.activity l
   pub old : (p : ℕ) → p < length r.history.attempts → IsCurrent (slice_get r.world.locals) r.seats r.history p ⊎ (IsHere r.ledger.rows r.history p → r.listed (attempt r.history p).row (attempt r.history p).cell ≡ true) ⊎ IsOver r.history p
   pub inserts : (t : ℕ) (l : Local) → slice_get r.world.locals t ≡ Some l → Inserts z.cells (list_in (word z r.world) r.listed l.row) l.activity l

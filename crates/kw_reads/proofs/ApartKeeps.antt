@@ -26,7 +26,7 @@ use Rattle.kw_puts.specs.Builds.{has_place}
 use Rattle.kw_reads.specs.Readers.{HasReachedCell, Apart}
 use Rattle.kw_reads.specs.Inv.{Inv}
 use Rattle.kw_core.proofs.BuiltNext.{built_next}
-use Rattle.kw_core.proofs.Arrows.{builds, NextLook, looks, lists, NextLeftOver, goes_to_left_over, answers, ends_scan, scans_on, Arrow, sees_stamped, sees_neither, is_gone_by, helps, finds_stamped, finds_other, list_leads, list_ends, key_below, key_within, key_above, loads_version, gathers_listed, left_over_wanted, left_over_gone_by, gathers_left_over}
+use Rattle.kw_core.proofs.Arrows.{builds, NextLook, looks, lists, NextLeftOver, goes_to_left_over, answers, ends_scan, scans_on, Arrow, sees_stamped, sees_neither, is_gone_by, helps, finds_stamped, finds_other, list_leads, list_ends, key_below, key_within, key_above, loads_version, gathers_listed, left_over_wanted, left_over_gone_by, gathers_left_over, first_ends, begins_at_first, begins_behind, first_leads}
 use Rattle.kw_core.proofs.Happens.{Happens}
 use Rattle.kw_core.proofs.Marks.{least_marked, marked_back, marked_none}
 use Rattle.kw_reads.proofs.BuiltReads.{after_rests}
@@ -45,7 +45,7 @@ is_not true f = absurd (f refl)
 is_not false f = refl
 
 -- where nothing is gathered
-apart_none : (z : Sizes) (row : Row) (l : Local) → l.gathered ≡ [] → Apart z row (Activity.Read Read.Link) l
+apart_none : (z : Sizes) (row : Row) (l : Local) → l.gathered ≡ [] → Apart z row (Activity.Read Read.Start) l
 apart_none z row l e = record {
   few = rw e (omega arith);
   unmarked = λ c m. rw e refl;
@@ -172,6 +172,23 @@ apart_by z r r' s choice l _ _ (is_gone_by next e n) h i p = apart_look z _ (l.l
 apart_by z r r' s choice l _ _ (helps next e n) h i p = apart_look z _ (l.looked + 1) next (remembering l.saw l.helping l) n p (none_gathered h i tt)
 apart_by z r r' s choice l _ _ (finds_stamped c version next e n) h i p = apart_look z _ (l.looked + 1) next (remembering c version l) n p (none_gathered h i tt)
 apart_by z r r' s choice l _ _ (finds_other next e n) h i p = apart_look z _ (l.looked + 1) next l n p (none_gathered h i tt)
+apart_by z r r' s choice l _ _ (begins_behind c inside e) h i p = let x = apart_after h i tt tt in record {
+  few = x.few;
+  unmarked = x.unmarked;
+  listed = x.listed;
+  gone_by = λ y d m. absurd (subst (λ at. IsGoneBy (list_in (word z r'.world) r'.listed l.row) at d) (walks_after h i tt).0 (x.gone_by tt d m));
+  fresh = λ y. absurd y;
+  hand = λ y. absurd y;
+}
+apart_by z r r' s choice l _ _ (begins_at_first guess e) h i p = let x = apart_after h i tt tt in record { few = x.few; unmarked = x.unmarked; listed = x.listed; gone_by = x.gone_by; fresh = λ y. absurd y; hand = λ y. absurd y }
+apart_by z r r' s choice l _ _ (first_leads c e) h i p = let x = apart_after h i tt tt in record {
+  few = x.few;
+  unmarked = λ d m. x.unmarked d (marked_back d c l.remembered m);
+  listed = x.listed;
+  gone_by = x.gone_by;
+  fresh = λ y. absurd y;
+  hand = λ y. marked_none c l.remembered;
+}
 apart_by z r r' s choice l _ _ (list_leads c e) h i p = let x = apart_after h i tt tt in record {
   few = x.few;
   unmarked = λ d m. x.unmarked d (marked_back d c l.remembered m);
@@ -180,6 +197,7 @@ apart_by z r r' s choice l _ _ (list_leads c e) h i p = let x = apart_after h i 
   fresh = λ y. absurd y;
   hand = λ y. marked_none c l.remembered;
 }
+apart_by z r r' s choice l _ _ (first_ends next e n) h i p = apart_left_over z _ l next n p (left_after h i tt tt)
 apart_by z r r' s choice l _ _ (list_ends next e n) h i p = apart_left_over z _ l next n p (left_after h i tt tt)
 apart_by z r r' s choice l _ _ (key_below e) h i p = let x = apart_after h i tt tt in record {
   few = x.few;

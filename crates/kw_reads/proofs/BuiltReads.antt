@@ -48,6 +48,7 @@ after_rests a n x = after_at_read a n (reader_reads a x)
 -- it is nowhere in the list of a row
 pub after_walks : (n : ℕ) (row : Row) (a : Activity) (l : Local) → IsAfterBuilding a → ReadsList n row a l
 after_walks n row (Activity.Look _) l b = absurd b
+after_walks n row (Activity.Read Read.Start) l b = absurd b
 after_walks n row (Activity.Read Read.Link) l b = absurd b
 after_walks n row (Activity.Read Read.Key) l b = absurd b
 after_walks n row (Activity.Read Read.Version) l b = absurd b
@@ -88,6 +89,7 @@ building_log (Activity.Draw Draw.Version) b h = absurd b
 building_log (Activity.Draw Draw.Settle) b h = absurd b
 building_log (Activity.Look (Look.Entry i)) b h = absurd b
 building_log (Activity.Look Look.Clock) b h = absurd b
+building_log (Activity.Read Read.Start) b h = absurd b
 building_log (Activity.Read Read.Link) b h = absurd b
 building_log (Activity.Read Read.Key) b h = absurd b
 building_log (Activity.Read Read.Value) b h = absurd b

@@ -29,7 +29,7 @@ use Rattle.kw_world.specs.Step.{word}
 use Rattle.kw_core.specs.History.{History, attempt}
 use Rattle.kw_core.specs.Run.{Run, Origins, log_read, log_gathered}
 use Rattle.kw_core.specs.declared.seat_log.SeatLog.{SeatLog}
-use Rattle.kw_core.specs.Stages.{IsTaking, IsAtRead, IsReading, HasPlace, HasVersion, HasCellKey}
+use Rattle.kw_core.specs.Stages.{IsTaking, IsAtRead, IsAtReadLink, IsReading, HasPlace, HasVersion, HasCellKey}
 use Rattle.kw_rows.specs.Rows.{WasLinked}
 use Rattle.kw_puts.specs.Lists.{list_in, IsListedCell}
 use Rattle.kw_reads.specs.Readers.{IsDue, IsNoted, IsReady, IsMarkOf, IsInHand, IsToCome, Looks, Reads, AreCopies, Gathers, HasSeen}
@@ -37,7 +37,7 @@ use Rattle.kw_reads.specs.Inv.{Inv}
 use Rattle.kw_core.proofs.Steps.{announced_within}
 use Rattle.kw_puts.proofs.Owners.{true_false}
 use Rattle.kw_core.proofs.BuiltNext.{built_next}
-use Rattle.kw_core.proofs.Arrows.{builds, NextLook, looks, lists, sees_stamped, sees_neither, is_gone_by, helps, finds_stamped, finds_other, NextLeftOver, goes_to_left_over, answers, ends_scan, scans_on, Arrow, list_leads, list_ends, key_below, key_within, key_above, loads_version, gathers_listed, left_over_wanted, left_over_gone_by, gathers_left_over}
+use Rattle.kw_core.proofs.Arrows.{builds, NextLook, looks, lists, sees_stamped, sees_neither, is_gone_by, helps, finds_stamped, finds_other, NextLeftOver, goes_to_left_over, answers, ends_scan, scans_on, Arrow, list_leads, list_ends, key_below, key_within, key_above, loads_version, gathers_listed, left_over_wanted, left_over_gone_by, gathers_left_over, begins_at_first, begins_behind, first_ends, first_leads}
 use Rattle.kw_core.proofs.Happens.{Happens}
 use Rattle.kw_core.proofs.InRange.{least_holds}
 use Rattle.kw_core.proofs.Marks.{marked_other, least_none, contains_new, contains_old}
@@ -48,7 +48,7 @@ use Rattle.kw_reads.proofs.EntrySays.{version_ranges}
 use Rattle.kw_reads.proofs.BuiltReads.{after_rests, taking_reads}
 use Rattle.kw_puts.proofs.CellsOf.{cell_key, cell_value, cell_within}
 use Rattle.kw_reads.proofs.LooksKeep.{goes, looks_by, marks_after, within}
-use Rattle.kw_reads.proofs.WalksKeep.{row_linked, row_linked_on, row_left, row_sound, walks_before, walks_after, link_loaded, cell_next}
+use Rattle.kw_reads.proofs.WalksKeep.{link_reads, link_loads, row_linked, row_linked_on, row_left, row_sound, walking_after, walks_before, walks_after, link_loaded, cell_next}
 
 -- the walk along the list is over: each attempt that is due is stamped, and is gathered, or the
 -- cell that stands for it is remembered still
@@ -166,40 +166,76 @@ reads_begin {z} {r} k j _ l g (lists w) x n e = record {
   hand = λ y. absurd y;
 }
   where
-    ready : (c p : ℕ) → IsDue r.history r.origin l.row l.call g.looked c p → IsReady r.listed r.history (record l { activity = Activity.Read Read.Link }) c p
+    ready : (c p : ℕ) → IsDue r.history r.origin l.row l.call g.looked c p → IsReady r.listed r.history (record l { activity = Activity.Read Read.Start }) c p
     ready c p d = n.past c p d (k.puts.placed p (announced_within r.history p d.announced)).seat
 
-    which : (c : ℕ) → IsNoted r.listed (record l { activity = Activity.Read Read.Link }) c → (is_marked c l.remembered ≡ true) ⊎ (r.listed l.row c ≡ true) × IsBehind (list_in (word z r.world) r.listed l.row) l.link c
+    which : (c : ℕ) → IsNoted r.listed (record l { activity = Activity.Read Read.Start }) c → (is_marked c l.remembered ≡ true) ⊎ (r.listed l.row c ≡ true) × IsBehind (list_in (word z r.world) r.listed l.row) l.link c
     which c (inl y) = inl y
     which c (inr y) = inr (y, rw e tt)
 
+-- a cell of an attempt that is due has a key of the range
+due_between : {z : Sizes} {r r' : Run} {s : ℕ} {choice : Choice} {l l' : Local} {a : Activity} (h : Happens z r r' s choice l l' a) (i : Inv z r) (y : IsAtRead a) (k : Below z r') (c p : ℕ) → IsDue r'.history r'.origin l.row l.call (r.seats s).looked c p →
+    (first_key l.call ≤ (list_in (word z r'.world) r'.listed l.row).key c) × ((list_in (word z r'.world) r'.listed l.row).key c ≤ last_key l.call)
+due_between {z} {r} {r'} {s} {choice} {l} {l'} {a} h i y k c p d = rw (due_key_stands k l.call l.row (r.seats s).looked c p (row_linked_on h i y) (within h i l.row c p d.origin) d) (in_range_between l.call (attempt r'.history p).key d.key)
+
+-- a reader that begins with the list reads it from its first link on
+from_start : (row : Row) (h : History) (o : Origins) (a : Activity) (l : Local) (g : SeatLog) → IsAtReadLink a → Reads row h o a l g → Reads row h o (Activity.Read Read.Link) l g
+from_start row h o (Activity.Read Read.Start) l g x k = record { stamped = k.stamped; found = k.found; hand = λ y. absurd y }
+from_start row h o (Activity.Read Read.Link) l g x k = k
+from_start row h o _ l g x k = absurd x
+
+-- a reader begins behind a cell with which its row was built, and whose key is below the range: it
+-- leaves no cell out that is due
+reads_behind : {z : Sizes} {r r' : Run} {s : ℕ} {choice : Choice} {l l' : Local} (h : Happens z r r' s choice l l' (Activity.Read Read.Start)) (i : Inv z r) (k : Below z r') (cell : ℕ) → key_of_word (word z r.world (name.Key l.row cell)) < first_key l.call → (m : Local) → m.row ≡ l.row → m.call ≡ l.call → m.link ≡ Some cell → m.remembered ≡ l.remembered →
+    Reads (list_in (word z r'.world) r'.listed l.row) r'.history r'.origin (Activity.Read Read.Link) m (r.seats s)
+reads_behind {z} {r} {r'} {s} {choice} {l} {l'} h i k cell e m row call link marks = record {
+  stamped = λ c p d. n.stamped c p (due c p d);
+  found = λ c p d. rw (link, marks) (which c p (due c p d) (n.found c p (due c p d)));
+  hand = λ y. absurd y;
+}
+  where
+    n : Reads (list_in (word z r'.world) r'.listed l.row) r'.history r'.origin (Activity.Read Read.Start) l (r.seats s)
+    n = cells_after h i tt tt
+
+    key : (list_in (word z r'.world) r'.listed l.row).key cell ≡ key_of_word (word z r.world (name.Key l.row cell))
+    key = ap key_of_word (link_loads (Activity.Read Read.Start) h tt (name.Key l.row cell))
+
+    due : (c p : ℕ) → IsDue r'.history r'.origin m.row m.call (r.seats s).looked c p → IsDue r'.history r'.origin l.row l.call (r.seats s).looked c p
+    due c p d = subst (λ x. IsDue r'.history r'.origin x l.call (r.seats s).looked c p) row (subst (λ x. IsDue r'.history r'.origin m.row x (r.seats s).looked c p) call d)
+
+    which : (c p : ℕ) → IsDue r'.history r'.origin l.row l.call (r.seats s).looked c p → Contains (r.seats s).ids p ⊎ (is_marked c l.remembered ≡ true) ⊎ IsToCome (list_in (word z r'.world) r'.listed l.row) (Activity.Read Read.Start) l c →
+        Contains (r.seats s).ids p ⊎ (is_marked c l.remembered ≡ true) ⊎ (r'.listed l.row c ≡ true) × Stands (list_in (word z r'.world) r'.listed l.row) cell c
+    which c p d (inl x) = inl x
+    which c p d (inr (inl x)) = inr (inl x)
+    which c p d (inr (inr x)) = inr (inr (x.0, inl (omega (arith, e, key, (due_between h i tt k c p d).0))))
+
 -- the reader loads its link
-module _ {z : Sizes} {r r' : Run} {s : ℕ} {choice : Choice} {l l' : Local} (h : Happens z r r' s choice l l' (Activity.Read Read.Link)) (i : Inv z r) (k : Below z r') where
+module _ {z : Sizes} {r r' : Run} {s : ℕ} {choice : Choice} {l l' : Local} {a : Activity} (h : Happens z r r' s choice l l' a) (i : Inv z r) (y : IsAtReadLink a) (k : Below z r') where
   -- what it knew of the cells
   before_link : Reads (list_in (word z r'.world) r'.listed l.row) r'.history r'.origin (Activity.Read Read.Link) l (r.seats s)
-  before_link = cells_after h i tt tt
+  before_link = from_start _ _ _ a l (r.seats s) y (cells_after h i (link_reads a y).0 (link_reads a y).1)
 
   -- it leads to a cell, which is reached
   reads_reached : (n : ℕ) → cell_of_link_word (word z r.world (link_name l.row l.link)) ≡ Some n → (m : Local) → m.row ≡ l.row → m.call ≡ l.call → m.place ≡ n → m.remembered ≡ unmarked n l.remembered → Reads (list_in (word z r'.world) r'.listed l.row) r'.history r'.origin (Activity.Read Read.Key) m (r.seats s)
   reads_reached n e m row call place marks = record {
     stamped = λ c p d. before_link.stamped c p (due c p d);
     found = λ c p d. rw (place, marks) (which c p (before_link.found c p (due c p d)) (cases_eq c n));
-    hand = λ y. listed_in_hand k (Activity.Read Read.Key) m _ (rw row (row_linked_on h i tt)) (rw (row, place) (cell_next h i n e).listed) refl (λ u. absurd u) (λ u. absurd u) (λ u. absurd u);
+    hand = λ w. listed_in_hand k (Activity.Read Read.Key) m _ (rw row (row_linked_on h i (link_reads a y).0)) (rw (row, place) (cell_next h i y n e).listed) refl (λ u. absurd u) (λ u. absurd u) (λ u. absurd u);
   }
     where
       due : (c p : ℕ) → IsDue r'.history r'.origin m.row m.call (r.seats s).looked c p → IsDue r'.history r'.origin l.row l.call (r.seats s).looked c p
       due c p d = subst (λ x. IsDue r'.history r'.origin x l.call (r.seats s).looked c p) row (subst (λ x. IsDue r'.history r'.origin m.row x (r.seats s).looked c p) call d)
 
       ahead : (c : ℕ) → IsToCome (list_in (word z r'.world) r'.listed l.row) (Activity.Read Read.Link) l c → (c ≡ n) ⊎ Stands (list_in (word z r'.world) r'.listed l.row) n c
-      ahead c x = at (reached (list_in (word z r'.world) r'.listed l.row) l.link _ ((row_sound h i tt).list l.link (walks_after h i tt).on) c x.0 x.1)
+      ahead c x = at (reached (list_in (word z r'.world) r'.listed l.row) l.link _ ((row_sound h i (link_reads a y).0).list l.link (walking_after h i y).on) c x.0 x.1)
         where
           at : (d : ℕ) × ((list_in (word z r'.world) r'.listed l.row).link l.link ≡ Some d) × ((c ≡ d) ⊎ Stands (list_in (word z r'.world) r'.listed l.row) d c) → (c ≡ n) ⊎ Stands (list_in (word z r'.world) r'.listed l.row) n c
-          at (d, f, y) = subst (λ u. (c ≡ u) ⊎ Stands (list_in (word z r'.world) r'.listed l.row) u c) (same_Some d n (sym f ∙ link_loaded h i (Some n) e)) y
+          at (d, f, w) = subst (λ u. (c ≡ u) ⊎ Stands (list_in (word z r'.world) r'.listed l.row) u c) (same_Some d n (sym f ∙ link_loaded h i y (Some n) e)) w
 
       which : (c p : ℕ) → Contains (r.seats s).ids p ⊎ (is_marked c l.remembered ≡ true) ⊎ IsToCome (list_in (word z r'.world) r'.listed l.row) (Activity.Read Read.Link) l c → (c ≡ n) ⊎ (c ≡ n → ⊥) →
           Contains (r.seats s).ids p ⊎ (is_marked c (unmarked n l.remembered) ≡ true) ⊎ (r'.listed l.row c ≡ true) × ((c ≡ n) ⊎ Stands (list_in (word z r'.world) r'.listed l.row) n c)
       which c p (inl x) d = inl x
-      which c p (inr (inl x)) (inl d) = inr (inr (rw d (cell_next h i n e).listed, inl d))
+      which c p (inr (inl x)) (inl d) = inr (inr (rw d (cell_next h i y n e).listed, inl d))
       which c p (inr (inl x)) (inr d) = inr (inl (marked_other c n l.remembered d ∙ x))
       which c p (inr (inr x)) d = inr (inr (x.0, ahead c x))
 
@@ -210,7 +246,7 @@ module _ {z : Sizes} {r r' : Run} {s : ℕ} {choice : Choice} {l l' : Local} (h 
       which : (c p : ℕ) → Contains (r.seats s).ids p ⊎ (is_marked c l.remembered ≡ true) ⊎ IsToCome (list_in (word z r'.world) r'.listed l.row) (Activity.Read Read.Link) l c → Contains (r.seats s).ids p ⊎ (is_marked c l.remembered ≡ true)
       which c p (inl x) = inl x
       which c p (inr (inl x)) = inr x
-      which c p (inr (inr x)) = absurd (reading.list_ends (list_in (word z r'.world) r'.listed l.row) l.link _ c ((row_sound h i tt).list l.link (walks_after h i tt).on) (link_loaded h i None e) x.0 x.1)
+      which c p (inr (inr x)) = absurd (reading.list_ends (list_in (word z r'.world) r'.listed l.row) l.link _ c ((row_sound h i (link_reads a y).0).list l.link (walking_after h i y).on) (link_loaded h i y None e) x.0 x.1)
 
 -- the reader loads the key of a cell that it has reached
 module _ {z : Sizes} {r r' : Run} {s : ℕ} {choice : Choice} {l l' : Local} (h : Happens z r r' s choice l l' (Activity.Read Read.Key)) (i : Inv z r) (k : Below z r') where
@@ -221,10 +257,6 @@ module _ {z : Sizes} {r r' : Run} {s : ℕ} {choice : Choice} {l l' : Local} (h 
   -- the key as it was found
   key_loaded : (list_in (word z r'.world) r'.listed l.row).key l.place ≡ key_of_word (word z r.world (name.Key l.row l.place))
   key_loaded = ap key_of_word (h.changed.loaded refl (name.Key l.row l.place))
-
-  -- a cell of an attempt that is due has a key of the range
-  due_between : (c p : ℕ) → IsDue r'.history r'.origin l.row l.call (r.seats s).looked c p → (first_key l.call ≤ (list_in (word z r'.world) r'.listed l.row).key c) × ((list_in (word z r'.world) r'.listed l.row).key c ≤ last_key l.call)
-  due_between c p d = rw (due_key_stands k l.call l.row (r.seats s).looked c p (row_linked_on h i tt) (within h i l.row c p d.origin) d) (in_range_between l.call (attempt r'.history p).key d.key)
 
   -- it is below the range: the cell is gone by
   reads_below : key_of_word (word z r.world (name.Key l.row l.place)) < first_key l.call → (m : Local) → m.row ≡ l.row → m.call ≡ l.call → m.link ≡ Some l.place → m.remembered ≡ l.remembered → Reads (list_in (word z r'.world) r'.listed l.row) r'.history r'.origin (Activity.Read Read.Link) m (r.seats s)
@@ -241,7 +273,7 @@ module _ {z : Sizes} {r r' : Run} {s : ℕ} {choice : Choice} {l l' : Local} (h 
           Contains (r.seats s).ids p ⊎ (is_marked c l.remembered ≡ true) ⊎ (r'.listed l.row c ≡ true) × Stands (list_in (word z r'.world) r'.listed l.row) l.place c
       which c p d (inl x) = inl x
       which c p d (inr (inl x)) = inr (inl x)
-      which c p d (inr (inr (x, inl y))) = absurd (omega (arith, e, key_loaded, ap (list_in (word z r'.world) r'.listed l.row).key y, (due_between c p d).0))
+      which c p d (inr (inr (x, inl y))) = absurd (omega (arith, e, key_loaded, ap (list_in (word z r'.world) r'.listed l.row).key y, (due_between h i tt k c p d).0))
       which c p d (inr (inr (x, inr y))) = inr (inr (x, y))
 
   -- it is above the range: no cell is to come
@@ -251,7 +283,7 @@ module _ {z : Sizes} {r r' : Run} {s : ℕ} {choice : Choice} {l l' : Local} (h 
       which : (c p : ℕ) → IsDue r'.history r'.origin l.row l.call (r.seats s).looked c p → Contains (r.seats s).ids p ⊎ (is_marked c l.remembered ≡ true) ⊎ IsToCome (list_in (word z r'.world) r'.listed l.row) (Activity.Read Read.Key) l c → Contains (r.seats s).ids p ⊎ (is_marked c l.remembered ≡ true)
       which c p d (inl x) = inl x
       which c p d (inr (inl x)) = inr x
-      which c p d (inr (inr x)) = absurd (omega (arith, above_range (list_in (word z r'.world) r'.listed l.row) l.place c (last_key l.call) (omega (arith, e, key_loaded)) x.1, (due_between c p d).1))
+      which c p d (inr (inr x)) = absurd (omega (arith, above_range (list_in (word z r'.world) r'.listed l.row) l.place c (last_key l.call) (omega (arith, e, key_loaded)) x.1, (due_between h i tt k c p d).1))
 
 -- the key in hand is that of the cell in hand
 hand_key : {z : Sizes} {r r' : Run} {s : ℕ} {choice : Choice} {l l' : Local} (h : Happens z r r' s choice l l' (Activity.Read Read.Version)) (i : Inv z r) (k : Below z r') → Reads (list_in (word z r'.world) r'.listed l.row) r'.history r'.origin (Activity.Read Read.Version) l (r.seats s) → key_of_word (word z r'.world (name.Key l.row l.place)) ≡ l.place_key
@@ -322,8 +354,13 @@ reads_gathered {z} {r} {r'} {s} {choice} {l} {l'} h i k m at row call link marks
 -- the cells that the acting reader reads
 pub reads_by : (z : Sizes) (r r' : Run) (s : ℕ) (choice : Choice) (l : Local) (a : Activity) (l' : Local) → Arrow z (word z r.world) s choice l a l' → Happens z r r' s choice l l' a → Inv z r → Below z r' → IsTaking l'.activity → Reads (list_in (word z r'.world) r'.listed l'.row) r'.history r'.origin l'.activity l' (r'.seats s)
 reads_by z r r' s choice l a l' (builds b next y t) h i k p = after_rests l'.activity (built_next z (word z r.world) choice l b l' t) (inr p)
-reads_by z r r' s choice l _ _ (list_leads c e) h i k p = subst (Reads (list_in (word z r'.world) r'.listed l.row) r'.history r'.origin (Activity.Read Read.Key) _) (sym h.log) (reads_reached h i k c e _ refl refl refl refl)
-reads_by z r r' s choice l _ _ (list_ends next e n) h i k p = subst (Reads _ r'.history r'.origin next.activity next) (sym h.log) (reads_next _ r'.history r'.origin l next (r.seats s) n (left_at_end h i k e) (marks_after h i (inr tt)) p)
+reads_by z r r' s choice l _ _ (first_leads c e) h i k p = subst (Reads (list_in (word z r'.world) r'.listed l.row) r'.history r'.origin (Activity.Read Read.Key) _) (sym h.log) (reads_reached h i tt k c e _ refl refl refl refl)
+reads_by z r r' s choice l _ _ (list_leads c e) h i k p = subst (Reads (list_in (word z r'.world) r'.listed l.row) r'.history r'.origin (Activity.Read Read.Key) _) (sym h.log) (reads_reached h i tt k c e _ refl refl refl refl)
+reads_by z r r' s choice l _ _ (first_ends next e n) h i k p = subst (Reads _ r'.history r'.origin next.activity next) (sym h.log) (reads_next _ r'.history r'.origin l next (r.seats s) n (left_at_end h i tt k e) (marks_after h i (inr tt)) p)
+reads_by z r r' s choice l _ _ (list_ends next e n) h i k p = subst (Reads _ r'.history r'.origin next.activity next) (sym h.log) (reads_next _ r'.history r'.origin l next (r.seats s) n (left_at_end h i tt k e) (marks_after h i (inr tt)) p)
+reads_by z r r' s choice l _ _ (begins_behind c inside e) h i k p = subst (Reads (list_in (word z r'.world) r'.listed l.row) r'.history r'.origin (Activity.Read Read.Link) _) (sym h.log) (reads_behind h i k c e _ refl refl refl refl)
+reads_by z r r' s choice l _ _ (begins_at_first guess e) h i k p = subst (Reads (list_in (word z r'.world) r'.listed l.row) r'.history r'.origin (Activity.Read Read.Link) _) (sym h.log)
+    (let n = cells_after h i tt tt in record { stamped = n.stamped; found = n.found; hand = λ x. absurd x })
 reads_by z r r' s choice l _ _ (key_below e) h i k p = subst (Reads (list_in (word z r'.world) r'.listed l.row) r'.history r'.origin (Activity.Read Read.Link) _) (sym h.log) (reads_below h i k e _ refl refl refl refl)
 reads_by z r r' s choice l _ _ (key_within e w) h i k p = subst (Reads (list_in (word z r'.world) r'.listed l.row) r'.history r'.origin (Activity.Read Read.Version) _) (sym h.log)
     (let n = before_key h i k in

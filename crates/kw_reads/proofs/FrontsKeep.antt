@@ -13,7 +13,7 @@ use Rattle.kw_core.specs.Run.{Origins, Run, seat_after}
 use Rattle.kw_core.specs.Stages.{IsAtRow, IsReading, IsUnderway}
 use Rattle.kw_core.specs.Words.{Words}
 use Rattle.kw_core.specs.declared.seat_log.SeatLog.{SeatLog}
-use Rattle.kw_core.proofs.Arrows.{Arrow, NextLeftOver, goes_to_left_over, answers, ends_scan, scans_on, builds, reads_last, reads_before, list_ends, key_above, left_over_gone_by, gathers_left_over}
+use Rattle.kw_core.proofs.Arrows.{Arrow, NextLeftOver, goes_to_left_over, answers, ends_scan, scans_on, builds, reads_last, reads_before, list_ends, key_above, left_over_gone_by, gathers_left_over, first_ends}
 use Rattle.kw_core.proofs.Happens.{Happens, each_seat}
 use Rattle.kw_core.proofs.SeatLogs.{IsNoDraw}
 use Rattle.kw_shape.proofs.LinkedRows.{fresh_linked}
@@ -65,12 +65,14 @@ reading_from : (z : Sizes) (v : Words) (s : ℕ) (choice : Choice) (l : Local) (
 reading_from z v s choice l a k (builds b next y t) x = after_building k.activity (built_next z v choice l a k t) (reading_row k.activity x).0
 reading_from z v s choice l a k (reads_last f n) x = absurd (omega (arith, x))
 reading_from z v s choice l a k (reads_before f w) x = absurd (omega (arith, x))
+reading_from z v s choice l a k (first_ends next e n) x = left_over_from l _ next (Activity.Read Read.Start) tt refl refl refl n x
 reading_from z v s choice l a k (list_ends next e n) x = left_over_from l _ next (Activity.Read Read.Link) tt refl refl refl n x
 reading_from z v s choice l a k (key_above next e n) x = left_over_from l _ next (Activity.Read Read.Key) tt refl refl refl n x
 reading_from z v s choice l a k (left_over_gone_by next e n) x = left_over_from l _ next (Activity.Read Read.LeftOverKey) tt refl refl refl n x
 reading_from z v s choice l a k (gathers_left_over next n) x = left_over_from l _ next (Activity.Read Read.LeftOverValue) tt refl refl refl n x
 reading_from z v s choice l (Activity.Look (Look.Entry j)) k b x = record { at = look_at j; row = refl; call = refl; version = refl }
 reading_from z v s choice l (Activity.Look _) k b x = record { at = inr tt; row = refl; call = refl; version = refl }
+reading_from z v s choice l (Activity.Read Read.Start) k b x = record { at = inr tt; row = refl; call = refl; version = refl }
 reading_from z v s choice l (Activity.Read Read.Link) k b x = record { at = inr tt; row = refl; call = refl; version = refl }
 reading_from z v s choice l (Activity.Read Read.Key) k b x = record { at = inr tt; row = refl; call = refl; version = refl }
 reading_from z v s choice l (Activity.Read Read.Version) k b x = record { at = inr tt; row = refl; call = refl; version = refl }

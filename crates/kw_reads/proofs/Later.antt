@@ -16,7 +16,7 @@ use Rattle.kw_world.specs.Sizes.{Sizes}
 use Rattle.kw_world.specs.Transition.{row_or_first}
 use Rattle.kw_core.specs.Stages.{IsAtRow}
 use Rattle.kw_core.specs.Words.{Words, next_in}
-use Rattle.kw_core.proofs.Arrows.{Arrow, starts_at_head, guesses, takes_head, guess_serves, puts_in_last, reads_last, reaches_next, walks_on, puts_before, reads_before, sees_pending, sees_stamped, sees_neither, is_wanted, is_gone_by, loads_to_help, helps, finds_stamped, finds_other, list_leads, list_ends, key_below, key_within, key_above, loads_version, gathers_listed, left_over_wanted, left_over_gone_by, gathers_left_over, finds_room, takes_cell, stores_key, stores_value, announces, loads_clock, stamps, is_stamped, stores_version, reaches_cell, sees_none, key_before, key_same, key_after, version_before, version_after, stores_after, inserts, loses, NextLook, looks, lists, NextLeftOver, goes_to_left_over, answers, ends_scan, scans_on, builds}
+use Rattle.kw_core.proofs.Arrows.{Arrow, starts_at_head, guesses, takes_head, guess_serves, puts_in_last, reads_last, reaches_next, walks_on, puts_before, reads_before, sees_pending, sees_stamped, sees_neither, is_wanted, is_gone_by, loads_to_help, helps, finds_stamped, finds_other, list_leads, list_ends, key_below, key_within, key_above, loads_version, gathers_listed, left_over_wanted, left_over_gone_by, gathers_left_over, finds_room, takes_cell, stores_key, stores_value, announces, loads_clock, stamps, is_stamped, stores_version, reaches_cell, sees_none, key_before, key_same, key_after, version_before, version_after, stores_after, inserts, loses, NextLook, looks, lists, NextLeftOver, goes_to_left_over, answers, ends_scan, scans_on, builds, begins_at_first, begins_behind, first_ends, first_leads, first_reaches, first_sees_none, inserts_at_first, inserts_behind}
 use Rattle.kw_rows.specs.Ledger.{Dead, IsDead, IsFresh, IsHeld, IsLive, Ledger, Live}
 use Rattle.kw_rows.specs.Rows.{Closed}
 use Rattle.kw_rows.specs.Structure.{Structure}
@@ -70,7 +70,7 @@ module _ (g : Ledger) (d : ℕ) where
   -- the next look of a reader
   look_stays : (z : Sizes) (j : ℕ) (a : Activity) (l : Local) (next : Activity) (k : Local) → NextLook z j next → IsAtRow a → k.row ≡ l.row → k.next ≡ l.next → IsLater g d a l → IsLater g d next k
   look_stays z j a l next k (looks o) x row after w = stays a l (Activity.Look (Look.Entry j)) k x tt row after w
-  look_stays z j a l next k (lists o) x row after w = stays a l (Activity.Read Read.Link) k x tt row after w
+  look_stays z j a l next k (lists o) x row after w = stays a l (Activity.Read Read.Start) k x tt row after w
 
   -- the next cell of a reader, or the next row of a scan
   cell_goes : (a : Activity) (l : Local) (k next : Local) → NextLeftOver k next → IsAtRow a → k.row ≡ l.row → k.next ≡ l.next → IsLater g d a l → IsLater g d next.activity next
@@ -128,8 +128,12 @@ later_by z v g s choice l a l' d loads_to_help c k w = stays g d (Activity.Look 
 later_by z v g s choice l a l' d (helps next y n) c k w = look_stays g d z _ (Activity.Look Look.Help) l next _ n tt refl refl w
 later_by z v g s choice l a l' d (finds_stamped x version next y n) c k w = look_stays g d z _ (Activity.Look Look.Help) l next _ n tt refl refl w
 later_by z v g s choice l a l' d (finds_other next y n) c k w = look_stays g d z _ (Activity.Look Look.Help) l next _ n tt refl refl w
+later_by z v g s choice l a l' d (first_ends next e n) c k w = cell_goes g d (Activity.Read Read.Start) l _ next n tt refl refl w
 later_by z v g s choice l a l' d (list_ends next e n) c k w = cell_goes g d (Activity.Read Read.Link) l _ next n tt refl refl w
+later_by z v g s choice l a l' d (first_leads x y) c k w = stays g d (Activity.Read Read.Start) l (Activity.Read Read.Key) _ tt tt refl refl w
 later_by z v g s choice l a l' d (list_leads x y) c k w = stays g d (Activity.Read Read.Link) l (Activity.Read Read.Key) _ tt tt refl refl w
+later_by z v g s choice l a l' d (begins_behind guess inside y) c k w = stays g d (Activity.Read Read.Start) l (Activity.Read Read.Link) _ tt tt refl refl w
+later_by z v g s choice l a l' d (begins_at_first guess y) c k w = stays g d (Activity.Read Read.Start) l (Activity.Read Read.Link) _ tt tt refl refl w
 later_by z v g s choice l a l' d (key_below y) c k w = stays g d (Activity.Read Read.Key) l (Activity.Read Read.Link) _ tt tt refl refl w
 later_by z v g s choice l a l' d (key_within y u) c k w = stays g d (Activity.Read Read.Key) l (Activity.Read Read.Version) _ tt tt refl refl w
 later_by z v g s choice l a l' d loads_version c k w = stays g d (Activity.Read Read.Version) l (Activity.Read Read.Value) _ tt tt refl refl w
@@ -146,9 +150,13 @@ later_by z v g s choice l a l' d (announces y) c k w = stays g d (Activity.Put P
 later_by z v g s choice l a l' d loads_clock c k w = stays g d (Activity.Put Put.Clock) l (Activity.Put Put.Stamp) _ tt tt refl refl w
 later_by z v g s choice l a l' d (stamps y) c k w = stays g d (Activity.Put Put.Stamp) l (Activity.Put Put.Version) _ tt tt refl refl w
 later_by z v g s choice l a l' d (is_stamped version y) c k w = stays g d (Activity.Put Put.Stamp) l (Activity.Put Put.Version) _ tt tt refl refl w
-later_by z v g s choice l a l' d stores_version c k w = stays g d (Activity.Put Put.Version) l (Activity.Insert Insert.Link) _ tt tt refl refl w
+later_by z v g s choice l a l' d stores_version c k w = stays g d (Activity.Put Put.Version) l (Activity.Insert Insert.Start) _ tt tt refl refl w
+later_by z v g s choice l a l' d (first_reaches x y) c k w = stays g d (Activity.Insert Insert.Start) l (Activity.Insert Insert.Key) _ tt tt refl refl w
 later_by z v g s choice l a l' d (reaches_cell x y) c k w = stays g d (Activity.Insert Insert.Link) l (Activity.Insert Insert.Key) _ tt tt refl refl w
+later_by z v g s choice l a l' d (first_sees_none y) c k w = stays g d (Activity.Insert Insert.Start) l (Activity.Insert Insert.Set) _ tt tt refl refl w
 later_by z v g s choice l a l' d (sees_none y) c k w = stays g d (Activity.Insert Insert.Link) l (Activity.Insert Insert.Set) _ tt tt refl refl w
+later_by z v g s choice l a l' d (inserts_behind guess inside y) c k w = stays g d (Activity.Insert Insert.Start) l (Activity.Insert Insert.Link) _ tt tt refl refl w
+later_by z v g s choice l a l' d (inserts_at_first guess y) c k w = stays g d (Activity.Insert Insert.Start) l (Activity.Insert Insert.Link) _ tt tt refl refl w
 later_by z v g s choice l a l' d (key_before y) c k w = stays g d (Activity.Insert Insert.Key) l (Activity.Insert Insert.Link) _ tt tt refl refl w
 later_by z v g s choice l a l' d (key_same y) c k w = stays g d (Activity.Insert Insert.Key) l (Activity.Insert Insert.Version) _ tt tt refl refl w
 later_by z v g s choice l a l' d (key_after y) c k w = stays g d (Activity.Insert Insert.Key) l (Activity.Insert Insert.Set) _ tt tt refl refl w
@@ -156,5 +164,5 @@ later_by z v g s choice l a l' d (version_before y) c k w = stays g d (Activity.
 later_by z v g s choice l a l' d (version_after y) c k w = stays g d (Activity.Insert Insert.Version) l (Activity.Insert Insert.Set) _ tt tt refl refl w
 later_by z v g s choice l a l' d stores_after c k w = stays g d (Activity.Insert Insert.Set) l (Activity.Insert Insert.Exchange) _ tt tt refl refl w
 later_by z v g s choice l a l' d (inserts y) c k w = stays g d (Activity.Insert Insert.Exchange) l (Activity.Put Put.Clear) _ tt tt refl refl w
-later_by z v g s choice l a l' d (loses y) c k w = stays g d (Activity.Insert Insert.Exchange) l (Activity.Insert Insert.Link) _ tt tt refl refl w
+later_by z v g s choice l a l' d (loses y) c k w = stays g d (Activity.Insert Insert.Exchange) l (Activity.Insert Insert.Start) _ tt tt refl refl w
 later_by z v g s choice l a l' d _ c k w = record { row = λ x. absurd x; saw = λ x. absurd x; next = λ x. absurd x }

@@ -22,7 +22,7 @@ use Rattle.kw_world.specs.Sizes.{Sizes}
 use Rattle.kw_world.specs.Step.{word}
 use Rattle.kw_world.specs.WriteTransitions.{infant_cells}
 use Rattle.kw_core.specs.Run.{Origins, Run, copied, with_copy, with_origin}
-use Rattle.kw_core.proofs.Arrows.{eq_from, builds, NextLook, looks, lists, NextLeftOver, goes_to_left_over, answers, ends_scan, scans_on, Arrow, reads_last, reads_before, sees_pending, sees_stamped, sees_neither, is_wanted, is_gone_by, loads_to_help, helps, finds_stamped, finds_other, list_leads, list_ends, key_below, key_within, key_above, loads_version, gathers_listed, left_over_wanted, left_over_gone_by, gathers_left_over}
+use Rattle.kw_core.proofs.Arrows.{eq_from, builds, NextLook, looks, lists, NextLeftOver, goes_to_left_over, answers, ends_scan, scans_on, Arrow, reads_last, reads_before, sees_pending, sees_stamped, sees_neither, is_wanted, is_gone_by, loads_to_help, helps, finds_stamped, finds_other, list_leads, list_ends, key_below, key_within, key_above, loads_version, gathers_listed, left_over_wanted, left_over_gone_by, gathers_left_over, begins_at_first, begins_behind, first_ends, first_leads}
 use Rattle.kw_core.proofs.Happens.{Happens, exchanged, not_exchanged}
 use Rattle.kw_core.proofs.RoomBelow.{room_below}
 use Rattle.kw_reads.specs.Inv.{Inv, lower}
@@ -101,7 +101,7 @@ saw_as f h l l' d c p g (inr n) = inr (record { stamped = n.stamped; noted = g c
 -- what the reader knows at the next look, or at the row's first link
 looks_next : (z : Sizes) (f : Listed) (h : History) (o : Origins) (j : ℕ) (next : Activity) (l : Local) (g : SeatLog) → NextLook z j next → ((c p : ℕ) → IsDue h o l.row l.call g.looked c p → (attempt h p).seat < j → IsReady f h l c p) → Looks z f h o next (record l { activity = next }) g
 looks_next z f h o j _ l g (looks w) y = record { past = λ c p d i. ready_at f h l (Activity.Look (Look.Entry j)) c p (y c p d i); here = λ m. absurd m }
-looks_next z f h o j _ l g (lists w) y = record { past = λ c p d i. ready_at f h l (Activity.Read Read.Link) c p (y c p d (omega (arith, i, w))); here = λ m. absurd m }
+looks_next z f h o j _ l g (lists w) y = record { past = λ c p d i. ready_at f h l (Activity.Read Read.Start) c p (y c p d (omega (arith, i, w))); here = λ m. absurd m }
 
 -- a seat below the next one is below this one, or is this one
 pub below_next : (a i : ℕ) → a < i + 1 → (a < i) ⊎ (a ≡ i)
@@ -245,8 +245,12 @@ marks_by z r r' s choice l _ _ loads_to_help h i k p = marks_after h i (inl tt)
 marks_by z r r' s choice l _ _ (helps next e n) h i k p = All-push (IsMarkOf r'.history r'.origin l.row) l.remembered (mark_of l.saw l.helping) (marks_after h i (inl tt)) (stamped_owner k l.row l.looked l.saw l.helping (rw h.rows (row_below h i)) (ranges h i).looked (help_stamped h i e))
 marks_by z r r' s choice l _ _ (finds_stamped c version next e n) h i k p = All-push (IsMarkOf r'.history r'.origin l.row) l.remembered (mark_of c version) (marks_after h i (inl tt)) (stamped_owner k l.row l.looked c version (rw h.rows (row_below h i)) (ranges h i).looked (help_found h i c version e))
 marks_by z r r' s choice l _ _ (finds_other next e n) h i k p = marks_after h i (inl tt)
+marks_by z r r' s choice l _ _ (first_leads c e) h i k p = unmarked_in_range (IsMarkOf r'.history r'.origin l.row) c l.remembered (marks_after h i (inr tt))
 marks_by z r r' s choice l _ _ (list_leads c e) h i k p = unmarked_in_range (IsMarkOf r'.history r'.origin l.row) c l.remembered (marks_after h i (inr tt))
+marks_by z r r' s choice l _ _ (first_ends next e n) h i k p = marks_on (IsMarkOf r'.history r'.origin) _ next n p (marks_after h i (inr tt))
 marks_by z r r' s choice l _ _ (list_ends next e n) h i k p = marks_on (IsMarkOf r'.history r'.origin) _ next n p (marks_after h i (inr tt))
+marks_by z r r' s choice l _ _ (begins_behind guess inside e) h i k p = marks_after h i (inr tt)
+marks_by z r r' s choice l _ _ (begins_at_first guess e) h i k p = marks_after h i (inr tt)
 marks_by z r r' s choice l _ _ (key_below e) h i k p = marks_after h i (inr tt)
 marks_by z r r' s choice l _ _ (key_within e w) h i k p = marks_after h i (inr tt)
 marks_by z r r' s choice l _ _ (key_above next e n) h i k p = marks_on (IsMarkOf r'.history r'.origin) _ next n p (marks_after h i (inr tt))
@@ -299,6 +303,7 @@ looks_by z r r' s choice l _ _ (finds_other next e n) h i k p = looks_next z r'.
     left : (c p : ℕ) → IsDue r'.history r'.origin l.row l.call (r'.seats s).looked c p → (attempt r'.history p).seat ≡ l.looked → (c ≡ l.saw) ⊎ IsReady r'.listed r'.history l c p → IsReady r'.listed r'.history l c p
     left c p x f (inr n) = n
     left c p x f (inl m) = neither_here k (within h i) l (row_linked_on h i tt) l.looked (r'.seats s).looked c p x f (λ y. e.pending (sym kept ∙ y ∙ ap (λ u. Some (pend.Pending u)) m)) (λ d u y. e.stamped d u (sym kept ∙ y))
+looks_by z r r' s choice l _ _ (first_ends next e n) h i k (inl p) = absurd (not_looking _ next n p)
 looks_by z r r' s choice l _ _ (list_ends next e n) h i k (inl p) = absurd (not_looking _ next n p)
 looks_by z r r' s choice l _ _ (key_above next e n) h i k (inl p) = absurd (not_looking _ next n p)
 looks_by z r r' s choice l _ _ (left_over_gone_by next e n) h i k (inl p) = absurd (not_looking _ next n p)

@@ -30,7 +30,7 @@ use Rattle.kw_core.specs.Run.{Run}
 use Rattle.kw_core.specs.Stages.{IsBalancing}
 use Rattle.kw_core.specs.Step.{Step}
 use Rattle.kw_core.specs.Words.{Words}
-use Rattle.kw_core.proofs.Arrows.{builds, Arrow, sees_stamped, sees_neither, is_gone_by, helps, finds_stamped, finds_other, list_ends, key_above, left_over_gone_by, gathers_left_over, remembers_last, sees_frozen_last, freezes_last, sees_quiet, sees_quiet_last, helps_scan, sees_drawn, sees_drawn_last, draws_for, settles_scan, settles_last, finds_drawn, finds_drawn_last, finds_no_scan, finds_no_scan_last, IsNoScan, take_leads, takes_left, takes_no_more, takes_key, takes_version, keeps_taken, takes_left_key, keeps_left, keeps_no_more}
+use Rattle.kw_core.proofs.Arrows.{builds, Arrow, sees_stamped, sees_neither, is_gone_by, helps, finds_stamped, finds_other, list_ends, key_above, left_over_gone_by, gathers_left_over, remembers_last, sees_frozen_last, freezes_last, sees_quiet, sees_quiet_last, helps_scan, sees_drawn, sees_drawn_last, draws_for, settles_scan, settles_last, finds_drawn, finds_drawn_last, finds_no_scan, finds_no_scan_last, IsNoScan, take_leads, takes_left, takes_no_more, takes_key, takes_version, keeps_taken, takes_left_key, keeps_left, keeps_no_more, first_ends}
 use Rattle.kw_core.proofs.Building.{Building, IsBuilding, makes_normal, makes_last_normal, draws_number, retires_row, retires_and_leaves}
 use Rattle.kw_core.proofs.Frame.{unwritten}
 use Rattle.kw_core.proofs.FreezeFrame.{clock_never_falls}
@@ -399,6 +399,7 @@ needs_by z r r' s choice l a l' (is_gone_by next e f) h i st after c x = absurd 
 needs_by z r r' s choice l a l' (helps next e f) h i st after c x = absurd (look_freezes z _ next f (gone_by_frozen next x))
 needs_by z r r' s choice l a l' (finds_stamped n version next e f) h i st after c x = absurd (look_freezes z _ next f (gone_by_frozen next x))
 needs_by z r r' s choice l a l' (finds_other next e f) h i st after c x = absurd (look_freezes z _ next f (gone_by_frozen next x))
+needs_by z r r' s choice l a l' (first_ends next e f) h i st after c x = absurd (left_over_freezes _ next f (gone_by_frozen next.activity x))
 needs_by z r r' s choice l a l' (list_ends next e f) h i st after c x = absurd (left_over_freezes _ next f (gone_by_frozen next.activity x))
 needs_by z r r' s choice l a l' (key_above next e f) h i st after c x = absurd (left_over_freezes _ next f (gone_by_frozen next.activity x))
 needs_by z r r' s choice l a l' (left_over_gone_by next e f) h i st after c x = absurd (left_over_freezes _ next f (gone_by_frozen next.activity x))

@@ -62,6 +62,7 @@ covers_last h h' from version drawn bound pairs g b c = record {
 
 -- the stages of a seat that may be at the end of a row
 ending_reads : (a : Activity) → IsEnding a → IsReading a × IsCovering a × IsAtRow a × IsPastStart a × IsUnderway a
+ending_reads (Activity.Read Read.Start) x = (tt, tt, tt, tt, tt)
 ending_reads (Activity.Read Read.Link) x = (tt, tt, tt, tt, tt)
 ending_reads (Activity.Read Read.Key) x = (tt, tt, tt, tt, tt)
 ending_reads (Activity.Read Read.LeftOverKey) x = (tt, tt, tt, tt, tt)
@@ -99,6 +100,7 @@ same_at v g t l m q x = record {
 
 -- a reader at the end of its row is in its visit
 ending_visits : (a : Activity) → IsEnding a → IsVisiting a × (WritesPass a → ⊥)
+ending_visits (Activity.Read Read.Start) x = (tt, λ y. y)
 ending_visits (Activity.Read Read.Link) x = (tt, λ y. y)
 ending_visits (Activity.Read Read.Key) x = (tt, λ y. y)
 ending_visits (Activity.Read Read.LeftOverKey) x = (tt, λ y. y)
@@ -219,6 +221,7 @@ leave_covered h h' l k g answer choice y w c v p x = chosen choice
 -- a seat at the end of a row does not settle
 ending_no_settling : (a : Activity) → IsEnding a → IsSettling a → ⊥
 ending_no_settling (Activity.Draw Draw.Settle) x y = x
+ending_no_settling (Activity.Read Read.Start) x y = y
 ending_no_settling (Activity.Read Read.Link) x y = y
 ending_no_settling _ x y = y
 

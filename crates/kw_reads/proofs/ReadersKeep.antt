@@ -61,6 +61,7 @@ seen_own z r r' s choice l a l' b h i = seen_by z r r' s choice l a l' b h i.inv
 -- where another seat is in the list of its row: at its row, or nothing is said
 walks_if : (n : ℕ) (row : Row) (a : Activity) (k : Local) → (IsAtRead a → ReadsList n row a k) → ReadsList n row a k
 walks_if n row (Activity.Look _) k f = f tt
+walks_if n row (Activity.Read Read.Start) k f = f tt
 walks_if n row (Activity.Read Read.Link) k f = f tt
 walks_if n row (Activity.Read Read.Key) k f = f tt
 walks_if n row (Activity.Read Read.Version) k f = f tt

@@ -3,7 +3,7 @@
 -- The facts here ask only that the record goes on, that the cells of a row that is or was linked
 -- stand for what they did and stay listed, and what an event leaves of a row's list; so they serve
 -- for the reader's own events and for those of every other seat.
-use Rattle.std.proofs.Common.{ℕ, ◌≡◌, ◌⊎◌, inl, inr, ◌<◌, ◌≤◌, Bool, true, false, Option, Some, List, arith, refl, sym, ◌∙◌, subst, length}
+use Rattle.std.proofs.Common.{ℕ, ◌≡◌, ◌⊎◌, inl, inr, ◌<◌, ◌≤◌, Bool, true, false, Option, Some, List, arith, refl, sym, ◌∙◌, subst, length, None}
 use Rattle.std.specs.Prelude.{All, Contains}
 use Rattle.std.proofs.lemmas.List.Elements.{All-weaker}
 use Rattle.kw_cells.specs.declared.cell.Cell as kw_cell
@@ -67,6 +67,10 @@ noted_lasts g f f' l c w keeps (inr n) = inr (keeps l.row c w n)
 
 -- The list.
 
+-- a reader at the first link is on the list
+first_on : (row : Row) (l : Local) → l.link ≡ None → IsOn row l.link
+first_on row l e = subst (IsOn row) (sym e) tt
+
 module _ (n : ℕ) (row row' : Row) (w : Leaves n row row') where
   -- a cell that was reached
   reach_lasts : (l : Local) → HasReachedCell n row l → HasReachedCell n row' l
@@ -79,6 +83,7 @@ module _ (n : ℕ) (row row' : Row) (w : Leaves n row row') where
   -- where the reader is
   pub walks_last : (a : Activity) (l : Local) → ReadsList n row a l → ReadsList n row' a l
   walks_last (Activity.Look _) l k = k
+  walks_last (Activity.Read Read.Start) l k = k
   walks_last (Activity.Read Read.Link) l k = walk_stays n row row' l.link l.walked w k
   walks_last (Activity.Read Read.Key) l k = reach_lasts l k
   walks_last (Activity.Read Read.Version) l k = reach_lasts l k
@@ -92,6 +97,7 @@ module _ (n : ℕ) (row row' : Row) (w : Leaves n row row') where
 
   -- a cell that is to come
   pub to_come_lasts : (a : Activity) (l : Local) (c : ℕ) → ReadsList n row a l → IsToCome row a l c → IsToCome row' a l c
+  to_come_lasts (Activity.Read Read.Start) l c k x = (w.listed c x.0, behind_same row row' w.cell l.link c (first_on row l k.0) (w.cell c x.0) x.1)
   to_come_lasts (Activity.Read Read.Link) l c k x = (w.listed c x.0, behind_same row row' w.cell l.link c k.on (w.cell c x.0) x.1)
   to_come_lasts (Activity.Read Read.LeftOverKey) l c k x = x
   to_come_lasts (Activity.Read Read.LeftOverValue) l c k x = x
@@ -101,6 +107,7 @@ module _ (n : ℕ) (row row' : Row) (w : Leaves n row row') where
 
   -- the link at which the reader is
   link_on : (a : Activity) (l : Local) → IsListing a → ReadsList n row a l → IsOn row l.link
+  link_on (Activity.Read Read.Start) l x k = first_on row l k.0
   link_on (Activity.Read Read.Link) l x k = k.on
   link_on (Activity.Read Read.Key) l x k = k.on
   link_on (Activity.Read Read.Version) l x k = k.on

@@ -44,7 +44,7 @@ use Rattle.kw_shape.specs.Shape.{IsKind, IsPutCall, IsReadCall, Kinds}
 use Rattle.kw_shape.proofs.NextCalls.{cell_call}
 use Rattle.kw_puts.proofs.Owners.{true_false}
 use Rattle.kw_reads.proofs.Relying.{goes_on_by}
-use Rattle.kw_core.proofs.Arrows.{NextLook, looks, lists, begins, enters, is_spent, settles_empty, settles, stops, sees_stamped, sees_neither, is_gone_by, helps, finds_stamped, finds_other, list_ends, key_above, left_over_gone_by, gathers_left_over, clears_scan, clears, leaves, NextLeftOver, retries, clock_is_spent, epoch_is_spent, ends_at_clock, ends_at_epoch}
+use Rattle.kw_core.proofs.Arrows.{NextLook, looks, lists, begins, enters, is_spent, settles_empty, settles, stops, sees_stamped, sees_neither, is_gone_by, helps, finds_stamped, finds_other, list_ends, key_above, left_over_gone_by, gathers_left_over, clears_scan, clears, leaves, NextLeftOver, retries, clock_is_spent, epoch_is_spent, ends_at_clock, ends_at_epoch, first_ends}
 use Rattle.kw_puts.proofs.OwnScans.{IsAfterRead, after_read}
 use Rattle.kw_reads.proofs.OwnPairs.{covers_last, stays, settled_pairs, no_pairs, leave_covered, cell_pairs, put_answered, scan_answered, scan_call_answered, cell_answered}
 
@@ -143,6 +143,7 @@ arrow_early z v s choice l (Activity.Look (Look.Entry j)) k b n x = absurd (earl
 arrow_early z v s choice l (Activity.Look Look.Key) k b n x = absurd (early_not_read k.activity x (after_read z v s choice l (Activity.Look Look.Key) k b tt))
 arrow_early z v s choice l (Activity.Look Look.Clock) k b n x = absurd (early_not_read k.activity x (after_read z v s choice l (Activity.Look Look.Clock) k b tt))
 arrow_early z v s choice l (Activity.Look Look.Help) k b n x = absurd (early_not_read k.activity x (after_read z v s choice l (Activity.Look Look.Help) k b tt))
+arrow_early z v s choice l (Activity.Read Read.Start) k b n x = absurd (early_not_read k.activity x (after_read z v s choice l (Activity.Read Read.Start) k b tt))
 arrow_early z v s choice l (Activity.Read Read.Link) k b n x = absurd (early_not_read k.activity x (after_read z v s choice l (Activity.Read Read.Link) k b tt))
 arrow_early z v s choice l (Activity.Read Read.Key) k b n x = absurd (early_not_read k.activity x (after_read z v s choice l (Activity.Read Read.Key) k b tt))
 arrow_early z v s choice l (Activity.Read Read.Version) k b n x = absurd (early_not_read k.activity x (after_read z v s choice l (Activity.Read Read.Version) k b tt))
@@ -168,6 +169,7 @@ pairs_own z r r' s choice l a l' (clears_scan answer) h i n w = record {
 }
 pairs_own z r r' s choice l a l' (leaves answer) h i n w = record { early = λ x. refl; from = λ f x. absurd x; upto = λ f x. absurd x; covers = λ f x. absurd x; covered = tt }
 pairs_own z r r' s choice l a l' (enters e) h i n w = record { early = λ x. absurd x; from = λ f x. true_false f e; upto = λ f x. true_false f e; covers = λ f x. true_false f e; covered = tt }
+pairs_own z r r' s choice l a l' (first_ends next e x) h i n w = cell_pairs z r r' s choice l _ _ l' (first_ends next e x) h i n w tt (record { call = refl; row = refl; want = refl; next = refl; upper = refl; version = refl; pairs = refl }) x
 pairs_own z r r' s choice l a l' (list_ends next e x) h i n w = cell_pairs z r r' s choice l _ _ l' (list_ends next e x) h i n w tt (record { call = refl; row = refl; want = refl; next = refl; upper = refl; version = refl; pairs = refl }) x
 pairs_own z r r' s choice l a l' (key_above next e x) h i n w = cell_pairs z r r' s choice l _ _ l' (key_above next e x) h i n w tt (record { call = refl; row = refl; want = refl; next = refl; upper = refl; version = refl; pairs = refl }) x
 pairs_own z r r' s choice l a l' (left_over_gone_by next e x) h i n w = cell_pairs z r r' s choice l _ _ l' (left_over_gone_by next e x) h i n w tt (record { call = refl; row = refl; want = refl; next = refl; upper = refl; version = refl; pairs = refl }) x
@@ -197,6 +199,7 @@ left_over_unpaired l k next e n x y = reads_or_puts l.call x (subst IsPutCall ((
 unpaired_own : (z : Sizes) (r r' : Run) (s : ℕ) (choice : Choice) (l : Local) (a : Activity) (l' : Local) → Arrow z (word z r.world) s choice l a l' → Happens z r r' s choice l l' a → Inv z r → IsPutCall l'.call → l'.pairs ≡ []
 unpaired_own z r r' s choice l a l' (builds b next y t) h i p = let n = built_goes z (word z r.world) choice l b l' t in n.pairs ∙ i.replies.unpaired s l h.knows (subst IsPutCall n.call p)
 unpaired_own z r r' s choice l a l' (begins call e x) h i p = (i.replies.pairs s l h.knows).early (subst IsEarly (sym h.activity) tt)
+unpaired_own z r r' s choice l a l' (first_ends next e x) h i p = left_over_unpaired l _ next refl x (kind_of z r r' s choice l l' h i) p
 unpaired_own z r r' s choice l a l' (list_ends next e x) h i p = left_over_unpaired l _ next refl x (kind_of z r r' s choice l l' h i) p
 unpaired_own z r r' s choice l a l' (key_above next e x) h i p = left_over_unpaired l _ next refl x (kind_of z r r' s choice l l' h i) p
 unpaired_own z r r' s choice l a l' (left_over_gone_by next e x) h i p = left_over_unpaired l _ next refl x (kind_of z r r' s choice l l' h i) p
@@ -218,6 +221,7 @@ answers_own z r r' s choice l a l' (is_spent e) h i n w = scan_call_answered l.c
 answers_own z r r' s choice l a l' (clears_scan answer) h i n w = scan_call_answered l.call (answer_or_stopped answer choice) r'.history (leave (answer_or_stopped answer choice) l).local (r'.seats s) (kind_of z r r' s choice l l' h i.inv).0
 answers_own z r r' s choice l a l' (stops e) h i n w = scan_answered l.call Stopped r'.history (leave Stopped l).local (r'.seats s) (and_parts _ _ (and_parts _ _ e).1).0
 answers_own z r r' s choice l a l' clears h i n w = put_answered l.call Done r'.history (leave Done l).local (r'.seats s) (kind_of z r r' s choice l l' h i.inv)
+answers_own z r r' s choice l a l' (first_ends next e x) h i n w = cell_answered z r r' s choice l _ _ l' (first_ends next e x) h i n w tt (record { call = refl; row = refl; want = refl; next = refl; upper = refl; version = refl; pairs = refl }) x
 answers_own z r r' s choice l a l' (list_ends next e x) h i n w = cell_answered z r r' s choice l _ _ l' (list_ends next e x) h i n w tt (record { call = refl; row = refl; want = refl; next = refl; upper = refl; version = refl; pairs = refl }) x
 answers_own z r r' s choice l a l' (key_above next e x) h i n w = cell_answered z r r' s choice l _ _ l' (key_above next e x) h i n w tt (record { call = refl; row = refl; want = refl; next = refl; upper = refl; version = refl; pairs = refl }) x
 answers_own z r r' s choice l a l' (left_over_gone_by next e x) h i n w = cell_answered z r r' s choice l _ _ l' (left_over_gone_by next e x) h i n w tt (record { call = refl; row = refl; want = refl; next = refl; upper = refl; version = refl; pairs = refl }) x

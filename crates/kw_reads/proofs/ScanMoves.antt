@@ -29,7 +29,7 @@ use Rattle.kw_world.specs.Step.{word}
 use Rattle.kw_world.specs.WalkTransitions.{is_stopped}
 use Rattle.kw_core.specs.Run.{Run}
 use Rattle.kw_core.specs.Words.{Words}
-use Rattle.kw_core.proofs.Arrows.{builds, Arrow, NextLook, looks, lists, NextLeftOver, goes_to_left_over, answers, ends_scan, scans_on, sees_stamped, sees_neither, is_gone_by, helps, finds_stamped, finds_other, list_ends, key_above, left_over_gone_by, gathers_left_over, draws, draws_for}
+use Rattle.kw_core.proofs.Arrows.{builds, Arrow, NextLook, looks, lists, NextLeftOver, goes_to_left_over, answers, ends_scan, scans_on, sees_stamped, sees_neither, is_gone_by, helps, finds_stamped, finds_other, list_ends, key_above, left_over_gone_by, gathers_left_over, draws, draws_for, first_ends}
 use Rattle.kw_core.proofs.Frame.{no_link, same_scan, unwritten, writes}
 use Rattle.kw_core.proofs.FreezeFrame.{clock_never_falls}
 use Rattle.kw_core.proofs.Happens.{Happens, knows_next, knows_other, exchanged, not_exchanged}
@@ -85,6 +85,7 @@ drawn_now z v s choice l a k (is_gone_by next e n) x = look_holds z _ next n x
 drawn_now z v s choice l a k (helps next e n) x = look_holds z _ next n x
 drawn_now z v s choice l a k (finds_stamped c version next e n) x = look_holds z _ next n x
 drawn_now z v s choice l a k (finds_other next e n) x = look_holds z _ next n x
+drawn_now z v s choice l a k (first_ends next e n) x = cell_holds _ next n x
 drawn_now z v s choice l a k (list_ends next e n) x = cell_holds _ next n x
 drawn_now z v s choice l a k (key_above next e n) x = cell_holds _ next n x
 drawn_now z v s choice l a k (left_over_gone_by next e n) x = cell_holds _ next n x

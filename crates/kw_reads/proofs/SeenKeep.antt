@@ -46,7 +46,7 @@ use Rattle.kw_reads.specs.Readers.{IsDue, IsCopyOf, IsInHand, AreCopies, Gathers
 use Rattle.kw_reads.specs.Inv.{Inv}
 use Rattle.kw_core.proofs.BuiltNext.{built_goes}
 use Rattle.kw_core.proofs.Attempts.{in_range}
-use Rattle.kw_core.proofs.Arrows.{builds, NextLook, looks, lists, Arrow, begins, reads_last, reads_before, sees_pending, sees_stamped, sees_neither, is_wanted, is_gone_by, loads_to_help, helps, finds_stamped, finds_other, list_leads, list_ends, key_below, key_within, key_above, loads_version, gathers_listed, left_over_wanted, left_over_gone_by, gathers_left_over, takes_cell, enters, enters_scan, leaves, retries, takes_full, settles_empty, settles}
+use Rattle.kw_core.proofs.Arrows.{builds, NextLook, looks, lists, Arrow, begins, reads_last, reads_before, sees_pending, sees_stamped, sees_neither, is_wanted, is_gone_by, loads_to_help, helps, finds_stamped, finds_other, list_leads, list_ends, key_below, key_within, key_above, loads_version, gathers_listed, left_over_wanted, left_over_gone_by, gathers_left_over, takes_cell, enters, enters_scan, leaves, retries, takes_full, settles_empty, settles, begins_at_first, begins_behind, first_ends, first_leads}
 use Rattle.kw_core.proofs.SeatLogs.{settled_same}
 use Rattle.kw_core.proofs.Fates.{others_stay}
 use Rattle.kw_core.proofs.Frame.{WritesPass}
@@ -153,8 +153,12 @@ seen_by z r r' s choice l _ _ loads_to_help h i k = seen_unread r'.history r'.or
 seen_by z r r' s choice l _ _ (helps next e n) h i k = seen_unread r'.history r'.origin _ _ (r'.seats s) (ap (λ g. g.read) h.log ∙ unread_before h i tt)
 seen_by z r r' s choice l _ _ (finds_stamped c version next e n) h i k = seen_unread r'.history r'.origin _ _ (r'.seats s) (ap (λ g. g.read) h.log ∙ unread_before h i tt)
 seen_by z r r' s choice l _ _ (finds_other next e n) h i k = seen_unread r'.history r'.origin _ _ (r'.seats s) (ap (λ g. g.read) h.log ∙ unread_before h i tt)
+seen_by z r r' s choice l _ _ (first_leads c e) h i k = seen_unread r'.history r'.origin _ _ (r'.seats s) (ap (λ g. g.read) h.log ∙ unread_before h i tt)
 seen_by z r r' s choice l _ _ (list_leads c e) h i k = seen_unread r'.history r'.origin _ _ (r'.seats s) (ap (λ g. g.read) h.log ∙ unread_before h i tt)
-seen_by z r r' s choice l _ _ (list_ends next e n) h i k = subst (HasSeen r'.history r'.origin next.activity next) (sym h.log) (seen_next r'.history r'.origin l next _ n (left_at_end h i k e) (unread_before h i tt))
+seen_by z r r' s choice l _ _ (first_ends next e n) h i k = subst (HasSeen r'.history r'.origin next.activity next) (sym h.log) (seen_next r'.history r'.origin l next _ n (left_at_end h i tt k e) (unread_before h i tt))
+seen_by z r r' s choice l _ _ (list_ends next e n) h i k = subst (HasSeen r'.history r'.origin next.activity next) (sym h.log) (seen_next r'.history r'.origin l next _ n (left_at_end h i tt k e) (unread_before h i tt))
+seen_by z r r' s choice l _ _ (begins_behind guess inside e) h i k = seen_unread r'.history r'.origin _ _ (r'.seats s) (ap (λ g. g.read) h.log ∙ unread_before h i tt)
+seen_by z r r' s choice l _ _ (begins_at_first guess e) h i k = seen_unread r'.history r'.origin _ _ (r'.seats s) (ap (λ g. g.read) h.log ∙ unread_before h i tt)
 seen_by z r r' s choice l _ _ (key_below e) h i k = seen_unread r'.history r'.origin _ _ (r'.seats s) (ap (λ g. g.read) h.log ∙ unread_before h i tt)
 seen_by z r r' s choice l _ _ (key_within e w) h i k = seen_unread r'.history r'.origin _ _ (r'.seats s) (ap (λ g. g.read) h.log ∙ unread_before h i tt)
 seen_by z r r' s choice l _ _ (key_above next e n) h i k = subst (HasSeen r'.history r'.origin next.activity next) (sym h.log) (seen_next r'.history r'.origin l next _ n (left_above h i k e) (unread_before h i tt))
@@ -247,8 +251,12 @@ gathers_by z r r' s choice l _ _ loads_to_help h i k = gathers_saw r'.history r'
 gathers_by z r r' s choice l _ _ (helps next e n) h i k = gathers_none z r'.history r'.origin (l.looked + 1) next _ (r'.seats s) n ((gathered_before h i).empty tt) (ap (λ g. g.ids) h.log ∙ (gathered_before h i).no_ids tt)
 gathers_by z r r' s choice l _ _ (finds_stamped c version next e n) h i k = gathers_none z r'.history r'.origin (l.looked + 1) next _ (r'.seats s) n ((gathered_before h i).empty tt) (ap (λ g. g.ids) h.log ∙ (gathered_before h i).no_ids tt)
 gathers_by z r r' s choice l _ _ (finds_other next e n) h i k = gathers_none z r'.history r'.origin (l.looked + 1) next _ (r'.seats s) n ((gathered_before h i).empty tt) (ap (λ g. g.ids) h.log ∙ (gathered_before h i).no_ids tt)
+gathers_by z r r' s choice l _ _ (first_leads c e) h i k = gathers_hand r'.history r'.origin (Activity.Read Read.Key) _ (r'.seats s) (subst (λ x. AreCopies r'.history r'.origin l.row l.call l.gathered x) (sym (ap (λ g. g.ids) h.log)) (copies_kept h i tt)) (ap (λ g. g.read) h.log ∙ unread_before h i tt) (λ x. x) (λ x. x)
 gathers_by z r r' s choice l _ _ (list_leads c e) h i k = gathers_hand r'.history r'.origin (Activity.Read Read.Key) _ (r'.seats s) (subst (λ x. AreCopies r'.history r'.origin l.row l.call l.gathered x) (sym (ap (λ g. g.ids) h.log)) (copies_kept h i tt)) (ap (λ g. g.read) h.log ∙ unread_before h i tt) (λ x. x) (λ x. x)
+gathers_by z r r' s choice l _ _ (first_ends next e n) h i k = subst (Gathers r'.history r'.origin next.activity next) (sym h.log) (copies_next r'.history r'.origin l next (r.seats s) n (copies_kept h i tt) (unread_before h i tt))
 gathers_by z r r' s choice l _ _ (list_ends next e n) h i k = subst (Gathers r'.history r'.origin next.activity next) (sym h.log) (copies_next r'.history r'.origin l next (r.seats s) n (copies_kept h i tt) (unread_before h i tt))
+gathers_by z r r' s choice l _ _ (begins_behind guess inside e) h i k = gathers_hand r'.history r'.origin (Activity.Read Read.Link) _ (r'.seats s) (subst (λ x. AreCopies r'.history r'.origin l.row l.call l.gathered x) (sym (ap (λ g. g.ids) h.log)) (copies_kept h i tt)) (ap (λ g. g.read) h.log ∙ unread_before h i tt) (λ x. x) (λ x. x)
+gathers_by z r r' s choice l _ _ (begins_at_first guess e) h i k = gathers_hand r'.history r'.origin (Activity.Read Read.Link) _ (r'.seats s) (subst (λ x. AreCopies r'.history r'.origin l.row l.call l.gathered x) (sym (ap (λ g. g.ids) h.log)) (copies_kept h i tt)) (ap (λ g. g.read) h.log ∙ unread_before h i tt) (λ x. x) (λ x. x)
 gathers_by z r r' s choice l _ _ (key_below e) h i k = gathers_hand r'.history r'.origin (Activity.Read Read.Link) _ (r'.seats s) (subst (λ x. AreCopies r'.history r'.origin l.row l.call l.gathered x) (sym (ap (λ g. g.ids) h.log)) (copies_kept h i tt)) (ap (λ g. g.read) h.log ∙ unread_before h i tt) (λ x. x) (λ x. x)
 gathers_by z r r' s choice l _ _ (key_within e w) h i k = gathers_hand r'.history r'.origin (Activity.Read Read.Version) _ (r'.seats s) (subst (λ x. AreCopies r'.history r'.origin l.row l.call l.gathered x) (sym (ap (λ g. g.ids) h.log)) (copies_kept h i tt)) (ap (λ g. g.read) h.log ∙ unread_before h i tt) (λ x. x) (λ x. x)
 gathers_by z r r' s choice l _ _ (key_above next e n) h i k = subst (Gathers r'.history r'.origin next.activity next) (sym h.log) (copies_next r'.history r'.origin l next (r.seats s) n (copies_kept h i tt) (unread_before h i tt))
@@ -314,6 +322,11 @@ module _ {z : Sizes} {r r' : Run} {s : ℕ} {choice : Choice} {l l' : Local} whe
   read_was Activity.Idle h i q e = begun_unread choice (length r.history.calls) q (r.seats s) h.moves (sym (ap (λ g. g.read) h.log) ∙ e)
   read_was (Activity.Look (Look.Entry j)) h i q e = let y : None ≡ Some q = sym (ap (λ g. g.read) h.log ∙ look_unread j (length r.history.log) (r.seats s) (unread_before h i)) ∙ e in absurd (cc)
   read_was (Activity.Look _) h i q e = let y : None ≡ Some q = sym (ap (λ g. g.read) h.log ∙ unread_before h i tt) ∙ e in absurd (cc)
+  read_was (Activity.Read Read.Start) h i q e = at_end (read_is l'.activity l.row q (r.seats s) (sym (ap (λ g. g.read) h.log) ∙ e))
+    where
+      at_end : ((r.seats s).read ≡ Some q) ⊎ (l.row ≡ q) → IsKeeping (Activity.Read Read.Start) × ((r.seats s).read ≡ Some q) ⊎ IsAtRead (Activity.Read Read.Start) × (l.row ≡ q)
+      at_end (inl x) = inl (tt, x)
+      at_end (inr x) = inr (tt, x)
   read_was (Activity.Read Read.Link) h i q e = at_end (read_is l'.activity l.row q (r.seats s) (sym (ap (λ g. g.read) h.log) ∙ e))
     where
       at_end : ((r.seats s).read ≡ Some q) ⊎ (l.row ≡ q) → IsKeeping (Activity.Read Read.Link) × ((r.seats s).read ≡ Some q) ⊎ IsAtRead (Activity.Read Read.Link) × (l.row ≡ q)

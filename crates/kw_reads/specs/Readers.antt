@@ -87,11 +87,12 @@ pub record HasReachedCell (n : ℕ) (r : Row) (l : Local) : Type 0 where
   pub behind : IsBehind r l.link l.place
   pub walks : IsWalking n r (Some l.place) l.walked
 
--- where a reader is in the list of its row: at the first link while it looks at entries; then at
--- its link, or at the cell that it has reached. It has counted no more cells than there are listed
--- ones up to there, for it reaches none twice
+-- where a reader is in the list of its row: at the first link while it looks at entries and where
+-- it begins with the list; then at its link, or at the cell that it has reached. It has counted no
+-- more cells than there are listed ones up to there, for it reaches none twice
 abbrev pub ReadsList : ℕ → Row → Activity → Local → Type 0
 ReadsList n r (Activity.Look _) l = (l.link ≡ None) × (l.walked ≡ 0)
+ReadsList n r (Activity.Read Read.Start) l = (l.link ≡ None) × (l.walked ≡ 0)
 ReadsList n r (Activity.Read Read.Link) l = IsWalking n r l.link l.walked
 ReadsList n r (Activity.Read Read.Key) l = HasReachedCell n r l
 ReadsList n r (Activity.Read Read.Version) l = HasReachedCell n r l
@@ -105,6 +106,7 @@ IsFromHand r l c = (r.listed c ≡ true) × ((c ≡ l.place) ⊎ Stands r l.plac
 -- the walk will reach the cell, or it is in hand: it is listed behind the reader's link, or from
 -- the cell in hand on; of the cells that were not reached it is the one in hand
 abbrev pub IsToCome : Row → Activity → Local → ℕ → Type 0
+IsToCome r (Activity.Read Read.Start) l c = (r.listed c ≡ true) × IsBehind r l.link c
 IsToCome r (Activity.Read Read.Link) l c = (r.listed c ≡ true) × IsBehind r l.link c
 IsToCome r (Activity.Read Read.LeftOverKey) l c = c ≡ l.place
 IsToCome r (Activity.Read Read.LeftOverValue) l c = c ≡ l.place

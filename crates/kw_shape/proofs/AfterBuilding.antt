@@ -97,13 +97,13 @@ after_kinds _ l x p = absurd x
 
 -- it is at no row of a walk
 pub after_walks : (v : Words) (g : Ledger) (t : ℕ) (a : Activity) (l : Local) → IsAfterBuilding a → Walks v g t a l
-after_walks v g t (Activity.Rebalance (Rebalance.Seek _)) l x = record { on = tt; lower = λ u. absurd u; at = λ u. absurd u; begins = λ u. absurd u; wants = λ u. absurd u }
-after_walks v g t (Activity.Rebalance (Rebalance.Write _)) l x = record { on = tt; lower = λ u. absurd u; at = λ u. absurd u; begins = λ u. absurd u; wants = λ u. absurd u }
-after_walks v g t (Activity.Rebalance (Rebalance.Replace _)) l x = record { on = tt; lower = λ u. absurd u; at = λ u. absurd u; begins = λ u. absurd u; wants = λ u. absurd u }
-after_walks v g t Activity.Retry l x = record { on = tt; lower = λ u. absurd u; at = λ u. absurd u; begins = λ u. absurd u; wants = λ u. absurd u }
-after_walks v g t (Activity.Rebalance (Rebalance.Engage Engage.Clock)) l x = record { on = tt; lower = λ u. absurd u; at = λ u. absurd u; begins = λ u. absurd u; wants = λ u. absurd u }
-after_walks v g t (Activity.Leave Done) l x = record { on = tt; lower = λ u. absurd u; at = λ u. absurd u; begins = λ u. absurd u; wants = λ u. absurd u }
-after_walks v g t (Activity.Leave NoRows) l x = record { on = tt; lower = λ u. absurd u; at = λ u. absurd u; begins = λ u. absurd u; wants = λ u. absurd u }
+after_walks v g t (Activity.Rebalance (Rebalance.Seek _)) l x = record { on = tt; lower = λ u. absurd u; built = λ u. absurd u; at = λ u. absurd u; begins = λ u. absurd u; wants = λ u. absurd u }
+after_walks v g t (Activity.Rebalance (Rebalance.Write _)) l x = record { on = tt; lower = λ u. absurd u; built = λ u. absurd u; at = λ u. absurd u; begins = λ u. absurd u; wants = λ u. absurd u }
+after_walks v g t (Activity.Rebalance (Rebalance.Replace _)) l x = record { on = tt; lower = λ u. absurd u; built = λ u. absurd u; at = λ u. absurd u; begins = λ u. absurd u; wants = λ u. absurd u }
+after_walks v g t Activity.Retry l x = record { on = tt; lower = λ u. absurd u; built = λ u. absurd u; at = λ u. absurd u; begins = λ u. absurd u; wants = λ u. absurd u }
+after_walks v g t (Activity.Rebalance (Rebalance.Engage Engage.Clock)) l x = record { on = tt; lower = λ u. absurd u; built = λ u. absurd u; at = λ u. absurd u; begins = λ u. absurd u; wants = λ u. absurd u }
+after_walks v g t (Activity.Leave Done) l x = record { on = tt; lower = λ u. absurd u; built = λ u. absurd u; at = λ u. absurd u; begins = λ u. absurd u; wants = λ u. absurd u }
+after_walks v g t (Activity.Leave NoRows) l x = record { on = tt; lower = λ u. absurd u; built = λ u. absurd u; at = λ u. absurd u; begins = λ u. absurd u; wants = λ u. absurd u }
 after_walks v g t _ l x = absurd x
 
 -- a seat that has a frozen row there builds on, so what it knows of that row stays (`built_keeps`)

@@ -24,7 +24,7 @@ use Rattle.kw_core.specs.declared.stage.Stage.{Stage}
 use Rattle.kw_core.specs.declared.stage.Stage.TheVariants.{Rebalancing}
 use Rattle.kw_core.specs.Stages.{stage_of, IsAtRow, IsBalancingStage, IsVisitingStage, IsBalancing, IsVisiting}
 use Rattle.kw_core.specs.Words.{Words, least_in}
-use Rattle.kw_core.proofs.Arrows.{Arrow, NextLook, NextLeftOver, answers, clock_serves, decides, ends_scan, engages, epoch_serves, finds_infant, finds_leader, finds_normal, finds_other, finds_stamped, gathers_left_over, helps, is_engaged, is_gone_by, key_above, list_ends, lists, looks, marks_link, marks_led, sees_neither, sees_stamped, normalises, left_over_gone_by, goes_to_left_over, scans_on, finds_full, takes_full, announces_full, stamps_full, freezes_count, sees_idle, sees_unstamped, remembers, remembers_last, sees_frozen, sees_frozen_last, freezes_entry, freezes_last, looks_again, sees_quiet, sees_quiet_last, helps_scan, sees_drawn, sees_drawn_last, draws_for, settles_scan, settles_last, finds_drawn, finds_drawn_last, finds_no_scan, finds_no_scan_last, take_leads, takes_left, takes_key, takes_version, keeps_taken, takes_left_key, keeps_left, takes_no_more, keeps_no_more, builds, tidies}
+use Rattle.kw_core.proofs.Arrows.{Arrow, NextLook, NextLeftOver, answers, clock_serves, decides, ends_scan, engages, epoch_serves, finds_infant, finds_leader, finds_normal, finds_other, finds_stamped, gathers_left_over, helps, is_engaged, is_gone_by, key_above, list_ends, lists, looks, marks_link, marks_led, sees_neither, sees_stamped, normalises, left_over_gone_by, goes_to_left_over, scans_on, finds_full, takes_full, announces_full, stamps_full, freezes_count, sees_idle, sees_unstamped, remembers, remembers_last, sees_frozen, sees_frozen_last, freezes_entry, freezes_last, looks_again, sees_quiet, sees_quiet_last, helps_scan, sees_drawn, sees_drawn_last, draws_for, settles_scan, settles_last, finds_drawn, finds_drawn_last, finds_no_scan, finds_no_scan_last, take_leads, takes_left, takes_key, takes_version, keeps_taken, takes_left_key, keeps_left, takes_no_more, keeps_no_more, builds, tidies, first_ends}
 use Rattle.kw_core.proofs.Building.{Building, IsBuilding, draws_number, makes_last_normal, makes_normal, retires_row, retires_and_leaves}
 use Rattle.kw_core.proofs.BuiltNext.{IsAfterBuilding, built_keeps, built_next}
 use Rattle.kw_core.proofs.Frame.{WritesPass}
@@ -246,6 +246,7 @@ balances_own z r r' s choice l a l' (is_gone_by next y n) h i = look_outside _ _
 balances_own z r r' s choice l a l' (helps next y n) h i = look_outside _ _ s z _ next _ n
 balances_own z r r' s choice l a l' (finds_stamped c version next y n) h i = look_outside _ _ s z _ next _ n
 balances_own z r r' s choice l a l' (finds_other next y n) h i = look_outside _ _ s z _ next _ n
+balances_own z r r' s choice l a l' (first_ends next e n) h i = left_over_outside _ _ s _ next n
 balances_own z r r' s choice l a l' (list_ends next e n) h i = left_over_outside _ _ s _ next n
 balances_own z r r' s choice l a l' (key_above next y n) h i = left_over_outside _ _ s _ next n
 balances_own z r r' s choice l a l' (left_over_gone_by next y n) h i = left_over_outside _ _ s _ next n

@@ -10,7 +10,7 @@ use Rattle.kw_world.specs.declared.event.Choice.{Choice}
 use Rattle.kw_world.specs.declared.local.Local.{Local}
 use Rattle.kw_world.specs.Sizes.{Sizes}
 use Rattle.kw_core.specs.Words.{Words}
-use Rattle.kw_core.proofs.Arrows.{Arrow, NextLook, looks, lists, NextLeftOver, goes_to_left_over, answers, ends_scan, scans_on, sees_stamped, sees_neither, is_gone_by, helps, finds_stamped, finds_other, list_ends, key_above, left_over_gone_by, gathers_left_over, takes_no_more, keeps_no_more, builds}
+use Rattle.kw_core.proofs.Arrows.{Arrow, NextLook, looks, lists, NextLeftOver, goes_to_left_over, answers, ends_scan, scans_on, sees_stamped, sees_neither, is_gone_by, helps, finds_stamped, finds_other, list_ends, key_above, left_over_gone_by, gathers_left_over, takes_no_more, keeps_no_more, builds, first_ends}
 use Rattle.kw_core.proofs.Building.{Building, IsBuilding}
 use Rattle.kw_shape.proofs.InfantsStay.{measured}
 use Rattle.kw_shape.proofs.SearchKeep.{elsewhere}
@@ -45,6 +45,7 @@ comes z v s choice l a k (is_gone_by next y n) = stays_out (look_out z _ next n)
 comes z v s choice l a k (helps next y n) = stays_out (look_out z _ next n)
 comes z v s choice l a k (finds_stamped c version next y n) = stays_out (look_out z _ next n)
 comes z v s choice l a k (finds_other next y n) = stays_out (look_out z _ next n)
+comes z v s choice l a k (first_ends next e n) = stays_out (left_over_out _ next n)
 comes z v s choice l a k (list_ends next e n) = stays_out (left_over_out _ next n)
 comes z v s choice l a k (key_above next y n) = stays_out (left_over_out _ next n)
 comes z v s choice l a k (left_over_gone_by next y n) = stays_out (left_over_out _ next n)

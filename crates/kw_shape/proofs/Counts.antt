@@ -14,7 +14,7 @@ use Rattle.kw_world.specs.declared.event.Choice.{Choice}
 use Rattle.kw_world.specs.Sizes.{Sizes}
 use Rattle.kw_shape.specs.Rooms.{adding, adders, drawing, drawers}
 use Rattle.kw_core.specs.Words.{Words}
-use Rattle.kw_core.proofs.Arrows.{Arrow, waits, finds_room, sees_stamped, sees_neither, is_gone_by, helps, finds_stamped, finds_other, list_ends, key_above, left_over_gone_by, gathers_left_over, NextLook, looks, lists, NextLeftOver, goes_to_left_over, answers, ends_scan, scans_on, clock_serves, builds}
+use Rattle.kw_core.proofs.Arrows.{Arrow, waits, finds_room, sees_stamped, sees_neither, is_gone_by, helps, finds_stamped, finds_other, list_ends, key_above, left_over_gone_by, gathers_left_over, NextLook, looks, lists, NextLeftOver, goes_to_left_over, answers, ends_scan, scans_on, clock_serves, builds, first_ends}
 use Rattle.kw_core.proofs.BuiltNext.{IsAfterBuilding, built_next}
 
 -- the seats that are about to ask a row for a cell, with one seat's local set
@@ -129,6 +129,7 @@ adding_next z v s choice l a l' q (is_gone_by next y m) n = look_adds z _ l.row 
 adding_next z v s choice l a l' q (helps next y m) n = look_adds z _ l.row q next m
 adding_next z v s choice l a l' q (finds_stamped c version next y m) n = look_adds z _ l.row q next m
 adding_next z v s choice l a l' q (finds_other next y m) n = look_adds z _ l.row q next m
+adding_next z v s choice l a l' q (first_ends next e m) n = cell_adds _ q next m
 adding_next z v s choice l a l' q (list_ends next e m) n = cell_adds _ q next m
 adding_next z v s choice l a l' q (key_above next y m) n = cell_adds _ q next m
 adding_next z v s choice l a l' q (left_over_gone_by next y m) n = cell_adds _ q next m
@@ -146,6 +147,7 @@ drawing_next z v s choice l a l' (is_gone_by next y m) w n = omega (arith, look_
 drawing_next z v s choice l a l' (helps next y m) w n = omega (arith, look_draws z _ n next m)
 drawing_next z v s choice l a l' (finds_stamped c version next y m) w n = omega (arith, look_draws z _ n next m)
 drawing_next z v s choice l a l' (finds_other next y m) w n = omega (arith, look_draws z _ n next m)
+drawing_next z v s choice l a l' (first_ends next e m) w n = omega (arith, cell_draws _ n next m)
 drawing_next z v s choice l a l' (list_ends next e m) w n = omega (arith, cell_draws _ n next m)
 drawing_next z v s choice l a l' (key_above next y m) w n = omega (arith, cell_draws _ n next m)
 drawing_next z v s choice l a l' (left_over_gone_by next y m) w n = omega (arith, cell_draws _ n next m)

@@ -16,7 +16,7 @@ use Rattle.kw_world.specs.Sizes.{Sizes}
 use Rattle.kw_world.specs.Step.{word}
 use Rattle.kw_core.specs.Run.{Run}
 use Rattle.kw_core.specs.Words.{Words}
-use Rattle.kw_core.proofs.Arrows.{Arrow, sees_stamped, sees_neither, is_gone_by, helps, finds_stamped, finds_other, list_ends, key_above, left_over_gone_by, gathers_left_over, NextLook, looks, lists, NextLeftOver, goes_to_left_over, answers, ends_scan, scans_on, epoch_is_spent, epoch_serves, builds, ends_at_epoch}
+use Rattle.kw_core.proofs.Arrows.{Arrow, sees_stamped, sees_neither, is_gone_by, helps, finds_stamped, finds_other, list_ends, key_above, left_over_gone_by, gathers_left_over, NextLook, looks, lists, NextLeftOver, goes_to_left_over, answers, ends_scan, scans_on, epoch_is_spent, epoch_serves, builds, ends_at_epoch, first_ends}
 use Rattle.kw_core.proofs.Building.{Building, gives_one_back, gives_last_back, draws_number, retires_row, retires_and_leaves}
 use Rattle.kw_core.proofs.Happens.{Happens}
 use Rattle.kw_core.proofs.InfantFrames.{epoch_stays, number_drawn}
@@ -80,6 +80,7 @@ numbers_next z v s choice l a l' (is_gone_by next y m) n = omega (arith, look_nu
 numbers_next z v s choice l a l' (helps next y m) n = omega (arith, look_numbers z _ next m)
 numbers_next z v s choice l a l' (finds_stamped c version next y m) n = omega (arith, look_numbers z _ next m)
 numbers_next z v s choice l a l' (finds_other next y m) n = omega (arith, look_numbers z _ next m)
+numbers_next z v s choice l a l' (first_ends next e m) n = omega (arith, cell_numbers _ next m)
 numbers_next z v s choice l a l' (list_ends next e m) n = omega (arith, cell_numbers _ next m)
 numbers_next z v s choice l a l' (key_above next y m) n = omega (arith, cell_numbers _ next m)
 numbers_next z v s choice l a l' (left_over_gone_by next y m) n = omega (arith, cell_numbers _ next m)

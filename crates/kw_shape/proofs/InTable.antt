@@ -56,7 +56,7 @@ use Rattle.kw_world.specs.PutTransitions.{given_of}
 use Rattle.kw_world.specs.WalkTransitions.{start_transition, walk_transition, is_stopped}
 use Rattle.kw_world.specs.Table.{transition}
 use Rattle.kw_world.specs.declared.operation.Action.TheVariants.{Exchange}
-use Rattle.kw_world.specs.ListTransitions.{link_name}
+use Rattle.kw_world.specs.ListTransitions.{cell_guess, first_operation, link_name}
 use Rattle.kw_world.specs.Sane.{IsCellBelow, IsGiven, IsEntry, IsHead, IsKnownWord, IsLinkBelow, IsRowState, IsStateBelow, IsValueWord, IsWord, IsLed}
 use Rattle.kw_core.specs.Words.{Words, given_in}
 use Rattle.kw_core.proofs.Happens.{Changed}
@@ -157,6 +157,11 @@ module _ (z : Sizes) (rows : ℕ) (v : Words) (s : ℕ) (choice : Choice) (l : L
   guesses (Guess r) n = loaded (name.State r) n
   guesses Stop n = loaded name.Head n
 
+  -- a walk along a list begins with a load
+  firsts : (g : Option ℕ) → IsWithin z.seats z.cells rows (first_operation g l).name → IsWord z (first_operation g l).name (word_after (first_operation g l).action (v (first_operation g l).name)) × IsLed rows (first_operation g l).name (word_after (first_operation g l).action (v (first_operation g l).name))
+  firsts (Some c) n = loaded (name.Key l.row c) n
+  firsts None n = loaded (link_name l.row l.link) n
+
   -- the link to the full row is exchanged for one to the first new row
   links : (before : Option ℕ) → IsWithin z.seats z.cells rows (replaced_link before) → IsKnownAt z rows (Activity.Rebalance (Rebalance.Replace Replace.Exchange)) l →
       IsWord z (replaced_link before) (word_after (Exchange (link_word (unmarked_link (Some l.row))) (link_word (unmarked_link (Some (first_infant l))))) (v (replaced_link before))) ×
@@ -222,6 +227,8 @@ module _ (z : Sizes) (rows : ℕ) (v : Words) (s : ℕ) (choice : Choice) (l : L
   written (Activity.Rebalance (Rebalance.Replace Replace.Normalise)) k n = set_state (infant l) (state.Infant s) Normal tt tt tt n
   written (Activity.Rebalance (Rebalance.Replace Replace.Number)) k n = ((omega arith, more.epoch), tt)
   written (Activity.Rebalance (Rebalance.Replace Replace.Retire)) k n = (state_known z (state.Retired l.rebalance.number) k.ranges.rebalance.number k.ranges.rebalance.number, state_below rows (state.Retired l.rebalance.number) k.ranges.rebalance.number tt)
+  written (Activity.Read Read.Start) k n = firsts (cell_guess choice l) n
+  written (Activity.Insert Insert.Start) k n = firsts (cell_guess choice l) n
   written (Activity.Read Read.Link) k n = loaded (transition z (Activity.Read Read.Link) s choice l).operation.name n
   written (Activity.Rebalance (Rebalance.Gather Gather.Link)) k n = loaded (transition z (Activity.Rebalance (Rebalance.Gather Gather.Link)) s choice l).operation.name n
   written a k n = loaded (transition z a s choice l).operation.name n

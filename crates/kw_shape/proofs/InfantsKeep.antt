@@ -94,7 +94,7 @@ module _ (z : Sizes) (v : Words) (g : Ledger) (t : ℕ) where
     hand = λ n. h;
     enough = λ n. (omega (arith, h), m);
     whole = λ i q n f. w i q n f;
-    words = λ n. record { count = λ x. absurd x; least = λ x. absurd x; next = λ x. absurd x; first = λ x. absurd x; entries = λ i c x. absurd x; keys = λ j c p x. absurd x; values = λ j c p x. absurd x; versions = λ j c x. absurd x; afters = λ j c x. absurd x };
+    words = λ n. record { count = λ x. absurd x; least = λ x. absurd x; next = λ x. absurd x; first = λ x. absurd x; entries = λ i c x. absurd x; keys = λ j c p x. absurd x; values = λ j c p x. absurd x; versions = λ j c x. absurd x; afters = λ j c p x. absurd x };
   }
 
   -- one that goes on to write it

@@ -41,7 +41,7 @@ use Rattle.kw_core.proofs.InfantFrames.{IsTarget, target_of, row_stays}
 use Rattle.kw_core.proofs.NextBuilt.{NextBefore, is_behind, is_first}
 use Rattle.kw_shape.proofs.InfantsKeep.{Own, Wrote, at_writing, back_on, cell_on, entry_on, given_on, got_more, linking, nowhere, pass_on, seek_on, seeking, taken_on}
 use Rattle.kw_shape.proofs.InfantsStay.{infant_at, infant_stays, infants_stable, written_stays}
-use Rattle.kw_shape.proofs.InfantsWritten.{writes_after, writes_count, writes_entry, writes_first, writes_key, writes_least, writes_next, writes_value, writes_version, written_like}
+use Rattle.kw_shape.proofs.InfantsWritten.{place_end, writes_after, writes_count, writes_entry, writes_first, writes_key, writes_least, writes_next, writes_value, writes_version, written_like}
 use Rattle.kw_shape.specs.Infants.{Writes, Links, HasAll, HasAtHand, Infants, IsInfantOf, IsNursed, IsWhole, IsWriting, Written, nursing_of}
 use Rattle.kw_shape.specs.RowsIn.{rows_in, state_seen}
 
@@ -222,7 +222,8 @@ module _ {z : Sizes} {r r' : Run} {s : ℕ} {choice : Choice} {l : Local} where
   infants_own a k (built.writes_entry j next y) h states small inside x = entry_on z (word z r'.world) r'.ledger.rows s (j + 1) l next y (wrote_on (Activity.Rebalance (Rebalance.Write (Write.Entry j))) (Activity.Rebalance (Rebalance.Write (Write.Entry (j + 1)))) h (λ q d c. d c) (λ q c. c) inside (λ i w. writes_entry j h i w) (wrote_of z (word z r.world) r.ledger.rows s (Activity.Rebalance (Rebalance.Write (Write.Entry j))) l refl x))
   infants_own a k (built.writes_key j) h states small inside x = at_writing z (word z r'.world) r'.ledger.rows s (Activity.Rebalance (Rebalance.Write (Write.Value j))) l refl (wrote_on (Activity.Rebalance (Rebalance.Write (Write.Key j))) (Activity.Rebalance (Rebalance.Write (Write.Value j))) h (λ q d c. d c) (λ q c. c) inside (λ i w. writes_key j h i w) (wrote_of z (word z r.world) r.ledger.rows s (Activity.Rebalance (Rebalance.Write (Write.Key j))) l refl x))
   infants_own a k (built.writes_value j) h states small inside x = at_writing z (word z r'.world) r'.ledger.rows s (Activity.Rebalance (Rebalance.Write (Write.Version j))) l refl (wrote_on (Activity.Rebalance (Rebalance.Write (Write.Value j))) (Activity.Rebalance (Rebalance.Write (Write.Version j))) h (λ q d c. d c) (λ q c. c) inside (λ i w. writes_value j h i w) (wrote_of z (word z r.world) r.ledger.rows s (Activity.Rebalance (Rebalance.Write (Write.Value j))) l refl x))
-  infants_own a k (built.writes_version j) h states small inside x = at_writing z (word z r'.world) r'.ledger.rows s (Activity.Rebalance (Rebalance.Write (Write.After j))) l refl (wrote_on (Activity.Rebalance (Rebalance.Write (Write.Version j))) (Activity.Rebalance (Rebalance.Write (Write.After j))) h (λ q d c. d c) (λ q c. c) inside (λ i w. writes_version j h i w) (wrote_of z (word z r.world) r.ledger.rows s (Activity.Rebalance (Rebalance.Write (Write.Version j))) l refl x))
+  infants_own a k (built.writes_version j o) h states small inside x = at_writing z (word z r'.world) r'.ledger.rows s (Activity.Rebalance (Rebalance.Write (Write.After j))) l refl (wrote_on (Activity.Rebalance (Rebalance.Write (Write.Version j))) (Activity.Rebalance (Rebalance.Write (Write.After j))) h (λ q d c. d c) (λ q c. c) inside (λ i w. writes_version j h i w) (wrote_of z (word z r.world) r.ledger.rows s (Activity.Rebalance (Rebalance.Write (Write.Version j))) l refl x))
+  infants_own a k (built.writes_no_cell j next o y) h states small inside x = cell_on z (word z r'.world) r'.ledger.rows s (j + 1) l next y (wrote_on (Activity.Rebalance (Rebalance.Write (Write.Version j))) (Activity.Rebalance (Rebalance.Write (Write.Key (j + 1)))) h (λ q d c. d c) (λ q c. c) inside (λ i w. place_end z (word z r'.world) l (infant l) j o (writes_version j h i w)) (wrote_of z (word z r.world) r.ledger.rows s (Activity.Rebalance (Rebalance.Write (Write.Version j))) l refl x))
   infants_own a k (built.writes_after j next y) h states small inside x = cell_on z (word z r'.world) r'.ledger.rows s (j + 1) l next y (wrote_on (Activity.Rebalance (Rebalance.Write (Write.After j))) (Activity.Rebalance (Rebalance.Write (Write.Key (j + 1)))) h (λ q d c. d c) (λ q c. c) inside (λ i w. writes_after j h i w) (wrote_of z (word z r.world) r.ledger.rows s (Activity.Rebalance (Rebalance.Write (Write.After j))) l refl x))
   infants_own a k (begins_before next y) h states small inside x = first_on (Activity.Rebalance (Rebalance.Replace Replace.Start)) h (loaded (Activity.Rebalance (Rebalance.Replace Replace.Start)) h (before_loaded choice refl h) (λ q c. c) inside x) refl next y
   infants_own a k (guesses_before q c e) h states small inside x = linked (Activity.Rebalance (Rebalance.Replace Replace.Start)) (Activity.Rebalance (Rebalance.Replace Replace.GuessedLeast)) _ h (loaded (Activity.Rebalance (Rebalance.Replace Replace.Start)) h (before_loaded choice refl h) (λ q c. c) inside x) refl refl refl refl (λ i q w. written_like z (word z r'.world) (Activity.Rebalance (Rebalance.Replace Replace.Start)) (at_infant i l) _ q refl refl refl w)

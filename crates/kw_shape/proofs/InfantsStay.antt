@@ -41,7 +41,7 @@ written_stays z rows v v' a l q i same w = record {
   keys = λ j o y x. same (name.Key q j) refl refl (i, o) ∙ w.keys j o y x;
   values = λ j o y x. same (name.Value q j) refl refl (i, o) ∙ w.values j o y x;
   versions = λ j o x. same (name.Version q j) refl refl (i, o) ∙ w.versions j o x;
-  afters = λ j o x. same (name.After q j) refl refl (i, o) ∙ w.afters j o x;
+  afters = λ j o y x. same (name.After q j) refl refl (i, o) ∙ w.afters j o y x;
 }
 
 -- a row is still an infant of the seat

@@ -8,7 +8,7 @@ use Rattle.kw_words.specs.declared.pend.Pend.TheVariants as pend
 use Rattle.kw_words.specs.Count.{count_word}
 use Rattle.kw_words.specs.Link.{link_word}
 use Rattle.kw_words.specs.Pend.{pend_word}
-use Rattle.kw_words.specs.Plain.{cell_link_word, key_word, value_word, version_word}
+use Rattle.kw_words.specs.Plain.{cell_link_word, key_word, least_word, value_word, version_word}
 use Rattle.kw_cells.specs.Cells.{value_in}
 use Rattle.kw_cells.specs.declared.cell.Cell.{Cell}
 use Rattle.kw_world.specs.declared.activity.Activity.{Activity}
@@ -31,14 +31,14 @@ use Rattle.kw_shape.specs.Infants.{Written}
 pub written_like : (z : Sizes) (v : Words) (a : Activity) (l k : Local) (q : ℕ) → infant_cells k ≡ infant_cells l → infant_least k ≡ infant_least l → infant_link k ≡ infant_link l → Written z v a l q → Written z v a k q
 written_like z v a l k q e m n w = record {
   count = λ x. subst (λ (xs : List Cell). v (name.Count q) ≡ count_word (record { given = length xs; frozen = (infant_count l).frozen })) (sym e) (w.count x);
-  least = λ x. w.least x ∙ ap key_word (sym m);
+  least = λ x. w.least x ∙ ap (λ (key : ℕ). least_word key (length (infant_cells l))) (sym m) ∙ ap (λ (xs : List Cell). least_word (infant_least k) (length xs)) (sym e);
   next = λ x. w.next x ∙ ap link_word (sym n);
   first = λ x. subst (λ (xs : List Cell). v (name.First q) ≡ cell_link_word (first_listed xs)) (sym e) (w.first x);
   entries = w.entries;
   keys = λ j o p x. subst (λ (xs : List Cell). v (name.Key q j) ≡ key_word (key_in (slice_get xs j))) (sym e) (w.keys j o (subst (λ (xs : List Cell). j < length xs) e p) x);
   values = λ j o p x. subst (λ (xs : List Cell). v (name.Value q j) ≡ value_word (value_in (slice_get xs j))) (sym e) (w.values j o (subst (λ (xs : List Cell). j < length xs) e p) x);
   versions = λ j o x. subst (λ (xs : List Cell). v (name.Version q j) ≡ version_word (version_in (slice_get xs j))) (sym e) (w.versions j o x);
-  afters = λ j o x. subst (λ (xs : List Cell). v (name.After q j) ≡ cell_link_word (listed_after xs j)) (sym e) (w.afters j o x);
+  afters = λ j o p x. subst (λ (xs : List Cell). v (name.After q j) ≡ cell_link_word (listed_after xs j)) (sym e) (w.afters j o (subst (λ (xs : List Cell). j < length xs) e p) x);
 }
 
 -- all entries are written, and no cell
@@ -52,7 +52,7 @@ entries_done z v l q i s w = record {
   keys = λ j o p x. absurd (omega (arith, x));
   values = λ j o p x. absurd (omega (arith, x));
   versions = λ j o x. absurd (omega (arith, x));
-  afters = λ j o x. absurd (omega (arith, x));
+  afters = λ j o p x. absurd (omega (arith, x));
 }
 
 -- a place beyond the row's cells has no key and no value
@@ -69,6 +69,20 @@ cells_end z v l q j s w = record {
   afters = w.afters;
 }
 
+-- nor a link behind it
+pub place_end : (z : Sizes) (v : Words) (l : Local) (q j : ℕ) → length (infant_cells l) ≤ j → Written z v (Activity.Rebalance (Rebalance.Write (Write.After j))) l q → Written z v (Activity.Rebalance (Rebalance.Write (Write.Key (j + 1)))) l q
+place_end z v l q j s w = record {
+  count = w.count;
+  least = w.least;
+  next = w.next;
+  first = w.first;
+  entries = w.entries;
+  keys = λ k o p x. w.keys k o p (omega (arith, x));
+  values = λ k o p x. w.values k o p (omega (arith, x));
+  versions = λ k o x. w.versions k o (omega (arith, x));
+  afters = λ k o p x. w.afters k o p (omega (arith, p, s));
+}
+
 -- all cells are written
 pub cells_done : (z : Sizes) (v : Words) (l : Local) (q j : ℕ) → z.cells ≤ j → Written z v (Activity.Rebalance (Rebalance.Write (Write.Key j))) l q → Written z v (Activity.Rebalance (Rebalance.Replace Replace.Start)) l q
 cells_done z v l q j s w = record {
@@ -80,7 +94,7 @@ cells_done z v l q j s w = record {
   keys = λ k o p x. w.keys k o p (omega (arith, o, s));
   values = λ k o p x. w.values k o p (omega (arith, o, s));
   versions = λ k o x. w.versions k o (omega (arith, o, s));
-  afters = λ k o x. w.afters k o (omega (arith, o, s));
+  afters = λ k o p x. w.afters k o p (omega (arith, o, s));
 }
 
 module _ {z : Sizes} {r r' : Run} {s : ℕ} {choice : Choice} {l l' : Local} where
@@ -95,7 +109,7 @@ module _ {z : Sizes} {r r' : Run} {s : ℕ} {choice : Choice} {l l' : Local} whe
     keys = λ k o p x. absurd x;
     values = λ k o p x. absurd x;
     versions = λ k o x. absurd x;
-    afters = λ k o x. absurd x;
+    afters = λ k o p x. absurd x;
   }
 
   -- its least key
@@ -109,7 +123,7 @@ module _ {z : Sizes} {r r' : Run} {s : ℕ} {choice : Choice} {l l' : Local} whe
     keys = λ k o p x. absurd x;
     values = λ k o p x. absurd x;
     versions = λ k o x. absurd x;
-    afters = λ k o x. absurd x;
+    afters = λ k o p x. absurd x;
   }
 
   -- its link
@@ -123,7 +137,7 @@ module _ {z : Sizes} {r r' : Run} {s : ℕ} {choice : Choice} {l l' : Local} whe
     keys = λ k o p x. absurd x;
     values = λ k o p x. absurd x;
     versions = λ k o x. absurd x;
-    afters = λ k o x. absurd x;
+    afters = λ k o p x. absurd x;
   }
 
   -- the link to its first cell
@@ -137,7 +151,7 @@ module _ {z : Sizes} {r r' : Run} {s : ℕ} {choice : Choice} {l l' : Local} whe
     keys = λ k o p x. absurd x;
     values = λ k o p x. absurd x;
     versions = λ k o x. absurd x;
-    afters = λ k o x. absurd x;
+    afters = λ k o p x. absurd x;
   }
 
   -- one more entry
@@ -151,7 +165,7 @@ module _ {z : Sizes} {r r' : Run} {s : ℕ} {choice : Choice} {l l' : Local} whe
     keys = λ k o p x. absurd x;
     values = λ k o p x. absurd x;
     versions = λ k o x. absurd x;
-    afters = λ k o x. absurd x;
+    afters = λ k o p x. absurd x;
   }
     where
       which : (k : ℕ) → k < z.seats → k < j + 1 → (k ≡ j) ⊎ (k ≡ j → ⊥) → word z r'.world (name.Pend (infant l) k) ≡ pend_word pend.Idle
@@ -169,7 +183,7 @@ module _ {z : Sizes} {r r' : Run} {s : ℕ} {choice : Choice} {l l' : Local} whe
     keys = λ k o p x. which k o p x (cases_eq k j);
     values = λ k o p x. value_stays (Activity.Rebalance (Rebalance.Write (Write.Key j))) h (infant l) k i o (λ y. y) ∙ w.values k o p x;
     versions = λ k o x. version_stays (Activity.Rebalance (Rebalance.Write (Write.Key j))) h (infant l) k i o (λ y. y) ∙ w.versions k o x;
-    afters = λ k o x. link_stays (Activity.Rebalance (Rebalance.Write (Write.Key j))) h (infant l) (Some k) i o (λ y. y) ∙ w.afters k o x;
+    afters = λ k o p x. link_stays (Activity.Rebalance (Rebalance.Write (Write.Key j))) h (infant l) (Some k) i o (λ y. y) ∙ w.afters k o p x;
   }
     where
       which : (k : ℕ) → k < z.cells → k < length (infant_cells l) → k ≤ j → (k ≡ j) ⊎ (k ≡ j → ⊥) → word z r'.world (name.Key (infant l) k) ≡ key_word (key_in (slice_get (infant_cells l) k))
@@ -187,7 +201,7 @@ module _ {z : Sizes} {r r' : Run} {s : ℕ} {choice : Choice} {l l' : Local} whe
     keys = λ k o p x. key_stays (Activity.Rebalance (Rebalance.Write (Write.Value j))) h (infant l) k i o (λ y. y) ∙ w.keys k o p x;
     values = λ k o p x. which k o p x (cases_eq k j);
     versions = λ k o x. version_stays (Activity.Rebalance (Rebalance.Write (Write.Value j))) h (infant l) k i o (λ y. y) ∙ w.versions k o x;
-    afters = λ k o x. link_stays (Activity.Rebalance (Rebalance.Write (Write.Value j))) h (infant l) (Some k) i o (λ y. y) ∙ w.afters k o x;
+    afters = λ k o p x. link_stays (Activity.Rebalance (Rebalance.Write (Write.Value j))) h (infant l) (Some k) i o (λ y. y) ∙ w.afters k o p x;
   }
     where
       which : (k : ℕ) → k < z.cells → k < length (infant_cells l) → k ≤ j → (k ≡ j) ⊎ (k ≡ j → ⊥) → word z r'.world (name.Value (infant l) k) ≡ value_word (value_in (slice_get (infant_cells l) k))
@@ -205,7 +219,7 @@ module _ {z : Sizes} {r r' : Run} {s : ℕ} {choice : Choice} {l l' : Local} whe
     keys = λ k o p x. key_stays (Activity.Rebalance (Rebalance.Write (Write.Version j))) h (infant l) k i o (λ y. y) ∙ w.keys k o p x;
     values = λ k o p x. value_stays (Activity.Rebalance (Rebalance.Write (Write.Version j))) h (infant l) k i o (λ y. y) ∙ w.values k o p x;
     versions = λ k o x. which k o x (cases_eq k j);
-    afters = λ k o x. link_stays (Activity.Rebalance (Rebalance.Write (Write.Version j))) h (infant l) (Some k) i o (λ y. y) ∙ w.afters k o x;
+    afters = λ k o p x. link_stays (Activity.Rebalance (Rebalance.Write (Write.Version j))) h (infant l) (Some k) i o (λ y. y) ∙ w.afters k o p x;
   }
     where
       which : (k : ℕ) → k < z.cells → k ≤ j → (k ≡ j) ⊎ (k ≡ j → ⊥) → word z r'.world (name.Version (infant l) k) ≡ version_word (version_in (slice_get (infant_cells l) k))
@@ -223,9 +237,9 @@ module _ {z : Sizes} {r r' : Run} {s : ℕ} {choice : Choice} {l l' : Local} whe
     keys = λ k o p x. key_stays (Activity.Rebalance (Rebalance.Write (Write.After j))) h (infant l) k i o (λ y. y) ∙ w.keys k o p (omega (arith, x));
     values = λ k o p x. value_stays (Activity.Rebalance (Rebalance.Write (Write.After j))) h (infant l) k i o (λ y. y) ∙ w.values k o p (omega (arith, x));
     versions = λ k o x. version_stays (Activity.Rebalance (Rebalance.Write (Write.After j))) h (infant l) k i o (λ y. y) ∙ w.versions k o (omega (arith, x));
-    afters = λ k o x. which k o x (cases_eq k j);
+    afters = λ k o p x. which k o p x (cases_eq k j);
   }
     where
-      which : (k : ℕ) → k < z.cells → k < j + 1 → (k ≡ j) ⊎ (k ≡ j → ⊥) → word z r'.world (name.After (infant l) k) ≡ cell_link_word (listed_after (infant_cells l) k)
-      which k o x (inl e) = subst (λ (y : ℕ). word z r'.world (name.After (infant l) y) ≡ cell_link_word (listed_after (infant_cells l) y)) (sym e) (after_written j h)
-      which k o x (inr d) = link_stays (Activity.Rebalance (Rebalance.Write (Write.After j))) h (infant l) (Some k) i o (λ y. d (same_Some k j y.1)) ∙ w.afters k o (omega (arith, x, d))
+      which : (k : ℕ) → k < z.cells → k < length (infant_cells l) → k < j + 1 → (k ≡ j) ⊎ (k ≡ j → ⊥) → word z r'.world (name.After (infant l) k) ≡ cell_link_word (listed_after (infant_cells l) k)
+      which k o p x (inl e) = subst (λ (y : ℕ). word z r'.world (name.After (infant l) y) ≡ cell_link_word (listed_after (infant_cells l) y)) (sym e) (after_written j h)
+      which k o p x (inr d) = link_stays (Activity.Rebalance (Rebalance.Write (Write.After j))) h (infant l) (Some k) i o (λ y. d (same_Some k j y.1)) ∙ w.afters k o p (omega (arith, x, d))

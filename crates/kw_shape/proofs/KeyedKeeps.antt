@@ -1,8 +1,10 @@
--- The cells of a row that an entry names, or to which a link leads, have keys that the row may
--- hold: so it stays at every event, and so it is of the rows that are linked now.
+-- The cells of a row that an entry names, and those that are reached by links, have keys that the
+-- row may hold: so it stays at every event, and so it is of the rows that are linked now.
 --
 -- A key is stored once, by a put whose key the row may hold. An entry that comes to name a cell,
--- and a link that comes to lead to one, do so by a seat that knows this of the cell.
+-- and a link that comes to lead to one, do so by a seat that knows this of the cell and, where a
+-- link does, of all that is reached from it. So what is reached by the new link is so, wherever one
+-- came from.
 use Rattle.std.proofs.Common.{ℕ, ◌≡◌, ◌≢◌, ◌⊎◌, inl, inr, ◌<◌, ◌≤◌, Option, Some, None, arith, refl, sym, ◌∙◌, ap, subst, length}
 use Rattle.std.proofs.lemmas.Bool.{cases_eq}
 use Rattle.std.proofs.lemmas.Option.{same_Some}
@@ -14,6 +16,7 @@ use Rattle.kw_words.specs.Pend.{IsPend, pend_of, pend_word}
 use Rattle.kw_words.specs.Plain.{IsCell, cell_link_word, cell_of_link_word, key_of_word}
 use Rattle.kw_words.proofs.PendWords.{pend_of-pend_word}
 use Rattle.kw_words.proofs.PlainWords.{cell_of_link_word-cell_link_word, key_of_word-key_word}
+use Rattle.kw_rows.specs.Ledger.{Ledger}
 use Rattle.kw_rows.specs.Rows as rows
 use Rattle.kw_rows.specs.Rows.{WasLinked}
 use Rattle.kw_world.specs.declared.activity.Activity.{Activity}
@@ -30,13 +33,14 @@ use Rattle.kw_world.specs.Sane.{IsActivity, IsCellBelow, IsEntry, IsKnown, IsSan
 use Rattle.kw_world.specs.Sizes.{Sizes}
 use Rattle.kw_world.specs.Step.{word}
 use Rattle.kw_core.specs.Run.{Run}
+use Rattle.kw_core.specs.Words.{Words, built_in}
 use Rattle.kw_core.proofs.Happens.{Happens, exchanged, not_exchanged}
 use Rattle.kw_core.proofs.InRange.{first_in_range}
 use Rattle.kw_shape.proofs.Known.{AreSane, link_below, linked_below}
 use Rattle.kw_shape.proofs.LinkedRows.{ComesNow, linked_before, linked_keeps, was_below, holds_put, holds_stays}
 use Rattle.kw_shape.proofs.LinkedWords.{linked_entry, linked_key, linked_link}
 use Rattle.kw_shape.proofs.NewRowsKeyed.{new_rows_keyed}
-use Rattle.kw_shape.specs.Keyed.{HoldsCell, IsLinkOf, IsOfCell, Keyed, Keys}
+use Rattle.kw_shape.specs.Keyed.{HoldsCell, HoldsFrom, IsOfCell, Keyed, Keys, Reaches, is_there, leads_on}
 use Rattle.kw_shape.specs.RowsIn.{rows_in}
 use Rattle.kw_shape.specs.Shape.{Shape}
 
@@ -48,21 +52,12 @@ cell_of_entry z c (Some (pend.Stamped cell version)) e o = subst (λ (d : ℕ). 
 cell_of_entry z c (Some pend.Frozen) e o = absurd o
 cell_of_entry z c None e o = absurd o
 
--- the first link, or that behind a cell of the row
-pub of_link : (z : Sizes) (at : Option ℕ) → IsLinkOf z at → IsCellBelow z.cells at
-of_link z (Some c) o = o
-of_link z None o = tt
-
-pub link_of_row : (z : Sizes) (at : Option ℕ) → IsCellBelow z.cells at → IsLinkOf z at
-link_of_row z (Some c) o = o
-link_of_row z None o = tt
-
 -- a link that is stored leads where it should
-stored_leads : (z : Sizes) (held : Option ℕ) (c : ℕ) → IsCell held → cell_of_link_word (cell_link_word held) ≡ Some c → held ≡ Some c
+pub stored_leads : (z : Sizes) (held : Option ℕ) (c : ℕ) → IsCell held → cell_of_link_word (cell_link_word held) ≡ Some c → held ≡ Some c
 stored_leads z held c i e = sym (cell_of_link_word-cell_link_word held i) ∙ e
 
 -- a link to a cell of the row, and to none, fits its word
-cell_fits : {n : ℕ} (held : Option ℕ) → IsCellBelow n held → n ≤ MOST_CELLS → IsCell held
+pub cell_fits : {n : ℕ} (held : Option ℕ) → IsCellBelow n held → n ≤ MOST_CELLS → IsCell held
 cell_fits (Some c) o m = omega (arith, o, m)
 cell_fits None o m = tt
 
@@ -88,6 +83,11 @@ entry_exchanged P found after x y i won lost p = which (cases_eq found (pend_wor
 -- a pending entry names its cell
 was_pending : (c found cell : ℕ) → found ≡ pend_word (pend.Pending cell) → IsPend (pend.Pending cell) → cell ≡ c → IsOfCell c (pend_of found)
 was_pending c found cell e i f = subst (IsOfCell c) (sym (ap pend_of e ∙ pend_of-pend_word (pend.Pending cell) i)) f
+
+-- a link that leads to a cell after an event did so before it, or comes to lead to one from which
+-- on the row might hold all keys before it
+abbrev LedBefore : Words → Ledger → ℕ → Option ℕ → ℕ → Type 0
+LedBefore v g q at c = (cell_of_link_word (v (link_name q at)) ≡ Some c) ⊎ HoldsFrom v g q c
 
 module _ {z : Sizes} {r r' : Run} {s : ℕ} {choice : Choice} {l l' : Local} where
   -- what the acting seat knows of keys, at its activity
@@ -187,51 +187,78 @@ module _ {z : Sizes} {r r' : Run} {s : ℕ} {choice : Choice} {l l' : Local} whe
   -- Links.
 
   -- a link of the acting seat's row, and every other one
-  at_link : (a : Activity) → Happens z r r' s choice l l' a → Shape z r → (q : ℕ) (at m : Option ℕ) (c : ℕ) → WasLinked r.ledger.rows q → IsLinkOf z at → cell_of_link_word (word z r'.world (link_name q at)) ≡ Some c → (WasLinked r.ledger.rows l.row → cell_of_link_word (word z r'.world (link_name l.row m)) ≡ Some c → HoldsCell (word z r.world) r.ledger.rows l.row c) →
-      ((q ≡ l.row → at ≡ m → ⊥) → word z r'.world (link_name q at) ≡ word z r.world (link_name q at)) → HoldsCell (word z r.world) r.ledger.rows q c
-  at_link a h i q at m c k o x there other = which (cases_eq q l.row) (same_link at m)
+  at_link : (a : Activity) → Happens z r r' s choice l l' a → (q : ℕ) (at m : Option ℕ) (c : ℕ) → cell_of_link_word (word z r'.world (link_name q at)) ≡ Some c → (cell_of_link_word (word z r'.world (link_name l.row m)) ≡ Some c → LedBefore (word z r.world) r.ledger.rows l.row m c) →
+      ((q ≡ l.row → at ≡ m → ⊥) → word z r'.world (link_name q at) ≡ word z r.world (link_name q at)) → LedBefore (word z r.world) r.ledger.rows q at c
+  at_link a h q at m c x there other = which (cases_eq q l.row) (same_link at m)
     where
-      same : (q ≡ l.row → at ≡ m → ⊥) → HoldsCell (word z r.world) r.ledger.rows q c
-      same d = (i.keyed q k).linked at c o (ap cell_of_link_word (sym (other d)) ∙ x)
+      same : (q ≡ l.row → at ≡ m → ⊥) → LedBefore (word z r.world) r.ledger.rows q at c
+      same d = inl (ap cell_of_link_word (sym (other d)) ∙ x)
 
-      which : (q ≡ l.row) ⊎ (q ≡ l.row → ⊥) → (at ≡ m) ⊎ (at ≡ m → ⊥) → HoldsCell (word z r.world) r.ledger.rows q c
+      which : (q ≡ l.row) ⊎ (q ≡ l.row → ⊥) → (at ≡ m) ⊎ (at ≡ m → ⊥) → LedBefore (word z r.world) r.ledger.rows q at c
       which (inl e) (inl f) =
           let y : cell_of_link_word (word z r'.world (link_name l.row m)) ≡ Some c = subst (λ n. cell_of_link_word (word z r'.world (link_name l.row n)) ≡ Some c) f (subst (λ n. cell_of_link_word (word z r'.world (link_name n at)) ≡ Some c) e x) in
-          subst (λ n. HoldsCell (word z r.world) r.ledger.rows n c) (sym e) (there (subst (WasLinked r.ledger.rows) e k) y)
+          subst (λ n. LedBefore (word z r.world) r.ledger.rows n at c) (sym e) (subst (λ n. LedBefore (word z r.world) r.ledger.rows l.row n c) (sym f) (there y))
       which (inl e) (inr d) = same (λ f g. d g)
       which (inr d) f = same (λ e g. d e)
 
-  -- one that leads to a cell after the event leads to one whose key the row might hold before it
-  linked_to_before : (a : Activity) → Happens z r r' s choice l l' a → Shape z r → (q : ℕ) (at : Option ℕ) (c : ℕ) → WasLinked r.ledger.rows q → IsLinkOf z at → cell_of_link_word (word z r'.world (link_name q at)) ≡ Some c → HoldsCell (word z r.world) r.ledger.rows q c
-  linked_to_before (Activity.Insert Insert.Set) h i q at c k o x =
-      at_link (Activity.Insert Insert.Set) h i q at (Some l.cell) c k o x (λ y p. (keys_at (Activity.Insert Insert.Set) h i).held tt c (stored_leads z l.held c (cell_fits l.held (known_at (Activity.Insert Insert.Set) h i).ranges.held i.sane.sized.few_cells) (sym (ap cell_of_link_word h.changed.same) ∙ p))) (λ d. linked_link (Activity.Insert Insert.Set) h i q at k (of_link z at o) (λ w e f. d e f) (λ w e f. w))
-  linked_to_before (Activity.Insert Insert.Exchange) h i q at c k o x = at_link (Activity.Insert Insert.Exchange) h i q at l.link c k o x there (λ d. linked_link (Activity.Insert Insert.Exchange) h i q at k (of_link z at o) (λ w e f. w) (λ w e f. d e f))
+  led_before : (a : Activity) → Happens z r r' s choice l l' a → Shape z r → (q : ℕ) (at : Option ℕ) (c : ℕ) → WasLinked r.ledger.rows q → IsCellBelow z.cells at → cell_of_link_word (word z r'.world (link_name q at)) ≡ Some c → LedBefore (word z r.world) r.ledger.rows q at c
+  led_before (Activity.Insert Insert.Set) h i q at c k o x =
+      at_link (Activity.Insert Insert.Set) h q at (Some l.cell) c x (λ p. inr ((keys_at (Activity.Insert Insert.Set) h i).list c (stored_leads z l.held c (cell_fits l.held (known_at (Activity.Insert Insert.Set) h i).ranges.held i.sane.sized.few_cells) (sym (ap cell_of_link_word h.changed.same) ∙ p)))) (λ d. linked_link (Activity.Insert Insert.Set) h i q at k o (λ w e f. d e f) (λ w e f. w))
+  led_before (Activity.Insert Insert.Exchange) h i q at c k o x = at_link (Activity.Insert Insert.Exchange) h q at l.link c x there (λ d. linked_link (Activity.Insert Insert.Exchange) h i q at k o (λ w e f. w) (λ w e f. d e f))
     where
       known : IsKnown z r.world.rows l
       known = known_at (Activity.Insert Insert.Exchange) h i
 
-      there : WasLinked r.ledger.rows l.row → cell_of_link_word (word z r'.world (link_name l.row l.link)) ≡ Some c → HoldsCell (word z r.world) r.ledger.rows l.row c
-      there y p = which (cases_eq (word z r.world (link_name l.row l.link)) (cell_link_word l.held))
+      there : cell_of_link_word (word z r'.world (link_name l.row l.link)) ≡ Some c → LedBefore (word z r.world) r.ledger.rows l.row l.link c
+      there p = which (cases_eq (word z r.world (link_name l.row l.link)) (cell_link_word l.held))
         where
-          which : (word z r.world (link_name l.row l.link) ≡ cell_link_word l.held) ⊎ (word z r.world (link_name l.row l.link) ≡ cell_link_word l.held → ⊥) → HoldsCell (word z r.world) r.ledger.rows l.row c
+          which : (word z r.world (link_name l.row l.link) ≡ cell_link_word l.held) ⊎ (word z r.world (link_name l.row l.link) ≡ cell_link_word l.held → ⊥) → LedBefore (word z r.world) r.ledger.rows l.row l.link c
           which (inl e) =
               let f : Some l.cell ≡ Some c = stored_leads z (Some l.cell) c (omega (arith, known.ranges.cell, i.sane.sized.few_cells)) (sym (ap cell_of_link_word (exchanged _ _ _ _ h.changed.same e)) ∙ p) in
-              subst (HoldsCell (word z r.world) r.ledger.rows l.row) (same_Some l.cell c f) ((keys_at (Activity.Insert Insert.Exchange) h i).own tt)
-          which (inr d) = (i.keyed l.row y).linked l.link c (link_of_row z l.link known.ranges.link) (sym (ap cell_of_link_word (not_exchanged _ _ _ _ h.changed.same d)) ∙ p)
-  linked_to_before a h i q at c k o x = (i.keyed q k).linked at c o (ap cell_of_link_word (sym (linked_link a h i q at k (of_link z at o) (λ w e f. w) (λ w e f. w))) ∙ x)
+              inr ((keys_at (Activity.Insert Insert.Exchange) h i).list c (same_Some l.cell c f))
+          which (inr d) = inl (sym (ap cell_of_link_word (not_exchanged _ _ _ _ h.changed.same d)) ∙ p)
+  led_before a h i q at c k o x = inl (ap cell_of_link_word (sym (linked_link a h i q at k o (λ w e f. w) (λ w e f. w))) ∙ x)
 
-  -- so a row that was linked has keys that it may hold
-  pub keyed_stays : (a : Activity) → Happens z r r' s choice l l' a → Shape z r → IsSane z r'.world → (q : ℕ) → WasLinked r.ledger.rows q → Keyed z (word z r'.world) r'.ledger.rows q
-  keyed_stays a h i sane q k = record {
-    named = λ j c o x. cell_keeps a h i q c k (cell_of_entry z c _ (sane.each (name.Pend q j) (below, o)) x) (named_before a h i q j c k o x);
-    linked = λ at c o x. cell_keeps a h i q c k (linked_below (word z r'.world (link_name q at)) c z.cells x (link_below z r'.world.rows (word z r'.world) words q at (of_link z at o) below)) (linked_to_before a h i q at c k o x);
-  }
+  -- a link of a row that was linked leads to a cell that the row has
+  led_within : (a : Activity) → Happens z r r' s choice l l' a → Shape z r → IsSane z r'.world → (q : ℕ) (at : Option ℕ) (c : ℕ) → WasLinked r.ledger.rows q → IsCellBelow z.cells at → cell_of_link_word (word z r'.world (link_name q at)) ≡ Some c → c < z.cells
+  led_within a h i sane q at c k o x = linked_below (word z r'.world (link_name q at)) c z.cells x (link_below z r'.world.rows (word z r'.world) words q at o below)
     where
       below : q < r'.world.rows
       below = omega (arith, was_below z r i q k, h.rows)
 
       words : AreSane z r'.world.rows (word z r'.world)
       words = record { sized = sane.sized; each = sane.each; led = sane.led }
+
+  -- so from each cell from which on the row might hold all keys it may hold them still
+  pub from_keeps : (a : Activity) → Happens z r r' s choice l l' a → Shape z r → IsSane z r'.world → (q c d : ℕ) → WasLinked r.ledger.rows q → c < z.cells → HoldsFrom (word z r.world) r.ledger.rows q c → Reaches (word z r'.world) q c d → HoldsCell (word z r'.world) r'.ledger.rows q d
+  from_keeps a h i sane q _ _ k o x (is_there c) = cell_keeps a h i q c k o (x c (is_there c))
+  from_keeps a h i sane q _ _ k o x (leads_on c d e f m) = from_keeps a h i sane q d e k (led_within a h i sane q (Some c) d k o f) (which (led_before a h i q (Some c) d k o f)) m
+    where
+      which : LedBefore (word z r.world) r.ledger.rows q (Some c) d → HoldsFrom (word z r.world) r.ledger.rows q d
+      which (inl y) = λ b n. x b (leads_on c d b y n)
+      which (inr y) = y
+
+  -- so a row that was linked has keys that it may hold
+  pub keyed_stays : (a : Activity) → Happens z r r' s choice l l' a → Shape z r → IsSane z r'.world → (q : ℕ) → WasLinked r.ledger.rows q → Keyed z (word z r'.world) r'.ledger.rows q
+  keyed_stays a h i sane q k = record {
+    named = λ j c o x. cell_keeps a h i q c k (cell_of_entry z c _ (sane.each (name.Pend q j) (below, o)) x) (named_before a h i q j c k o x);
+    first = λ c x d. from_keeps a h i sane q c d k (led_within a h i sane q None c k tt x) (at_first c (led_before a h i q None c k tt x));
+    built = λ c x d. from_keeps a h i sane q c d k (omega (arith, x, few)) ((i.keyed q k).built c (omega (arith, x, same)));
+  }
+    where
+      below : q < r'.world.rows
+      below = omega (arith, was_below z r i q k, h.rows)
+
+      -- it was built with as many cells, and has room for them
+      same : built_in (word z r'.world) q ≡ built_in (word z r.world) q
+      same = (linked_keeps a h i q k).built
+
+      few : built_in (word z r'.world) q ≤ z.cells
+      few = sane.each (name.Least q) below
+
+      at_first : (c : ℕ) → LedBefore (word z r.world) r.ledger.rows q None c → HoldsFrom (word z r.world) r.ledger.rows q c
+      at_first c (inl y) = (i.keyed q k).first c y
+      at_first c (inr y) = y
 
   -- and so has each row that is linked now
   pub keyed_keeps : (a : Activity) → Happens z r r' s choice l l' a → Shape z r → IsSane z r'.world → (q : ℕ) → WasLinked r'.ledger.rows q → Keyed z (word z r'.world) r'.ledger.rows q

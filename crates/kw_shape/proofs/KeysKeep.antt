@@ -1,14 +1,14 @@
 -- What each seat knows of the keys of its row stays so, and what comes to it is so: a cell to which
 -- a link leads, or that an entry names, has a key that the row may hold, and so has one that was
 -- gathered.
-use Rattle.std.proofs.Common.{ℕ, ◌≡◌, ◌⊎◌, inl, inr, ◌<◌, ◌++◌, All, Bool, true, false, nat_lt, if◌then◌else◌, List, [], ◌∷◌, Option, Some, None, refl, sym, ◌∙◌, ap, subst, length, slice_get}
+use Rattle.std.proofs.Common.{ℕ, ◌≡◌, ◌⊎◌, inl, inr, ◌<◌, ◌≤◌, arith, ◌++◌, All, Bool, true, false, nat_lt, if◌then◌else◌, List, [], ◌∷◌, Option, Some, None, refl, sym, ◌∙◌, ap, subst, length, slice_get}
 use Rattle.std.proofs.lemmas.List.Elements.{All-append, All-cons, All-nil}
 use Rattle.std.proofs.lemmas.Option.{same_Some}
 use Rattle.kw_words.specs.declared.layout.Name.{Name}
 use Rattle.kw_words.specs.declared.layout.Name.TheVariants as name
 use Rattle.kw_words.specs.declared.pend.Pend.TheVariants as pend
 use Rattle.kw_words.specs.Pend.{pend_of}
-use Rattle.kw_words.specs.Plain.{cell_of_link_word, key_of_word}
+use Rattle.kw_words.specs.Plain.{built_of_word, cell_of_link_word, key_of_word}
 use Rattle.kw_cells.specs.declared.cell.Cell.{Cell}
 use Rattle.kw_cells.specs.InOrder.{with_cell}
 use Rattle.kw_rows.specs.Ledger.{Ledger}
@@ -25,24 +25,25 @@ use Rattle.kw_world.specs.declared.answer.Answer.TheVariants.{Done, NoRows}
 use Rattle.kw_world.specs.declared.event.Choice.{Choice}
 use Rattle.kw_world.specs.declared.local.Local.{Local}
 use Rattle.kw_world.specs.declared.marks.Mark.{Mark}
-use Rattle.kw_world.specs.ListTransitions.{link_name}
+use Rattle.kw_world.specs.ListTransitions.{link_name, cell_guess}
 use Rattle.kw_world.specs.Marks.{mark_of}
 use Rattle.kw_world.specs.ReadTransitions.{cell_in_hand}
 use Rattle.kw_world.specs.Sane.{IsActivity, IsCellBelow, IsLocal, IsSane}
 use Rattle.kw_world.specs.Sizes.{Sizes}
 use Rattle.kw_world.specs.Step.{word}
 use Rattle.kw_world.specs.TakeTransitions.{keeping}
+use Rattle.kw_world.proofs.Transitions.{first_loads}
 use Rattle.kw_core.specs.Run.{Run}
-use Rattle.kw_core.specs.Stages.{IsAtRow, IsBalancing}
-use Rattle.kw_core.specs.Words.{Words}
-use Rattle.kw_core.proofs.Arrows.{Arrow, NextLook, looks, lists, NextLeftOver, goes_to_left_over, answers, ends_scan, scans_on, sees_stamped, sees_neither, is_gone_by, helps, finds_stamped, finds_other, list_ends, key_above, left_over_gone_by, gathers_left_over, stores_key, stores_value, announces, loads_clock, stamps, is_stamped, stores_version, reaches_cell, sees_none, key_before, key_same, key_after, version_before, version_after, stores_after, loses, freezes_count, sees_idle, sees_unstamped, remembers, remembers_last, sees_frozen, sees_frozen_last, freezes_entry, freezes_last, looks_again, sees_quiet, sees_quiet_last, helps_scan, sees_drawn, sees_drawn_last, draws_for, settles_scan, settles_last, finds_drawn, finds_drawn_last, finds_no_scan, finds_no_scan_last, take_leads, takes_left, takes_no_more, takes_key, takes_version, keeps_taken, takes_left_key, keeps_left, keeps_no_more, builds}
+use Rattle.kw_core.specs.Stages.{IsAtRow, IsBalancing, IsPastStart}
+use Rattle.kw_core.specs.Words.{Words, built_in}
+use Rattle.kw_core.proofs.Arrows.{Arrow, NextLook, looks, lists, NextLeftOver, goes_to_left_over, answers, ends_scan, scans_on, sees_stamped, sees_neither, is_gone_by, helps, finds_stamped, finds_other, list_ends, key_above, left_over_gone_by, gathers_left_over, stores_key, stores_value, announces, loads_clock, stamps, is_stamped, stores_version, reaches_cell, sees_none, key_before, key_same, key_after, version_before, version_after, stores_after, loses, freezes_count, sees_idle, sees_unstamped, remembers, remembers_last, sees_frozen, sees_frozen_last, freezes_entry, freezes_last, looks_again, sees_quiet, sees_quiet_last, helps_scan, sees_drawn, sees_drawn_last, draws_for, settles_scan, settles_last, finds_drawn, finds_drawn_last, finds_no_scan, finds_no_scan_last, take_leads, takes_left, takes_no_more, takes_key, takes_version, keeps_taken, takes_left_key, keeps_left, keeps_no_more, builds, first_ends, first_reaches, first_sees_none, inserts_at_first, inserts_behind}
 use Rattle.kw_core.proofs.Building.{Building, IsBuilding, makes_normal, makes_last_normal, draws_number, retires_row, retires_and_leaves}
 use Rattle.kw_core.proofs.BuiltNext.{IsAfterBuilding, built_keeps, built_next}
 use Rattle.kw_core.proofs.Happens.{Happens}
 use Rattle.kw_core.proofs.InRange.{least_holds, unmarked_in_range, with_cell_in_range}
-use Rattle.kw_shape.proofs.KeyedKeeps.{cell_keeps, key_keeps, keyed_stays, link_of_row, put_key_holds}
+use Rattle.kw_shape.proofs.KeyedKeeps.{cell_fits, cell_keeps, from_keeps, key_keeps, keyed_stays, put_key_holds, stored_leads}
 use Rattle.kw_shape.proofs.LinkedRows.{fresh_linked}
-use Rattle.kw_shape.specs.Keyed.{HasGathered, HasHeldCell, HasKeyInHand, HasMarks, HasReachedCell, HasOwnKey, HoldsCell, IsOfCell, Keyed, Keys}
+use Rattle.kw_shape.specs.Keyed.{HasGathered, HasKeyInHand, HasMarks, HasReachedCell, HasOwnKey, HoldsCell, HoldsFrom, IsInList, IsOfCell, Keyed, Keys, Reaches, is_there, leads_on}
 use Rattle.kw_shape.specs.RowsIn.{rows_in}
 use Rattle.kw_shape.specs.Shape.{Shape}
 
@@ -52,9 +53,18 @@ own_row : (a : Activity) → HasOwnKey a → IsAtRow a
 own_row (Activity.Put Put.Count) x = tt
 own_row _ x = assumption (x, tt)
 
-held_row : (a : Activity) → HasHeldCell a → IsAtRow a
-held_row (Activity.Put Put.Count) x = tt
-held_row _ x = assumption (x, tt)
+list_row : (a : Activity) (l : Local) (c : ℕ) → IsInList a l c → IsAtRow a ⊎ IsBalancing a
+list_row (Activity.Insert Insert.Start) l c x = inl tt
+list_row (Activity.Insert Insert.Link) l c x = inl tt
+list_row (Activity.Insert Insert.Key) l c x = inl tt
+list_row (Activity.Insert Insert.Version) l c x = inl tt
+list_row (Activity.Insert Insert.Set) l c x = inl tt
+list_row (Activity.Insert Insert.Exchange) l c x = inl tt
+list_row (Activity.Rebalance (Rebalance.Gather Gather.Link)) l c x = inr tt
+list_row (Activity.Rebalance (Rebalance.Gather Gather.Key)) l c x = inr tt
+list_row (Activity.Rebalance (Rebalance.Gather Gather.Version)) l c x = inr tt
+list_row (Activity.Rebalance (Rebalance.Gather Gather.Value)) l c x = inr tt
+list_row _ l c x = absurd x
 
 marks_row : (a : Activity) → HasMarks a → IsBalancing a
 marks_row (Activity.Rebalance (Rebalance.Engage Engage.Clock)) x = tt
@@ -78,9 +88,18 @@ after_own : (a : Activity) → IsAfterBuilding a → HasOwnKey a → ⊥
 after_own (Activity.Put Put.Value) b x = b
 after_own _ b x = assumption (b, x)
 
-after_held : (a : Activity) → IsAfterBuilding a → HasHeldCell a → ⊥
-after_held (Activity.Insert Insert.Key) b x = b
-after_held _ b x = assumption (b, x)
+after_list : (a : Activity) (l : Local) (c : ℕ) → IsAfterBuilding a → IsInList a l c → ⊥
+after_list (Activity.Insert Insert.Start) l c b x = b
+after_list (Activity.Insert Insert.Link) l c b x = b
+after_list (Activity.Insert Insert.Key) l c b x = b
+after_list (Activity.Insert Insert.Version) l c b x = b
+after_list (Activity.Insert Insert.Set) l c b x = b
+after_list (Activity.Insert Insert.Exchange) l c b x = b
+after_list (Activity.Rebalance (Rebalance.Gather Gather.Link)) l c b x = b
+after_list (Activity.Rebalance (Rebalance.Gather Gather.Key)) l c b x = b
+after_list (Activity.Rebalance (Rebalance.Gather Gather.Version)) l c b x = b
+after_list (Activity.Rebalance (Rebalance.Gather Gather.Value)) l c b x = b
+after_list _ l c b x = x
 
 after_marks : (a : Activity) → IsAfterBuilding a → HasMarks a → ⊥
 after_marks (Activity.Rebalance (Rebalance.Gather Gather.Link)) b x = b
@@ -115,19 +134,49 @@ held_cell : {n : ℕ} (held : Option ℕ) (c : ℕ) → IsCellBelow n held → h
 held_cell {n} (Some d) c o e = subst (λ x. x < n) (same_Some d c e) o
 held_cell {n} None c o e = let x : None ≡ Some c = e in absurd (cc)
 
+place_or_held : {n : ℕ} (l : Local) (c : ℕ) → l.place < n → IsCellBelow n l.held → (l.place ≡ c) ⊎ (l.held ≡ Some c) → c < n
+place_or_held {n} l c o p (inl e) = subst (λ x. x < n) e o
+place_or_held l c o p (inr e) = held_cell l.held c p e
+
+-- a cell from which a seat goes on in its row's list is one of the row's
+list_cell : {z : Sizes} (a : Activity) (l : Local) (c : ℕ) → IsLocal z l → IsInList a l c → c < z.cells
+list_cell (Activity.Insert Insert.Start) l c i x = held_cell l.link c i.link x
+list_cell (Activity.Insert Insert.Link) l c i x = held_cell l.link c i.link x
+list_cell (Activity.Insert Insert.Key) l c i x = place_or_held l c i.place i.held x
+list_cell (Activity.Insert Insert.Version) l c i x = place_or_held l c i.place i.held x
+list_cell (Activity.Insert Insert.Set) l c i x = held_cell l.held c i.held x
+list_cell {z} (Activity.Insert Insert.Exchange) l c i x = subst (λ n. n < z.cells) x i.cell
+list_cell (Activity.Rebalance (Rebalance.Gather Gather.Link)) l c i x = held_cell l.link c i.link x
+list_cell {z} (Activity.Rebalance (Rebalance.Gather Gather.Key)) l c i x = subst (λ n. n < z.cells) x i.place
+list_cell {z} (Activity.Rebalance (Rebalance.Gather Gather.Version)) l c i x = subst (λ n. n < z.cells) x i.place
+list_cell {z} (Activity.Rebalance (Rebalance.Gather Gather.Value)) l c i x = subst (λ n. n < z.cells) x i.place
+list_cell _ l c i x = absurd x
+
 -- Where a part has no event of its own.
 
 module _ (v : Words) (g : Ledger) where
+  -- the cell at which a seat stands is one, and there is none where it stands at the first link
+  held_list : (q b c : ℕ) → HoldsFrom v g q b → Some b ≡ Some c → HoldsFrom v g q c
+  held_list q b c x e = subst (HoldsFrom v g q) (same_Some b c e) x
+
+  none_list : (q c : ℕ) → None ≡ Some c → HoldsFrom v g q c
+  none_list q c e = absurd (cc)
+
+  -- it has just reached a cell, which it holds too
+  reached_list : (q b c : ℕ) → HoldsFrom v g q b → (b ≡ c) ⊎ (Some b ≡ Some c) → HoldsFrom v g q c
+  reached_list q b c x (inl e) = subst (HoldsFrom v g q) e x
+  reached_list q b c x (inr e) = held_list q b c x e
+
   -- a reader knows of no keys
   look_keys : (z : Sizes) (j : ℕ) (next : Activity) (k : Local) → NextLook z j next → Keys v g next k
-  look_keys z j next k (looks o) = record { own = λ x. absurd x; held = λ x. absurd x; marks = λ x. absurd x; saw = λ x. absurd x; key = λ x. absurd x; gathered = λ x. absurd x }
-  look_keys z j next k (lists o) = record { own = λ x. absurd x; held = λ x. absurd x; marks = λ x. absurd x; saw = λ x. absurd x; key = λ x. absurd x; gathered = λ x. absurd x }
+  look_keys z j next k (looks o) = record { own = λ x. absurd x; list = λ c x. absurd x; marks = λ x. absurd x; saw = λ x. absurd x; key = λ x. absurd x; gathered = λ x. absurd x }
+  look_keys z j next k (lists o) = record { own = λ x. absurd x; list = λ c x. absurd x; marks = λ x. absurd x; saw = λ x. absurd x; key = λ x. absurd x; gathered = λ x. absurd x }
 
   cell_keys : (l : Local) (next : Local) → NextLeftOver l next → Keys v g next.activity next
-  cell_keys l next (goes_to_left_over m o) = record { own = λ x. absurd x; held = λ x. absurd x; marks = λ x. absurd x; saw = λ x. absurd x; key = λ x. absurd x; gathered = λ x. absurd x }
-  cell_keys l next (answers o n) = record { own = λ x. absurd x; held = λ x. absurd x; marks = λ x. absurd x; saw = λ x. absurd x; key = λ x. absurd x; gathered = λ x. absurd x }
-  cell_keys l next (ends_scan o y n) = record { own = λ x. absurd x; held = λ x. absurd x; marks = λ x. absurd x; saw = λ x. absurd x; key = λ x. absurd x; gathered = λ x. absurd x }
-  cell_keys l next (scans_on q o y n w) = record { own = λ x. absurd x; held = λ x. absurd x; marks = λ x. absurd x; saw = λ x. absurd x; key = λ x. absurd x; gathered = λ x. absurd x }
+  cell_keys l next (goes_to_left_over m o) = record { own = λ x. absurd x; list = λ c x. absurd x; marks = λ x. absurd x; saw = λ x. absurd x; key = λ x. absurd x; gathered = λ x. absurd x }
+  cell_keys l next (answers o n) = record { own = λ x. absurd x; list = λ c x. absurd x; marks = λ x. absurd x; saw = λ x. absurd x; key = λ x. absurd x; gathered = λ x. absurd x }
+  cell_keys l next (ends_scan o y n) = record { own = λ x. absurd x; list = λ c x. absurd x; marks = λ x. absurd x; saw = λ x. absurd x; key = λ x. absurd x; gathered = λ x. absurd x }
+  cell_keys l next (scans_on q o y n w) = record { own = λ x. absurd x; list = λ c x. absurd x; marks = λ x. absurd x; saw = λ x. absurd x; key = λ x. absurd x; gathered = λ x. absurd x }
 
   -- one more cell is remembered
   marks_more : (q : ℕ) (marks : List Mark) (c version : ℕ) → All (λ m. HoldsCell v g q m.cell) marks → HoldsCell v g q c → All (λ m. HoldsCell v g q m.cell) (marks ++ mark_of c version ∷ [])
@@ -145,7 +194,7 @@ module _ (v : Words) (g : Ledger) where
   built_keys : (z : Sizes) (w : Words) (choice : Choice) (l : Local) (a : Activity) (next : Local) → IsBuilding a → Building z w choice l a next → Keys v g a l → Keys v g next.activity next
   built_keys z w choice l a next p t k = record {
     own = λ x. absurd (after_own next.activity after x);
-    held = λ x. absurd (after_held next.activity after x);
+    list = λ c x. absurd (after_list next.activity next c after x);
     marks = λ x. absurd (after_marks next.activity after x);
     saw = λ x. absurd (after_reached next.activity after x);
     key = λ x. absurd (after_key next.activity after x);
@@ -169,10 +218,10 @@ module _ {z : Sizes} {r : Run} where
 
 module _ {z : Sizes} {r r' : Run} {s : ℕ} {choice : Choice} {l : Local} where
   -- what a seat knows of keys is so after the event
-  pub keys_stay : {l' : Local} (a : Activity) → Happens z r r' s choice l l' a → Shape z r → (t : ℕ) (k : Local) → slice_get r.world.locals t ≡ Some k → Keys (word z r'.world) r'.ledger.rows k.activity k
-  keys_stay a h i t k g = record {
+  pub keys_stay : {l' : Local} (a : Activity) → Happens z r r' s choice l l' a → Shape z r → IsSane z r'.world → (t : ℕ) (k : Local) → slice_get r.world.locals t ≡ Some k → Keys (word z r'.world) r'.ledger.rows k.activity k
+  keys_stay a h i sane t k g = record {
     own = λ x. cell_keeps a h i k.row k.cell (at (own_row k.activity x)) ranges.cell (keys.own x);
-    held = λ x c e. cell_keeps a h i k.row c (at (held_row k.activity x)) (held_cell k.held c ranges.held e) (keys.held x c e);
+    list = λ c x d. from_keeps a h i sane k.row c d (listed (list_row k.activity k c x)) (list_cell k.activity k c ranges x) (keys.list c x);
     marks = λ x j d o. cell_keeps a h i k.row _ (full (marks_row k.activity x)) (ranges.rebalance.marks j d o).0 (keys.marks x j d o);
     saw = λ x. cell_keeps a h i k.row k.place (full (reached_row k.activity x)) ranges.place (keys.saw x);
     key = λ x. key_keeps a h i k.row k.place_key (full (key_row k.activity x)) (keys.key x);
@@ -191,61 +240,98 @@ module _ {z : Sizes} {r r' : Run} {s : ℕ} {choice : Choice} {l : Local} where
       full : IsBalancing k.activity → WasLinked r.ledger.rows k.row
       full x = full_linked i t k k.activity g refl x
 
-  -- a cell to which the link leads that the seat loads, and one that an entry names that it loads
-  led : {l' : Local} (a : Activity) → Happens z r r' s choice l l' a → Shape z r → Keyed z (word z r'.world) r'.ledger.rows l.row → (c : ℕ) → ((n : Name) → word z r'.world n ≡ word z r.world n) → cell_of_link_word (word z r.world (link_name l.row l.link)) ≡ Some c → HoldsCell (word z r'.world) r'.ledger.rows l.row c
-  led a h i y c same e = y.linked l.link c (link_of_row z l.link (i.sane.locals s l h.knows).ranges.link) (ap cell_of_link_word (same (link_name l.row l.link)) ∙ e)
+      listed : IsAtRow k.activity ⊎ IsBalancing k.activity → WasLinked r.ledger.rows k.row
+      listed (inl x) = at x
+      listed (inr x) = full x
+
+  -- a cell to which the link leads that the seat loads, and one that an entry names that it loads,
+  -- and what is reached from there
+  led : {l' : Local} (a : Activity) → Happens z r r' s choice l l' a → Keyed z (word z r'.world) r'.ledger.rows l.row → ((b : ℕ) → l.link ≡ Some b → HoldsFrom (word z r'.world) r'.ledger.rows l.row b) → (c : ℕ) → ((n : Name) → word z r'.world n ≡ word z r.world n) → cell_of_link_word (word z r.world (link_name l.row l.link)) ≡ Some c → HoldsFrom (word z r'.world) r'.ledger.rows l.row c
+  led a h y from c same e = by l.link refl
+    where
+      -- the link at which it stands
+      leads : (at : Option ℕ) → l.link ≡ at → cell_of_link_word (word z r'.world (link_name l.row at)) ≡ Some c
+      leads at f = subst (λ x. cell_of_link_word (word z r'.world (link_name l.row x)) ≡ Some c) f (ap cell_of_link_word (same (link_name l.row l.link)) ∙ e)
+
+      by : (at : Option ℕ) → l.link ≡ at → HoldsFrom (word z r'.world) r'.ledger.rows l.row c
+      by None f = y.first c (leads None f)
+      by (Some b) f = λ d m. from b f d (leads_on b c d (leads (Some b) f) m)
+
+  -- a guessed cell, with which the row was built
+  guessed : {l' : Local} → Happens z r r' s choice l l' (Activity.Insert Insert.Start) → Shape z r → Keyed z (word z r'.world) r'.ledger.rows l.row → (c : ℕ) → c < l.built → HoldsFrom (word z r'.world) r'.ledger.rows l.row c
+  guessed h i y c inside = y.built c (omega (arith, inside, within, same))
+    where
+      within : l.built ≤ built_in (word z r.world) l.row
+      within = (i.walks s l h.knows).built (subst IsPastStart (sym h.activity) tt)
+
+      same : built_in (word z r'.world) l.row ≡ built_in (word z r.world) l.row
+      same = ap built_of_word (h.changed.loaded (first_loads (cell_guess choice l) l) (name.Least l.row))
+
+  -- the own cell, once the link after it is stored
+  own_set : {l' : Local} → Happens z r r' s choice l l' (Activity.Insert Insert.Set) → Shape z r → Keys (word z r'.world) r'.ledger.rows (Activity.Insert Insert.Set) l → HoldsFrom (word z r'.world) r'.ledger.rows l.row l.cell
+  own_set h i k d m = by l.cell d refl m
+    where
+      by : (c d : ℕ) → l.cell ≡ c → Reaches (word z r'.world) l.row c d → HoldsCell (word z r'.world) r'.ledger.rows l.row d
+      by _ _ f (is_there c) = subst (HoldsCell (word z r'.world) r'.ledger.rows l.row) f (k.own tt)
+      by _ _ f (leads_on c b e g n) =
+          let there : cell_of_link_word (word z r'.world (name.After l.row l.cell)) ≡ Some b = subst (λ x. cell_of_link_word (word z r'.world (name.After l.row x)) ≡ Some b) (sym f) g in
+          k.list b (stored_leads z l.held b (cell_fits l.held (i.sane.locals s l h.knows).ranges.held i.sane.sized.few_cells) (sym (ap cell_of_link_word h.changed.same) ∙ there)) e n
 
   named : {l' : Local} (j : ℕ) → Happens z r r' s choice l l' (Activity.Rebalance (Rebalance.Freeze (Freeze.Look j))) → Shape z r → Keyed z (word z r'.world) r'.ledger.rows l.row → (c version : ℕ) → ((n : Name) → word z r'.world n ≡ word z r.world n) → pend_of (word z r.world (name.Pend l.row j)) ≡ Some (pend.Stamped c version) → HoldsCell (word z r'.world) r'.ledger.rows l.row c
   named j h i y c version same e = y.named j c (subst (IsActivity z) h.activity (i.sane.locals s l h.knows).ranges.activity) (subst (IsOfCell c) (sym (ap pend_of (same (name.Pend l.row j)) ∙ e)) refl)
 
   -- by the arrow that the acting seat takes
   keys_by : (a : Activity) (l' : Local) → Arrow z (word z r.world) s choice l a l' → Happens z r r' s choice l l' a → Shape z r → Keys (word z r'.world) r'.ledger.rows a l → (IsAtRow a ⊎ IsBalancing a → Keyed z (word z r'.world) r'.ledger.rows l.row) → Keys (word z r'.world) r'.ledger.rows l'.activity l'
-  keys_by a l' stores_value h i k y = record { own = λ x. k.own tt; held = λ x. absurd x; marks = λ x. absurd x; saw = λ x. absurd x; key = λ x. absurd x; gathered = λ x. absurd x }
-  keys_by a l' (announces e) h i k y = record { own = λ x. k.own tt; held = λ x. absurd x; marks = λ x. absurd x; saw = λ x. absurd x; key = λ x. absurd x; gathered = λ x. absurd x }
-  keys_by a l' loads_clock h i k y = record { own = λ x. k.own tt; held = λ x. absurd x; marks = λ x. absurd x; saw = λ x. absurd x; key = λ x. absurd x; gathered = λ x. absurd x }
-  keys_by a l' (stamps e) h i k y = record { own = λ x. k.own tt; held = λ x. absurd x; marks = λ x. absurd x; saw = λ x. absurd x; key = λ x. absurd x; gathered = λ x. absurd x }
-  keys_by a l' (is_stamped version e) h i k y = record { own = λ x. k.own tt; held = λ x. absurd x; marks = λ x. absurd x; saw = λ x. absurd x; key = λ x. absurd x; gathered = λ x. absurd x }
-  keys_by a l' stores_version h i k y = record { own = λ x. k.own tt; held = λ x. absurd x; marks = λ x. absurd x; saw = λ x. absurd x; key = λ x. absurd x; gathered = λ x. absurd x }
-  keys_by a l' (reaches_cell c e) h i k y = record { own = λ x. k.own tt; held = λ x d f. subst (HoldsCell (word z r'.world) r'.ledger.rows l.row) (same_Some c d f) (led (Activity.Insert Insert.Link) h i (y (inl tt)) c (h.changed.loaded refl) e); marks = λ x. absurd x; saw = λ x. absurd x; key = λ x. absurd x; gathered = λ x. absurd x }
-  keys_by a l' (sees_none e) h i k y = record { own = λ x. k.own tt; held = λ x d f. let g : None ≡ Some d = f in absurd (cc); marks = λ x. absurd x; saw = λ x. absurd x; key = λ x. absurd x; gathered = λ x. absurd x }
-  keys_by a l' (key_before e) h i k y = record { own = λ x. k.own tt; held = λ x. absurd x; marks = λ x. absurd x; saw = λ x. absurd x; key = λ x. absurd x; gathered = λ x. absurd x }
-  keys_by a l' (key_same e) h i k y = record { own = λ x. k.own tt; held = λ x. k.held tt; marks = λ x. absurd x; saw = λ x. absurd x; key = λ x. absurd x; gathered = λ x. absurd x }
-  keys_by a l' (key_after e) h i k y = record { own = λ x. k.own tt; held = λ x. k.held tt; marks = λ x. absurd x; saw = λ x. absurd x; key = λ x. absurd x; gathered = λ x. absurd x }
-  keys_by a l' (version_before e) h i k y = record { own = λ x. k.own tt; held = λ x. absurd x; marks = λ x. absurd x; saw = λ x. absurd x; key = λ x. absurd x; gathered = λ x. absurd x }
-  keys_by a l' (version_after e) h i k y = record { own = λ x. k.own tt; held = λ x. k.held tt; marks = λ x. absurd x; saw = λ x. absurd x; key = λ x. absurd x; gathered = λ x. absurd x }
-  keys_by a l' stores_after h i k y = record { own = λ x. k.own tt; held = λ x. absurd x; marks = λ x. absurd x; saw = λ x. absurd x; key = λ x. absurd x; gathered = λ x. absurd x }
-  keys_by a l' (loses e) h i k y = record { own = λ x. k.own tt; held = λ x. absurd x; marks = λ x. absurd x; saw = λ x. absurd x; key = λ x. absurd x; gathered = λ x. absurd x }
-  keys_by a l' freezes_count h i k y = record { own = λ x. absurd x; held = λ x. absurd x; marks = λ x. All-nil (λ m. HoldsCell (word z r'.world) r'.ledger.rows l.row m.cell); saw = λ x. absurd x; key = λ x. absurd x; gathered = λ x. absurd x }
-  keys_by a l' (sees_idle j e) h i k y = record { own = λ x. absurd x; held = λ x. absurd x; marks = λ x. k.marks tt; saw = λ x. absurd x; key = λ x. absurd x; gathered = λ x. absurd x }
-  keys_by a l' (sees_unstamped j c e) h i k y = record { own = λ x. absurd x; held = λ x. absurd x; marks = λ x. k.marks tt; saw = λ x. absurd x; key = λ x. absurd x; gathered = λ x. absurd x }
-  keys_by a l' (remembers j c version e o) h i k y = record { own = λ x. absurd x; held = λ x. absurd x; marks = λ x. marks_more (word z r'.world) r'.ledger.rows l.row l.rebalance.marks c version (k.marks tt) (named j h i (y (inr tt)) c version (h.changed.loaded refl) e); saw = λ x. absurd x; key = λ x. absurd x; gathered = λ x. absurd x }
-  keys_by a l' (remembers_last j c version e o) h i k y = record { own = λ x. absurd x; held = λ x. absurd x; marks = λ x. marks_more (word z r'.world) r'.ledger.rows l.row l.rebalance.marks c version (k.marks tt) (named j h i (y (inr tt)) c version (h.changed.loaded refl) e); saw = λ x. absurd x; key = λ x. absurd x; gathered = λ x. absurd x }
-  keys_by a l' (sees_frozen j e o) h i k y = record { own = λ x. absurd x; held = λ x. absurd x; marks = λ x. k.marks tt; saw = λ x. absurd x; key = λ x. absurd x; gathered = λ x. absurd x }
-  keys_by a l' (sees_frozen_last j e o) h i k y = record { own = λ x. absurd x; held = λ x. absurd x; marks = λ x. k.marks tt; saw = λ x. absurd x; key = λ x. absurd x; gathered = λ x. absurd x }
-  keys_by a l' (freezes_entry j e o) h i k y = record { own = λ x. absurd x; held = λ x. absurd x; marks = λ x. k.marks tt; saw = λ x. absurd x; key = λ x. absurd x; gathered = λ x. absurd x }
-  keys_by a l' (freezes_last j e o) h i k y = record { own = λ x. absurd x; held = λ x. absurd x; marks = λ x. k.marks tt; saw = λ x. absurd x; key = λ x. absurd x; gathered = λ x. absurd x }
-  keys_by a l' (looks_again j e) h i k y = record { own = λ x. absurd x; held = λ x. absurd x; marks = λ x. k.marks tt; saw = λ x. absurd x; key = λ x. absurd x; gathered = λ x. absurd x }
-  keys_by a l' (sees_quiet j e o) h i k y = record { own = λ x. absurd x; held = λ x. absurd x; marks = λ x. k.marks tt; saw = λ x. absurd x; key = λ x. absurd x; gathered = λ x. absurd x }
-  keys_by a l' (helps_scan j clock e) h i k y = record { own = λ x. absurd x; held = λ x. absurd x; marks = λ x. k.marks tt; saw = λ x. absurd x; key = λ x. absurd x; gathered = λ x. absurd x }
-  keys_by a l' (sees_drawn j version e o) h i k y = record { own = λ x. absurd x; held = λ x. absurd x; marks = λ x. k.marks tt; saw = λ x. absurd x; key = λ x. absurd x; gathered = λ x. absurd x }
-  keys_by a l' (draws_for j) h i k y = record { own = λ x. absurd x; held = λ x. absurd x; marks = λ x. k.marks tt; saw = λ x. absurd x; key = λ x. absurd x; gathered = λ x. absurd x }
-  keys_by a l' (settles_scan j e o) h i k y = record { own = λ x. absurd x; held = λ x. absurd x; marks = λ x. k.marks tt; saw = λ x. absurd x; key = λ x. absurd x; gathered = λ x. absurd x }
-  keys_by a l' (finds_drawn j version e o) h i k y = record { own = λ x. absurd x; held = λ x. absurd x; marks = λ x. k.marks tt; saw = λ x. absurd x; key = λ x. absurd x; gathered = λ x. absurd x }
-  keys_by a l' (finds_no_scan j e o) h i k y = record { own = λ x. absurd x; held = λ x. absurd x; marks = λ x. k.marks tt; saw = λ x. absurd x; key = λ x. absurd x; gathered = λ x. absurd x }
-  keys_by a l' (sees_quiet_last j e o) h i k y = record { own = λ x. absurd x; held = λ x. absurd x; marks = λ x. k.marks tt; saw = λ x. absurd x; key = λ x. absurd x; gathered = λ x. All-nil (λ c. rows.HoldsKey (rows_in (word z r'.world)) r'.ledger.rows l.row c.key) }
-  keys_by a l' (sees_drawn_last j version e o) h i k y = record { own = λ x. absurd x; held = λ x. absurd x; marks = λ x. k.marks tt; saw = λ x. absurd x; key = λ x. absurd x; gathered = λ x. All-nil (λ c. rows.HoldsKey (rows_in (word z r'.world)) r'.ledger.rows l.row c.key) }
-  keys_by a l' (settles_last j e o) h i k y = record { own = λ x. absurd x; held = λ x. absurd x; marks = λ x. k.marks tt; saw = λ x. absurd x; key = λ x. absurd x; gathered = λ x. All-nil (λ c. rows.HoldsKey (rows_in (word z r'.world)) r'.ledger.rows l.row c.key) }
-  keys_by a l' (finds_drawn_last j version e o) h i k y = record { own = λ x. absurd x; held = λ x. absurd x; marks = λ x. k.marks tt; saw = λ x. absurd x; key = λ x. absurd x; gathered = λ x. All-nil (λ c. rows.HoldsKey (rows_in (word z r'.world)) r'.ledger.rows l.row c.key) }
-  keys_by a l' (finds_no_scan_last j e o) h i k y = record { own = λ x. absurd x; held = λ x. absurd x; marks = λ x. k.marks tt; saw = λ x. absurd x; key = λ x. absurd x; gathered = λ x. All-nil (λ c. rows.HoldsKey (rows_in (word z r'.world)) r'.ledger.rows l.row c.key) }
-  keys_by a l' (take_leads c e) h i k y = record { own = λ x. absurd x; held = λ x. absurd x; marks = λ x. unmarked_in_range (λ m. HoldsCell (word z r'.world) r'.ledger.rows l.row m.cell) c l.rebalance.marks (k.marks tt); saw = λ x. led (Activity.Rebalance (Rebalance.Gather Gather.Link)) h i (y (inr tt)) c (h.changed.loaded refl) e; key = λ x. absurd x; gathered = λ x. k.gathered tt }
-  keys_by a l' (takes_left m e n) h i k y = record { own = λ x. absurd x; held = λ x. absurd x; marks = λ x. unmarked_in_range (λ m. HoldsCell (word z r'.world) r'.ledger.rows l.row m.cell) m.cell l.rebalance.marks (k.marks tt); saw = λ x. least_holds (λ m. HoldsCell (word z r'.world) r'.ledger.rows l.row m.cell) l.rebalance.marks m n (k.marks tt); key = λ x. absurd x; gathered = λ x. k.gathered tt }
-  keys_by a l' (takes_no_more e n) h i k y = record { own = λ x. absurd x; held = λ x. absurd x; marks = λ x. absurd x; saw = λ x. absurd x; key = λ x. absurd x; gathered = λ x. k.gathered tt }
-  keys_by a l' takes_key h i k y = record { own = λ x. absurd x; held = λ x. absurd x; marks = λ x. k.marks tt; saw = λ x. absurd x; key = λ x. subst (λ w. rows.HoldsKey (rows_in (word z r'.world)) r'.ledger.rows l.row (key_of_word w)) (h.changed.loaded refl (name.Key l.row l.place)) (k.saw tt); gathered = λ x. k.gathered tt }
-  keys_by a l' takes_version h i k y = record { own = λ x. absurd x; held = λ x. absurd x; marks = λ x. k.marks tt; saw = λ x. absurd x; key = λ x. k.key tt; gathered = λ x. k.gathered tt }
-  keys_by a l' keeps_taken h i k y = record { own = λ x. absurd x; held = λ x. absurd x; marks = λ x. k.marks tt; saw = λ x. absurd x; key = λ x. absurd x; gathered = λ x. kept_more (word z r'.world) r'.ledger.rows z l _ (k.key tt) (k.gathered tt) }
-  keys_by a l' takes_left_key h i k y = record { own = λ x. absurd x; held = λ x. absurd x; marks = λ x. k.marks tt; saw = λ x. absurd x; key = λ x. subst (λ w. rows.HoldsKey (rows_in (word z r'.world)) r'.ledger.rows l.row (key_of_word w)) (h.changed.loaded refl (name.Key l.row l.place)) (k.saw tt); gathered = λ x. k.gathered tt }
-  keys_by a l' (keeps_left m n) h i k y = record { own = λ x. absurd x; held = λ x. absurd x; marks = λ x. unmarked_in_range (λ m. HoldsCell (word z r'.world) r'.ledger.rows l.row m.cell) m.cell l.rebalance.marks (k.marks tt); saw = λ x. least_holds (λ m. HoldsCell (word z r'.world) r'.ledger.rows l.row m.cell) l.rebalance.marks m n (k.marks tt); key = λ x. absurd x; gathered = λ x. kept_more (word z r'.world) r'.ledger.rows z l _ (k.key tt) (k.gathered tt) }
-  keys_by a l' (keeps_no_more n) h i k y = record { own = λ x. absurd x; held = λ x. absurd x; marks = λ x. absurd x; saw = λ x. absurd x; key = λ x. absurd x; gathered = λ x. kept_more (word z r'.world) r'.ledger.rows z l _ (k.key tt) (k.gathered tt) }
+  keys_by a l' stores_value h i k y = record { own = λ x. k.own tt; list = λ c x. absurd x; marks = λ x. absurd x; saw = λ x. absurd x; key = λ x. absurd x; gathered = λ x. absurd x }
+  keys_by a l' (announces e) h i k y = record { own = λ x. k.own tt; list = λ c x. absurd x; marks = λ x. absurd x; saw = λ x. absurd x; key = λ x. absurd x; gathered = λ x. absurd x }
+  keys_by a l' loads_clock h i k y = record { own = λ x. k.own tt; list = λ c x. absurd x; marks = λ x. absurd x; saw = λ x. absurd x; key = λ x. absurd x; gathered = λ x. absurd x }
+  keys_by a l' (stamps e) h i k y = record { own = λ x. k.own tt; list = λ c x. absurd x; marks = λ x. absurd x; saw = λ x. absurd x; key = λ x. absurd x; gathered = λ x. absurd x }
+  keys_by a l' (is_stamped version e) h i k y = record { own = λ x. k.own tt; list = λ c x. absurd x; marks = λ x. absurd x; saw = λ x. absurd x; key = λ x. absurd x; gathered = λ x. absurd x }
+  keys_by a l' stores_version h i k y = record { own = λ x. k.own tt; list = λ c x. none_list (word z r'.world) r'.ledger.rows l.row c x; marks = λ x. absurd x; saw = λ x. absurd x; key = λ x. absurd x; gathered = λ x. absurd x }
+  keys_by a l' (first_reaches c e) h i k y = record { own = λ x. k.own tt; list = λ d x. reached_list (word z r'.world) r'.ledger.rows l.row c d (led (Activity.Insert Insert.Start) h (y (inl tt)) (λ b f. k.list b f) c (h.changed.loaded (first_loads (cell_guess choice l) l)) e) x; marks = λ x. absurd x; saw = λ x. absurd x; key = λ x. absurd x; gathered = λ x. absurd x }
+  keys_by a l' (reaches_cell c e) h i k y = record { own = λ x. k.own tt; list = λ d x. reached_list (word z r'.world) r'.ledger.rows l.row c d (led (Activity.Insert Insert.Link) h (y (inl tt)) (λ b f. k.list b f) c (h.changed.loaded refl) e) x; marks = λ x. absurd x; saw = λ x. absurd x; key = λ x. absurd x; gathered = λ x. absurd x }
+  keys_by a l' (first_sees_none e) h i k y = record { own = λ x. k.own tt; list = λ c x. none_list (word z r'.world) r'.ledger.rows l.row c x; marks = λ x. absurd x; saw = λ x. absurd x; key = λ x. absurd x; gathered = λ x. absurd x }
+  keys_by a l' (sees_none e) h i k y = record { own = λ x. k.own tt; list = λ c x. none_list (word z r'.world) r'.ledger.rows l.row c x; marks = λ x. absurd x; saw = λ x. absurd x; key = λ x. absurd x; gathered = λ x. absurd x }
+  keys_by a l' (inserts_behind guess inside e) h i k y = record { own = λ x. k.own tt; list = λ c x. held_list (word z r'.world) r'.ledger.rows l.row guess c (guessed h i (y (inl tt)) guess inside) x; marks = λ x. absurd x; saw = λ x. absurd x; key = λ x. absurd x; gathered = λ x. absurd x }
+  keys_by a l' (inserts_at_first guess e) h i k y = record { own = λ x. k.own tt; list = λ c x. k.list c x; marks = λ x. absurd x; saw = λ x. absurd x; key = λ x. absurd x; gathered = λ x. absurd x }
+  keys_by a l' (key_before e) h i k y = record { own = λ x. k.own tt; list = λ c x. held_list (word z r'.world) r'.ledger.rows l.row l.place c (k.list l.place (inl refl)) x; marks = λ x. absurd x; saw = λ x. absurd x; key = λ x. absurd x; gathered = λ x. absurd x }
+  keys_by a l' (key_same e) h i k y = record { own = λ x. k.own tt; list = λ c x. k.list c x; marks = λ x. absurd x; saw = λ x. absurd x; key = λ x. absurd x; gathered = λ x. absurd x }
+  keys_by a l' (key_after e) h i k y = record { own = λ x. k.own tt; list = λ c x. k.list c (inr x); marks = λ x. absurd x; saw = λ x. absurd x; key = λ x. absurd x; gathered = λ x. absurd x }
+  keys_by a l' (version_before e) h i k y = record { own = λ x. k.own tt; list = λ c x. held_list (word z r'.world) r'.ledger.rows l.row l.place c (k.list l.place (inl refl)) x; marks = λ x. absurd x; saw = λ x. absurd x; key = λ x. absurd x; gathered = λ x. absurd x }
+  keys_by a l' (version_after e) h i k y = record { own = λ x. k.own tt; list = λ c x. k.list c (inr x); marks = λ x. absurd x; saw = λ x. absurd x; key = λ x. absurd x; gathered = λ x. absurd x }
+  keys_by a l' stores_after h i k y = record { own = λ x. k.own tt; list = λ c x. subst (HoldsFrom (word z r'.world) r'.ledger.rows l.row) x (own_set h i k); marks = λ x. absurd x; saw = λ x. absurd x; key = λ x. absurd x; gathered = λ x. absurd x }
+  keys_by a l' (loses e) h i k y = record { own = λ x. k.own tt; list = λ c x. none_list (word z r'.world) r'.ledger.rows l.row c x; marks = λ x. absurd x; saw = λ x. absurd x; key = λ x. absurd x; gathered = λ x. absurd x }
+  keys_by a l' freezes_count h i k y = record { own = λ x. absurd x; list = λ c x. absurd x; marks = λ x. All-nil (λ m. HoldsCell (word z r'.world) r'.ledger.rows l.row m.cell); saw = λ x. absurd x; key = λ x. absurd x; gathered = λ x. absurd x }
+  keys_by a l' (sees_idle j e) h i k y = record { own = λ x. absurd x; list = λ c x. absurd x; marks = λ x. k.marks tt; saw = λ x. absurd x; key = λ x. absurd x; gathered = λ x. absurd x }
+  keys_by a l' (sees_unstamped j c e) h i k y = record { own = λ x. absurd x; list = λ c x. absurd x; marks = λ x. k.marks tt; saw = λ x. absurd x; key = λ x. absurd x; gathered = λ x. absurd x }
+  keys_by a l' (remembers j c version e o) h i k y = record { own = λ x. absurd x; list = λ c x. absurd x; marks = λ x. marks_more (word z r'.world) r'.ledger.rows l.row l.rebalance.marks c version (k.marks tt) (named j h i (y (inr tt)) c version (h.changed.loaded refl) e); saw = λ x. absurd x; key = λ x. absurd x; gathered = λ x. absurd x }
+  keys_by a l' (remembers_last j c version e o) h i k y = record { own = λ x. absurd x; list = λ c x. absurd x; marks = λ x. marks_more (word z r'.world) r'.ledger.rows l.row l.rebalance.marks c version (k.marks tt) (named j h i (y (inr tt)) c version (h.changed.loaded refl) e); saw = λ x. absurd x; key = λ x. absurd x; gathered = λ x. absurd x }
+  keys_by a l' (sees_frozen j e o) h i k y = record { own = λ x. absurd x; list = λ c x. absurd x; marks = λ x. k.marks tt; saw = λ x. absurd x; key = λ x. absurd x; gathered = λ x. absurd x }
+  keys_by a l' (sees_frozen_last j e o) h i k y = record { own = λ x. absurd x; list = λ c x. absurd x; marks = λ x. k.marks tt; saw = λ x. absurd x; key = λ x. absurd x; gathered = λ x. absurd x }
+  keys_by a l' (freezes_entry j e o) h i k y = record { own = λ x. absurd x; list = λ c x. absurd x; marks = λ x. k.marks tt; saw = λ x. absurd x; key = λ x. absurd x; gathered = λ x. absurd x }
+  keys_by a l' (freezes_last j e o) h i k y = record { own = λ x. absurd x; list = λ c x. absurd x; marks = λ x. k.marks tt; saw = λ x. absurd x; key = λ x. absurd x; gathered = λ x. absurd x }
+  keys_by a l' (looks_again j e) h i k y = record { own = λ x. absurd x; list = λ c x. absurd x; marks = λ x. k.marks tt; saw = λ x. absurd x; key = λ x. absurd x; gathered = λ x. absurd x }
+  keys_by a l' (sees_quiet j e o) h i k y = record { own = λ x. absurd x; list = λ c x. absurd x; marks = λ x. k.marks tt; saw = λ x. absurd x; key = λ x. absurd x; gathered = λ x. absurd x }
+  keys_by a l' (helps_scan j clock e) h i k y = record { own = λ x. absurd x; list = λ c x. absurd x; marks = λ x. k.marks tt; saw = λ x. absurd x; key = λ x. absurd x; gathered = λ x. absurd x }
+  keys_by a l' (sees_drawn j version e o) h i k y = record { own = λ x. absurd x; list = λ c x. absurd x; marks = λ x. k.marks tt; saw = λ x. absurd x; key = λ x. absurd x; gathered = λ x. absurd x }
+  keys_by a l' (draws_for j) h i k y = record { own = λ x. absurd x; list = λ c x. absurd x; marks = λ x. k.marks tt; saw = λ x. absurd x; key = λ x. absurd x; gathered = λ x. absurd x }
+  keys_by a l' (settles_scan j e o) h i k y = record { own = λ x. absurd x; list = λ c x. absurd x; marks = λ x. k.marks tt; saw = λ x. absurd x; key = λ x. absurd x; gathered = λ x. absurd x }
+  keys_by a l' (finds_drawn j version e o) h i k y = record { own = λ x. absurd x; list = λ c x. absurd x; marks = λ x. k.marks tt; saw = λ x. absurd x; key = λ x. absurd x; gathered = λ x. absurd x }
+  keys_by a l' (finds_no_scan j e o) h i k y = record { own = λ x. absurd x; list = λ c x. absurd x; marks = λ x. k.marks tt; saw = λ x. absurd x; key = λ x. absurd x; gathered = λ x. absurd x }
+  keys_by a l' (sees_quiet_last j e o) h i k y = record { own = λ x. absurd x; list = λ c x. none_list (word z r'.world) r'.ledger.rows l.row c x; marks = λ x. k.marks tt; saw = λ x. absurd x; key = λ x. absurd x; gathered = λ x. All-nil (λ c. rows.HoldsKey (rows_in (word z r'.world)) r'.ledger.rows l.row c.key) }
+  keys_by a l' (sees_drawn_last j version e o) h i k y = record { own = λ x. absurd x; list = λ c x. none_list (word z r'.world) r'.ledger.rows l.row c x; marks = λ x. k.marks tt; saw = λ x. absurd x; key = λ x. absurd x; gathered = λ x. All-nil (λ c. rows.HoldsKey (rows_in (word z r'.world)) r'.ledger.rows l.row c.key) }
+  keys_by a l' (settles_last j e o) h i k y = record { own = λ x. absurd x; list = λ c x. none_list (word z r'.world) r'.ledger.rows l.row c x; marks = λ x. k.marks tt; saw = λ x. absurd x; key = λ x. absurd x; gathered = λ x. All-nil (λ c. rows.HoldsKey (rows_in (word z r'.world)) r'.ledger.rows l.row c.key) }
+  keys_by a l' (finds_drawn_last j version e o) h i k y = record { own = λ x. absurd x; list = λ c x. none_list (word z r'.world) r'.ledger.rows l.row c x; marks = λ x. k.marks tt; saw = λ x. absurd x; key = λ x. absurd x; gathered = λ x. All-nil (λ c. rows.HoldsKey (rows_in (word z r'.world)) r'.ledger.rows l.row c.key) }
+  keys_by a l' (finds_no_scan_last j e o) h i k y = record { own = λ x. absurd x; list = λ c x. none_list (word z r'.world) r'.ledger.rows l.row c x; marks = λ x. k.marks tt; saw = λ x. absurd x; key = λ x. absurd x; gathered = λ x. All-nil (λ c. rows.HoldsKey (rows_in (word z r'.world)) r'.ledger.rows l.row c.key) }
+  keys_by a l' (take_leads c e) h i k y = record { own = λ x. absurd x; list = λ d x. subst (HoldsFrom (word z r'.world) r'.ledger.rows l.row) x (led (Activity.Rebalance (Rebalance.Gather Gather.Link)) h (y (inr tt)) (λ b f. k.list b f) c (h.changed.loaded refl) e); marks = λ x. unmarked_in_range (λ m. HoldsCell (word z r'.world) r'.ledger.rows l.row m.cell) c l.rebalance.marks (k.marks tt); saw = λ x. led (Activity.Rebalance (Rebalance.Gather Gather.Link)) h (y (inr tt)) (λ b f. k.list b f) c (h.changed.loaded refl) e c (is_there c); key = λ x. absurd x; gathered = λ x. k.gathered tt }
+  keys_by a l' (takes_left m e n) h i k y = record { own = λ x. absurd x; list = λ c x. absurd x; marks = λ x. unmarked_in_range (λ m. HoldsCell (word z r'.world) r'.ledger.rows l.row m.cell) m.cell l.rebalance.marks (k.marks tt); saw = λ x. least_holds (λ m. HoldsCell (word z r'.world) r'.ledger.rows l.row m.cell) l.rebalance.marks m n (k.marks tt); key = λ x. absurd x; gathered = λ x. k.gathered tt }
+  keys_by a l' (takes_no_more e n) h i k y = record { own = λ x. absurd x; list = λ c x. absurd x; marks = λ x. absurd x; saw = λ x. absurd x; key = λ x. absurd x; gathered = λ x. k.gathered tt }
+  keys_by a l' takes_key h i k y = record { own = λ x. absurd x; list = λ c x. k.list c x; marks = λ x. k.marks tt; saw = λ x. absurd x; key = λ x. subst (λ w. rows.HoldsKey (rows_in (word z r'.world)) r'.ledger.rows l.row (key_of_word w)) (h.changed.loaded refl (name.Key l.row l.place)) (k.saw tt); gathered = λ x. k.gathered tt }
+  keys_by a l' takes_version h i k y = record { own = λ x. absurd x; list = λ c x. k.list c x; marks = λ x. k.marks tt; saw = λ x. absurd x; key = λ x. k.key tt; gathered = λ x. k.gathered tt }
+  keys_by a l' keeps_taken h i k y = record { own = λ x. absurd x; list = λ c x. held_list (word z r'.world) r'.ledger.rows l.row l.place c (k.list l.place refl) x; marks = λ x. k.marks tt; saw = λ x. absurd x; key = λ x. absurd x; gathered = λ x. kept_more (word z r'.world) r'.ledger.rows z l _ (k.key tt) (k.gathered tt) }
+  keys_by a l' takes_left_key h i k y = record { own = λ x. absurd x; list = λ c x. absurd x; marks = λ x. k.marks tt; saw = λ x. absurd x; key = λ x. subst (λ w. rows.HoldsKey (rows_in (word z r'.world)) r'.ledger.rows l.row (key_of_word w)) (h.changed.loaded refl (name.Key l.row l.place)) (k.saw tt); gathered = λ x. k.gathered tt }
+  keys_by a l' (keeps_left m n) h i k y = record { own = λ x. absurd x; list = λ c x. absurd x; marks = λ x. unmarked_in_range (λ m. HoldsCell (word z r'.world) r'.ledger.rows l.row m.cell) m.cell l.rebalance.marks (k.marks tt); saw = λ x. least_holds (λ m. HoldsCell (word z r'.world) r'.ledger.rows l.row m.cell) l.rebalance.marks m n (k.marks tt); key = λ x. absurd x; gathered = λ x. kept_more (word z r'.world) r'.ledger.rows z l _ (k.key tt) (k.gathered tt) }
+  keys_by a l' (keeps_no_more n) h i k y = record { own = λ x. absurd x; list = λ c x. absurd x; marks = λ x. absurd x; saw = λ x. absurd x; key = λ x. absurd x; gathered = λ x. kept_more (word z r'.world) r'.ledger.rows z l _ (k.key tt) (k.gathered tt) }
   keys_by a l' (builds b next p t) h i k y = built_keys (word z r'.world) r'.ledger.rows z (word z r.world) choice l b next p t k
   keys_by a l' (sees_stamped j c version next e n) h i k y = look_keys (word z r'.world) r'.ledger.rows z _ next _ n
   keys_by a l' (sees_neither j next e n) h i k y = look_keys (word z r'.world) r'.ledger.rows z _ next _ n
@@ -253,16 +339,17 @@ module _ {z : Sizes} {r r' : Run} {s : ℕ} {choice : Choice} {l : Local} where
   keys_by a l' (helps next e n) h i k y = look_keys (word z r'.world) r'.ledger.rows z _ next _ n
   keys_by a l' (finds_stamped c version next e n) h i k y = look_keys (word z r'.world) r'.ledger.rows z _ next _ n
   keys_by a l' (finds_other next e n) h i k y = look_keys (word z r'.world) r'.ledger.rows z _ next _ n
+  keys_by a l' (first_ends next e n) h i k y = cell_keys (word z r'.world) r'.ledger.rows _ next n
   keys_by a l' (list_ends next e n) h i k y = cell_keys (word z r'.world) r'.ledger.rows _ next n
   keys_by a l' (key_above next e n) h i k y = cell_keys (word z r'.world) r'.ledger.rows _ next n
   keys_by a l' (left_over_gone_by next e n) h i k y = cell_keys (word z r'.world) r'.ledger.rows _ next n
   keys_by a l' (gathers_left_over next n) h i k y = cell_keys (word z r'.world) r'.ledger.rows _ next n
-  keys_by a l' stores_key h i k y = record { own = λ x. put_key_holds h i (row_linked i s l (Activity.Put Put.Key) h.knows h.activity tt); held = λ x. absurd x; marks = λ x. absurd x; saw = λ x. absurd x; key = λ x. absurd x; gathered = λ x. absurd x }
-  keys_by a l' _ h i k y = record { own = λ x. absurd x; held = λ x. absurd x; marks = λ x. absurd x; saw = λ x. absurd x; key = λ x. absurd x; gathered = λ x. absurd x }
+  keys_by a l' stores_key h i k y = record { own = λ x. put_key_holds h i (row_linked i s l (Activity.Put Put.Key) h.knows h.activity tt); list = λ c x. absurd x; marks = λ x. absurd x; saw = λ x. absurd x; key = λ x. absurd x; gathered = λ x. absurd x }
+  keys_by a l' _ h i k y = record { own = λ x. absurd x; list = λ c x. absurd x; marks = λ x. absurd x; saw = λ x. absurd x; key = λ x. absurd x; gathered = λ x. absurd x }
 
   -- what the acting seat knows
   pub keys_own : {l' : Local} (a : Activity) → Happens z r r' s choice l l' a → Shape z r → IsSane z r'.world → Keys (word z r'.world) r'.ledger.rows l'.activity l'
-  keys_own {l'} a h i sane = keys_by a l' h.arrow h i (subst (λ b. Keys (word z r'.world) r'.ledger.rows b l) h.activity (keys_stay a h i s l h.knows)) keyed
+  keys_own {l'} a h i sane = keys_by a l' h.arrow h i (subst (λ b. Keys (word z r'.world) r'.ledger.rows b l) h.activity (keys_stay a h i sane s l h.knows)) keyed
     where
       keyed : IsAtRow a ⊎ IsBalancing a → Keyed z (word z r'.world) r'.ledger.rows l.row
       keyed (inl x) = keyed_stays a h i sane l.row (row_linked i s l a h.knows h.activity x)

@@ -55,13 +55,13 @@ use Rattle.kw_world.specs.TakeTransitions.{keeping, planned, to_take}
 use Rattle.kw_world.specs.ReadTransitions.{cell_in_hand, with_pairs, gathering, remembering}
 use Rattle.kw_world.specs.Sane.{IsVersion, IsNumber, IsEntry, IsWord, IsLed, IsOffered, IsPair, IsAnswer, IsMark, IsCopy, IsPlaced, IsActivity, IsRowBelow, IsLinkBelow, IsRowState, IsCellBelow, IsLocal, IsLocalBelow, IsKnown, HasRebalanceRoom, marks_by}
 use Rattle.kw_world.proofs.Opens.{none_below, none_ranges, none_room, rests_known}
-use Rattle.kw_core.specs.Words.{Words}
+use Rattle.kw_core.specs.Words.{Words, built_in}
 use Rattle.kw_core.proofs.Events.{IsBegun}
 use Rattle.kw_core.proofs.RoomBelow.{room_below}
 use Rattle.kw_core.proofs.InRange.{unmarked_in_range, unmarked_few, least_holds, version_in_hand, gathered_in_range, gathered_few, version_of_scan, answer_in_range, pairs_in_range, value_in_range, first_in_range, last_in_range, linked_in_range, stopped_in_range, with_cell_in_range}
 use Rattle.kw_cells.proofs.InOrder.{length-with_cell}
-use Rattle.kw_core.proofs.Arrows.{Arrow, begins, enters, is_spent, waits, draws, settles_empty, settles, starts_at_head, guesses, takes_head, guess_serves, stops, puts_in_last, reads_last, reaches_next, walks_on, puts_before, reads_before, sees_pending, sees_stamped, sees_neither, is_gone_by, loads_to_help, helps, finds_stamped, finds_other, list_leads, list_ends, key_below, key_within, key_above, loads_version, gathers_listed, left_over_wanted, left_over_gone_by, gathers_left_over, clears_scan, takes_cell, loads_clock, is_stamped, stores_version, reaches_cell, sees_none, key_before, version_before, loses, clears, leaves, enters_again, clock_is_spent, epoch_is_spent, finds_infant, finds_leader, finds_other_state, engages, marks_link, marks_led, decides, decides_not, finds_full, takes_full, announces_full, stamps_full, NextLook, looks, lists, NextLeftOver, goes_to_left_over, answers, ends_scan, scans_on, freezes_count, sees_idle, sees_unstamped, remembers, remembers_last, sees_frozen, sees_frozen_last, freezes_entry, freezes_last, looks_again, sees_quiet, sees_quiet_last, helps_scan, sees_drawn, sees_drawn_last, draws_for, settles_scan, settles_last, finds_drawn, finds_drawn_last, finds_no_scan, finds_no_scan_last, take_leads, takes_left, takes_no_more, takes_key, takes_version, keeps_taken, takes_left_key, keeps_left, keeps_no_more, below, builds, ends_at_state, ends_at_clock, ends_at_epoch, ends_undecided, tidies}
-use Rattle.kw_core.proofs.Building.{Building, IsBuilding, first_is_free, first_is_taken, sought_is_free, sought_is_taken, first_is_retired, sought_is_retired, pass_is_old, pass_is_young, frees_row, takes_row, loses_row, gives_one_back, gives_last_back, writes_count, writes_least, writes_link, writes_first, writes_entry, writes_key, writes_value, writes_version, writes_after, begins_before, guesses_before, guess_before_fails, before_serves, before_is_above, takes_head_before, leads_to_full, leads_on_marked, leads_to_other, leads_nowhere, walks_before, walks_past, replaces_row, is_marked_before, is_replaced, makes_normal, makes_last_normal, draws_number, retires_row, retires_and_leaves}
+use Rattle.kw_core.proofs.Arrows.{Arrow, begins, enters, is_spent, waits, draws, settles_empty, settles, starts_at_head, guesses, takes_head, guess_serves, stops, puts_in_last, reads_last, reaches_next, walks_on, puts_before, reads_before, sees_pending, sees_stamped, sees_neither, is_gone_by, loads_to_help, helps, finds_stamped, finds_other, list_leads, list_ends, key_below, key_within, key_above, loads_version, gathers_listed, left_over_wanted, left_over_gone_by, gathers_left_over, clears_scan, takes_cell, loads_clock, is_stamped, stores_version, reaches_cell, sees_none, key_before, version_before, loses, clears, leaves, enters_again, clock_is_spent, epoch_is_spent, finds_infant, finds_leader, finds_other_state, engages, marks_link, marks_led, decides, decides_not, finds_full, takes_full, announces_full, stamps_full, NextLook, looks, lists, NextLeftOver, goes_to_left_over, answers, ends_scan, scans_on, freezes_count, sees_idle, sees_unstamped, remembers, remembers_last, sees_frozen, sees_frozen_last, freezes_entry, freezes_last, looks_again, sees_quiet, sees_quiet_last, helps_scan, sees_drawn, sees_drawn_last, draws_for, settles_scan, settles_last, finds_drawn, finds_drawn_last, finds_no_scan, finds_no_scan_last, take_leads, takes_left, takes_no_more, takes_key, takes_version, keeps_taken, takes_left_key, keeps_left, keeps_no_more, below, builds, ends_at_state, ends_at_clock, ends_at_epoch, ends_undecided, tidies, begins_at_first, begins_behind, first_ends, first_sees_none, inserts_at_first, inserts_behind, first_leads, first_reaches}
+use Rattle.kw_core.proofs.Building.{Building, IsBuilding, first_is_free, first_is_taken, sought_is_free, sought_is_taken, first_is_retired, sought_is_retired, pass_is_old, pass_is_young, frees_row, takes_row, loses_row, gives_one_back, gives_last_back, writes_count, writes_least, writes_link, writes_first, writes_entry, writes_key, writes_value, writes_version, writes_no_cell, writes_after, begins_before, guesses_before, guess_before_fails, before_serves, before_is_above, takes_head_before, leads_to_full, leads_on_marked, leads_to_other, leads_nowhere, walks_before, walks_past, replaces_row, is_marked_before, is_replaced, makes_normal, makes_last_normal, draws_number, retires_row, retires_and_leaves}
 use Rattle.kw_core.proofs.NextBuilt as following
 use Rattle.kw_core.proofs.NextBuilt.{begun_anew, refused, GivenBack, is_refused_rows, moves_left, NextBack, gives_back, has_none, NextSeek, asks, has_asked, looks_on, has_looked, NextTaken, wants_more, has_enough, NextNewRow, writes_row, has_written, NextNewCell, fills, empties, has_cells, NextNewEntry, writes_idle, has_entries, NextBefore, is_first, is_behind, was_served}
 
@@ -142,13 +142,15 @@ module _ (z : Sizes) (rows : ℕ) (l : Local) (sized : IsSized z.seats z.cells r
   is_leaving answer y k b m g n =
       let o : 0 < rows = omega (arith, sized.some_rows) in
       let zero_key : 0 < KEY_END = omega arith in
-      assumption (k, b, y, m, g, n, o, zero_key)
+      let unbuilt : 0 ≤ z.cells = omega arith in
+      assumption (k, b, y, m, g, n, o, zero_key, unbuilt)
 
   -- a seat that takes the first row
-  takes_first : (v : Words) → row_or_first (row_linked (link_of (v name.Head))) < rows → IsLocal z l → IsLocalBelow rows l → length l.remembered ≤ z.seats → length l.gathered ≤ z.cells → HasLists z l → IsKnown z rows (record l { row = row_or_first (row_linked (link_of (v name.Head))); lower = 0; activity = Activity.Walk Walk.Next })
+  takes_first : (v : Words) → row_or_first (row_linked (link_of (v name.Head))) < rows → IsLocal z l → IsLocalBelow rows l → length l.remembered ≤ z.seats → length l.gathered ≤ z.cells → HasLists z l → IsKnown z rows (record l { row = row_or_first (row_linked (link_of (v name.Head))); lower = 0; built = 0; activity = Activity.Walk Walk.Next })
   takes_first v o k b m g n =
       let zero_key : 0 < KEY_END = omega arith in
-      assumption (k, b, m, g, n, o, zero_key)
+      let unbuilt : 0 ≤ z.cells = omega arith in
+      assumption (k, b, m, g, n, o, zero_key, unbuilt)
 
   -- a put that comes to the last row, and a reader that comes there or to a row before another
   puts_last : IsKnownAt z rows (Activity.Walk Walk.Next) l → IsKnown z rows (record l { next = None; upper = 0; activity = Activity.Put Put.Count })
@@ -200,7 +202,8 @@ module _ (z : Sizes) (rows : ℕ) (l : Local) (sized : IsSized z.seats z.cells r
       let p = more_pairs z l k in
       let t : q < rows = subst (IsRowBelow rows) n b.next in
       let zero_key : 0 < KEY_END = omega arith in
-      assumption (k, b, u, g, x, p, t, zero_key)
+      let unbuilt : 0 ≤ z.cells = omega arith in
+      assumption (k, b, u, g, x, p, t, zero_key, unbuilt)
 
   -- a seat that forgets what it knew of a rebalance: it is refused, tries again, or begins one
   is_refusing : (answer : Answer) → IsAnswer answer → IsLocal z l → IsLocalBelow rows l → length l.remembered ≤ z.seats → length l.gathered ≤ z.cells → IsKnown z rows (refused answer l).local
@@ -210,7 +213,8 @@ module _ (z : Sizes) (rows : ℕ) (l : Local) (sized : IsSized z.seats z.cells r
       let n = none_ranges z in
       let p = none_below rows o in
       let q = none_room z Activity.Idle (λ t. t) in
-      assumption (k, b, y, m, g, o, zero_key, n, p, q)
+      let unbuilt : 0 ≤ z.cells = omega arith in
+      assumption (k, b, y, m, g, o, zero_key, unbuilt, n, p, q)
 
   tries_anew : IsLocal z l → IsLocalBelow rows l → length l.remembered ≤ z.seats → length l.gathered ≤ z.cells → IsKnown z rows (begun_anew l).local
   tries_anew k b m g =
@@ -219,7 +223,8 @@ module _ (z : Sizes) (rows : ℕ) (l : Local) (sized : IsSized z.seats z.cells r
       let n = none_ranges z in
       let p = none_below rows o in
       let q = none_room z Activity.Retry (λ t. t) in
-      assumption (k, b, m, g, o, zero_key, n, p, q)
+      let unbuilt : 0 ≤ z.cells = omega arith in
+      assumption (k, b, m, g, o, zero_key, unbuilt, n, p, q)
 
   is_balancing : IsLocal z l → IsLocalBelow rows l → length l.remembered ≤ z.seats → length l.gathered ≤ z.cells → IsKnown z rows (to_rebalance l).local
   is_balancing k b m g =
@@ -424,7 +429,8 @@ built_known z rows v choice l a next w c i k (writes_first other y) s = entry_kn
 built_known z rows v choice l a next w c i k (writes_entry j other y) s = entry_known z rows w.sized _ l next y k.ranges k.below k.remembered k.gathered (idle_room z l.rebalance k.rebalance.marks k.rebalance.needed k.rebalance.gathered)
 built_known z rows v choice l a next w c i k (writes_key j) s = assumption k
 built_known z rows v choice l a next w c i k (writes_value j) s = assumption k
-built_known z rows v choice l a next w c i k (writes_version j) s = assumption k
+built_known z rows v choice l a next w c i k (writes_version j o) s = assumption k
+built_known z rows v choice l a next w c i k (writes_no_cell j other o y) s = cell_known z rows w.sized _ l next y k.ranges k.below k.remembered k.gathered (idle_room z l.rebalance k.rebalance.marks k.rebalance.needed k.rebalance.gathered)
 built_known z rows v choice l a next w c i k (writes_after j other y) s = cell_known z rows w.sized _ l next y k.ranges k.below k.remembered k.gathered (idle_room z l.rebalance k.rebalance.marks k.rebalance.needed k.rebalance.gathered)
 built_known z rows v choice l a next w c i k (begins_before other y) s = before_known z rows w.sized _ l next y c k.ranges k.below k.remembered k.gathered (idle_room z l.rebalance k.rebalance.marks k.rebalance.needed k.rebalance.gathered)
 built_known z rows v choice l a next w c i k (guesses_before q e f) s = let o : q < rows = subst (IsOffered rows) e i in assumption (k, o)
@@ -463,12 +469,12 @@ known_by z rows v s choice l a l' (settles y) w c t b i k sought = let u = versi
 known_by z rows v s choice l a l' starts_at_head w c t b i k sought = takes_first z rows l w.sized v c k.ranges k.below k.remembered k.gathered (lists_of z _ l.rebalance k.activity k.rebalance)
 known_by z rows v s choice l a l' (guesses q y n) w c t b i k sought = let o : q < rows = subst (IsOffered rows) y i in assumption (k, o)
 known_by z rows v s choice l a l' takes_head w c t b i k sought = takes_first z rows l w.sized v c k.ranges k.below k.remembered k.gathered (lists_of z _ l.rebalance k.activity k.rebalance)
-known_by z rows v s choice l a l' (guess_serves o) w c t b i k sought = let u = key_of_word-below (v (name.Least l.row)) in assumption (k, u)
+known_by z rows v s choice l a l' (guess_serves o) w c t b i k sought = let u = key_of_word-below (v (name.Least l.row)) in let f : built_in v l.row ≤ z.cells = w.each (name.Least l.row) k.below.row in assumption (k, u, f)
 known_by z rows v s choice l a l' (stops y) w c t b i k sought = is_leaving z rows l w.sized _ tt k.ranges k.below k.remembered k.gathered (lists_of z _ l.rebalance k.activity k.rebalance)
 known_by z rows v s choice l a l' (puts_in_last y n) w c t b i k sought = puts_last z rows l w.sized k
 known_by z rows v s choice l a l' (reads_last y n) w c t b i k sought = comes_last z rows l w.sized k
 known_by z rows v s choice l a l' (reaches_next q n) w c t b i k sought = let o = linked_in_range rows q (link_of (v (name.Next l.row))) (w.led (name.Next l.row) k.below.row) n in assumption (k, o)
-known_by z rows v s choice l a l' (walks_on o) w c t b i k sought = let u = key_of_word-below (v (name.Least l.candidate)) in assumption (k, u)
+known_by z rows v s choice l a l' (walks_on o) w c t b i k sought = let u = key_of_word-below (v (name.Least l.candidate)) in let f : built_in v l.candidate ≤ z.cells = w.each (name.Least l.candidate) k.below.candidate in assumption (k, u, f)
 known_by z rows v s choice l a l' (puts_before y o) w c t b i k sought = let u = key_of_word-below (v (name.Least l.candidate)) in assumption (k, u)
 known_by z rows v s choice l a l' (reads_before y o) w c t b i k sought = comes_before z rows l w.sized (key_of_word (v (name.Least l.candidate))) (key_of_word-below (v (name.Least l.candidate))) k
 known_by z rows v s choice l a l' (sees_pending j x y) w c t b i k sought = let u : x < z.cells = entry z rows v l w j (pend.Pending x) k.below.row k.activity y in assumption (k, u)
@@ -479,13 +485,22 @@ known_by z rows v s choice l a l' loads_to_help w c t b i k sought = let u = w.e
 known_by z rows v s choice l a l' (helps next y n) w c t b i k sought = look_marks z rows l w.sized l.looked l.saw l.helping next n k.ranges k.below k.remembered k.ranges.looked k.gathered (lists_of z _ l.rebalance k.activity k.rebalance) k.ranges.saw k.ranges.helping
 known_by z rows v s choice l a l' (finds_stamped x version next y n) w c t b i k sought = let u = entry z rows v l w l.looked (pend.Stamped x version) k.below.row k.ranges.looked y in look_marks z rows l w.sized l.looked x version next n k.ranges k.below k.remembered k.ranges.looked k.gathered (lists_of z _ l.rebalance k.activity k.rebalance) u.0 u.1
 known_by z rows v s choice l a l' (finds_other next y n) w c t b i k sought = next_look z rows l w.sized (l.looked + 1) next n k.ranges k.below (omega (arith, k.remembered)) (omega (arith, k.remembered, k.ranges.looked)) k.gathered (lists_of z _ l.rebalance k.activity k.rebalance)
+known_by z rows v s choice l a l' (first_leads x y) w c t b i k sought =
+    let u : x < z.cells = linked_below (v (link_name l.row l.link)) x z.cells y (link_below z rows v w l.row l.link k.ranges.link k.below.row) in
+    let o = min-le_right (l.walked + 1) z.cells in
+    let marks = unmarked_in_range (IsMark z) x l.remembered k.ranges.marks in
+    let few : length (unmarked x l.remembered) ≤ z.seats = omega (arith, unmarked_few x l.remembered, k.remembered) in
+    assumption (k, u, o, marks, few)
 known_by z rows v s choice l a l' (list_leads x y) w c t b i k sought =
     let u : x < z.cells = linked_below (v (link_name l.row l.link)) x z.cells y (link_below z rows v w l.row l.link k.ranges.link k.below.row) in
     let o = min-le_right (l.walked + 1) z.cells in
     let marks = unmarked_in_range (IsMark z) x l.remembered k.ranges.marks in
     let few : length (unmarked x l.remembered) ≤ z.seats = omega (arith, unmarked_few x l.remembered, k.remembered) in
     assumption (k, u, o, marks, few)
+known_by z rows v s choice l a l' (first_ends next y n) w c t b i k sought = next_cell z rows l w.sized next n k.ranges k.below k.remembered k.gathered (lists_of z _ l.rebalance k.activity k.rebalance)
 known_by z rows v s choice l a l' (list_ends next y n) w c t b i k sought = next_cell z rows l w.sized next n k.ranges k.below k.remembered k.gathered (lists_of z _ l.rebalance k.activity k.rebalance)
+known_by z rows v s choice l a l' (begins_behind guess inside y) w c t b i k sought = let o : guess < z.cells = omega (arith, inside, k.ranges.built) in assumption (k, o)
+known_by z rows v s choice l a l' (begins_at_first guess y) w c t b i k sought = assumption k
 known_by z rows v s choice l a l' (key_below y) w c t b i k sought = assumption k
 known_by z rows v s choice l a l' (key_within y o) w c t b i k sought = let u = key_of_word-below (v (name.Key l.row l.place)) in assumption (k, u)
 known_by z rows v s choice l a l' (key_above next y n) w c t b i k sought = next_cell z rows l w.sized next n k.ranges k.below k.remembered k.gathered (lists_of z _ l.rebalance k.activity k.rebalance)
@@ -510,11 +525,18 @@ known_by z rows v s choice l a l' (is_stamped version y) w c t b i k sought = le
 known_by z rows v s choice l a l' (stamps_full y) w c t b i k sought = is_balancing z rows l w.sized k.ranges k.below k.remembered k.gathered
 known_by z rows v s choice l a l' (tidies own e) w c t b i k sought = is_tidying z rows l w.sized k.ranges k.below k.remembered k.gathered
 known_by z rows v s choice l a l' stores_version w c t b i k sought = let o : 0 ≤ z.cells = omega arith in assumption (k, o)
+known_by z rows v s choice l a l' (first_reaches x y) w c t b i k sought =
+    let u : x < z.cells = linked_below (v (link_name l.row l.link)) x z.cells y (link_below z rows v w l.row l.link k.ranges.link k.below.row) in
+    let o = min-le_right (l.walked + 1) z.cells in
+    assumption (k, u, o)
 known_by z rows v s choice l a l' (reaches_cell x y) w c t b i k sought =
     let u : x < z.cells = linked_below (v (link_name l.row l.link)) x z.cells y (link_below z rows v w l.row l.link k.ranges.link k.below.row) in
     let o = min-le_right (l.walked + 1) z.cells in
     assumption (k, u, o)
+known_by z rows v s choice l a l' (first_sees_none y) w c t b i k sought = assumption k
 known_by z rows v s choice l a l' (sees_none y) w c t b i k sought = assumption k
+known_by z rows v s choice l a l' (inserts_behind guess inside y) w c t b i k sought = let o : guess < z.cells = omega (arith, inside, k.ranges.built) in assumption (k, o)
+known_by z rows v s choice l a l' (inserts_at_first guess y) w c t b i k sought = assumption k
 known_by z rows v s choice l a l' (key_before y) w c t b i k sought = assumption k
 known_by z rows v s choice l a l' (version_before y) w c t b i k sought = assumption k
 known_by z rows v s choice l a l' (loses y) w c t b i k sought = let o = min-le_right (l.lost + 1) z.cells in let p : 0 ≤ z.cells = omega arith in assumption (k, o, p)

@@ -12,7 +12,7 @@ use Rattle.kw_words.specs.declared.state.State.TheVariants as state
 use Rattle.kw_words.specs.Layout.{IsWithin}
 use Rattle.kw_words.specs.Count.{count_of}
 use Rattle.kw_words.specs.Link.{link_of, link_word}
-use Rattle.kw_words.specs.Plain.{key_of_word}
+use Rattle.kw_words.specs.Plain.{key_of_word, built_of_word}
 use Rattle.kw_words.specs.State.{state_word}
 use Rattle.kw_words.proofs.LinkWords.{link_of-link_word}
 use Rattle.kw_rows.specs.Events.{IsIn}
@@ -40,7 +40,7 @@ use Rattle.kw_world.specs.WriteTransitions.{unmarked_link}
 use Rattle.kw_core.specs.Ledger as ledger
 use Rattle.kw_core.specs.Ledger.{fate_dead, fate_free, fate_live}
 use Rattle.kw_core.specs.Run.{Run}
-use Rattle.kw_core.specs.Words.{Words, least_in}
+use Rattle.kw_core.specs.Words.{Words, least_in, built_in}
 use Rattle.kw_core.proofs.Building.{IsBuilding}
 use Rattle.kw_core.proofs.Fates.{fate_of_freed, fate_of_full, fate_of_given, fate_of_new, fate_of_taken, fate_stays, none_freed, none_replaced, none_taken}
 use Rattle.kw_core.proofs.Frame.{unwritten}
@@ -101,6 +101,7 @@ pub record StaysLinked (v v' : Words) (g g' : Ledger) (q : ℕ) : Type 0 where
   pub upper : (g'.fates q).upper ≡ (g.fates q).upper
   pub clock : (g'.fates q).clock ≡ (g.fates q).clock
   pub least : least_in v' q ≡ least_in v q
+  pub built : built_in v' q ≡ built_in v q
   pub frozen : (rows_in v).frozen q ≡ true → (rows_in v').frozen q ≡ true
 
 -- a row that some seat may name is not freed
@@ -264,10 +265,16 @@ module _ {z : Sizes} {r r' : Run} {s : ℕ} {choice : Choice} {l l' : Local} whe
       which (inr d) = inl (ap (λ (g : ledger.Ledger). g.rows.fates q) (none_replaced h d))
   linked_fate a h i q k = inl (fate_stays a h q (λ c. c))
 
-  -- its least key stays
+  -- the word of its least key stays
+  least_stays_there : (a : Activity) → Happens z r r' s choice l l' a → Shape z r → (q : ℕ) → WasLinked r.ledger.rows q → word z r'.world (name.Least q) ≡ word z r.world (name.Least q)
+  least_stays_there (Activity.Rebalance (Rebalance.Write Write.Least)) h i q k = least_word (Activity.Rebalance (Rebalance.Write Write.Least)) h i.sane q (not_hand (Activity.Rebalance (Rebalance.Write Write.Least)) h i tt q k)
+  least_stays_there a h i q k = least_word a h i.sane q (λ c. c)
+
   pub linked_least : (a : Activity) → Happens z r r' s choice l l' a → Shape z r → (q : ℕ) → WasLinked r.ledger.rows q → least_in (word z r'.world) q ≡ least_in (word z r.world) q
-  linked_least (Activity.Rebalance (Rebalance.Write Write.Least)) h i q k = ap key_of_word (least_word (Activity.Rebalance (Rebalance.Write Write.Least)) h i.sane q (not_hand (Activity.Rebalance (Rebalance.Write Write.Least)) h i tt q k))
-  linked_least a h i q k = ap key_of_word (least_word a h i.sane q (λ c. c))
+  linked_least a h i q k = ap key_of_word (least_stays_there a h i q k)
+
+  pub linked_built : (a : Activity) → Happens z r r' s choice l l' a → Shape z r → (q : ℕ) → WasLinked r.ledger.rows q → built_in (word z r'.world) q ≡ built_in (word z r.world) q
+  linked_built a h i q k = ap built_of_word (least_stays_there a h i q k)
 
   -- what becomes of its count: nobody writes it anew
   pub linked_count : (a : Activity) → Happens z r r' s choice l l' a → Shape z r → (q : ℕ) → WasLinked r.ledger.rows q → CountStep (word z r.world) (word z r'.world) q
@@ -286,6 +293,7 @@ module _ {z : Sizes} {r r' : Run} {s : ℕ} {choice : Choice} {l l' : Local} whe
     upper = fate_part r.ledger.rows r'.ledger.rows s (length r.history.log) q (λ (f : Fate). f.upper) refl refl fate;
     clock = fate_part r.ledger.rows r'.ledger.rows s (length r.history.log) q (λ (f : Fate). f.clock) refl refl fate;
     least = linked_least a h i q k;
+    built = linked_built a h i q k;
     frozen = frozen_on (word z r.world) (word z r'.world) q (linked_count a h i q k);
   }
     where

@@ -1,6 +1,7 @@
 -- The cells of a new row have keys that the row may hold: so it is as it is linked.
 --
--- A new row has no entry that names a cell, and its links lead to cells that were written.
+-- A new row has no entry that names a cell, and its links lead from cells that were written to
+-- such.
 use Rattle.std.proofs.Common.{ℕ, ◌≡◌, ◌+◌, ◌-◌, ◌<◌, ◌≤◌, ◌&&◌, All, Bool, true, false, List, Option, Some, None, nat_lt, nat_le, arith, refl, sym, ◌∙◌, ap, subst, count_by, get_or, if◌then◌else◌, length, slice_get, slice_index}
 use Rattle.std.proofs.lemmas.List.Sums.{count_by-le-length}
 use Rattle.std.proofs.lemmas.Option.{same_Some, slice_get-get_or, slice_get_within}
@@ -9,9 +10,9 @@ use Rattle.kw_words.specs.declared.pend.Pend.TheVariants as pend
 use Rattle.kw_words.specs.declared.sizes.TheConstants.{KEY_END, MOST_CELLS}
 use Rattle.kw_words.specs.Link.{link_word}
 use Rattle.kw_words.specs.Pend.{pend_of}
-use Rattle.kw_words.specs.Plain.{IsCell, cell_link_word, cell_of_link_word, key_of_word, key_word}
+use Rattle.kw_words.specs.Plain.{IsCell, built_of_word, cell_link_word, cell_of_link_word, key_of_word, key_word}
 use Rattle.kw_words.proofs.PendWords.{pend_of-pend_word}
-use Rattle.kw_words.proofs.PlainWords.{cell_of_link_word-cell_link_word, key_of_word-key_word}
+use Rattle.kw_words.proofs.PlainWords.{built_of_word-least_word, cell_of_link_word-cell_link_word, key_of_word-key_word}
 use Rattle.kw_cells.specs.declared.cell.Cell.{Cell}
 use Rattle.kw_cells.specs.Cuts.{end_of}
 use Rattle.kw_cells.proofs.Rising.{any_cell}
@@ -24,28 +25,27 @@ use Rattle.kw_world.specs.declared.activity.rebalance.Rebalance.TheVariants as R
 use Rattle.kw_world.specs.declared.activity.rebalance.replace.Replace.TheVariants as Replace
 use Rattle.kw_world.specs.declared.event.Choice.{Choice}
 use Rattle.kw_world.specs.declared.local.Local.{Local}
-use Rattle.kw_world.specs.ListTransitions.{link_name}
 use Rattle.kw_world.specs.ReplaceTransitions.{replaced_link}
 use Rattle.kw_world.specs.SeekTransitions.{at_infant}
 use Rattle.kw_world.specs.Sizes.{Sizes}
 use Rattle.kw_world.specs.Step.{word}
 use Rattle.kw_world.specs.Transition.{row_linked}
-use Rattle.kw_world.specs.WriteTransitions.{first_listed, has_key, infant_cells, key_in, last_with, listed_after, listed_behind, row_or, unmarked_link}
+use Rattle.kw_world.specs.WriteTransitions.{first_listed, has_key, infant_cells, infant_least, key_in, last_with, listed_after, listed_behind, row_or, unmarked_link}
 use Rattle.kw_core.specs.Ledger.{fate_live, least_of}
 use Rattle.kw_core.specs.Run.{Run}
-use Rattle.kw_core.specs.Words.{Words, least_in, next_in}
+use Rattle.kw_core.specs.Words.{Words, built_in, least_in, next_in}
 use Rattle.kw_core.proofs.Fates.{fate_of_new}
 use Rattle.kw_core.proofs.Happens.{Happens}
 use Rattle.kw_core.proofs.InfantFrames.{row_stays}
 use Rattle.kw_shape.specs.Infants.{Written}
-use Rattle.kw_shape.specs.Keyed.{HoldsCell, IsLinkOf, IsOfCell, Keyed}
+use Rattle.kw_shape.specs.Keyed.{HoldsCell, IsOfCell, Keyed, Reaches, is_there, leads_on}
 use Rattle.kw_shape.specs.RowsIn.{rows_in}
 use Rattle.kw_shape.specs.Shape.{Shape}
 use Rattle.kw_shape.proofs.InfantsFit.{infant_links, part_length, taken_below}
 use Rattle.kw_shape.proofs.InfantsRely.{linked_not_infant, index_of_row}
 use Rattle.kw_shape.proofs.InfantsStay.{written_stays}
 use Rattle.kw_shape.proofs.LinkedRows.{fresh_linked, infants_at, search_at}
-use Rattle.kw_shape.proofs.MayReplace.{has_start, is_plan, kept_below, kept_from, least_of_new, may_replace}
+use Rattle.kw_shape.proofs.MayReplace.{has_start, is_plan, kept_below, kept_from, least_fits, least_of_new, may_replace}
 use Rattle.kw_shape.proofs.Planned.{cells_below, cells_from, cells_have}
 use Rattle.kw_shape.proofs.ReplaceEvent.{whole_next}
 
@@ -78,7 +78,7 @@ link_fits : (o : Option ℕ) (n : ℕ) → ((c : ℕ) → o ≡ Some c → c < n
 link_fits (Some c) n f m = omega (arith, f c refl, m)
 link_fits None n f m = tt
 
-module _ (z : Sizes) (v : Words) (g : Ledger) (k : Local) (q : ℕ) (w : Written z v (Activity.Rebalance (Rebalance.Replace Replace.Start)) k q) (fits : All (λ c. c.key < KEY_END) (infant_cells k)) (few : length (infant_cells k) ≤ z.cells) (most : z.cells ≤ MOST_CELLS) (held : All (λ c. rows.HoldsKey (rows_in v) g q c.key) (infant_cells k)) where
+module _ (z : Sizes) (v : Words) (g : Ledger) (k : Local) (q : ℕ) (w : Written z v (Activity.Rebalance (Rebalance.Replace Replace.Start)) k q) (fits : All (λ c. c.key < KEY_END) (infant_cells k)) (few : length (infant_cells k) ≤ z.cells) (most : z.cells ≤ MOST_CELLS) (least : infant_least k < KEY_END) (held : All (λ c. rows.HoldsKey (rows_in v) g q c.key) (infant_cells k)) where
   -- each cell that was written has its key
   holds_cell : (c : ℕ) → c < length (infant_cells k) → HoldsCell v g q c
   holds_cell c o = subst (rows.HoldsKey (rows_in v) g q) (sym key) (held c any_cell o)
@@ -90,13 +90,21 @@ module _ (z : Sizes) (v : Words) (g : Ledger) (k : Local) (q : ℕ) (w : Written
   leads_back : (o : Option ℕ) (x c : ℕ) → x ≡ cell_link_word o → ((d : ℕ) → o ≡ Some d → d < length (infant_cells k)) → cell_of_link_word x ≡ Some c → c < length (infant_cells k)
   leads_back o x c e f m = f c (sym (ap cell_of_link_word e ∙ cell_of_link_word-cell_link_word o (link_fits o (length (infant_cells k)) f (omega (arith, few, most)))) ∙ m)
 
+  -- and from one of its cells only such are reached
+  holds_from : (c d : ℕ) → c < length (infant_cells k) → Reaches v q c d → HoldsCell v g q d
+  holds_from _ _ o (is_there c) = holds_cell c o
+  holds_from _ _ o (leads_on c d e f m) = holds_from d e (leads_back (listed_after (infant_cells k) c) (v (name.After q c)) d (w.afters c (omega (arith, o, few)) o tt) (λ b n. listed_below (infant_cells k) c b n) f) m
+
   -- so a row that is written whole has keys that it may hold, where its cells have
   pub new_row_keyed : Keyed z v g q
-  new_row_keyed = record { named = λ i c o x. absurd (subst (IsOfCell c) (ap pend_of (w.entries i o tt) ∙ pend_of-pend_word pend.Idle tt) x); linked = linked }
+  new_row_keyed = record {
+    named = λ i c o x. absurd (subst (IsOfCell c) (ap pend_of (w.entries i o tt) ∙ pend_of-pend_word pend.Idle tt) x);
+    first = λ c e d. holds_from c d (leads_back (first_listed (infant_cells k)) (v (name.First q)) c (w.first tt) (λ b f. last_below (infant_cells k) 0 b f) e);
+    built = λ c o d. holds_from c d (omega (arith, o, count));
+  }
     where
-      linked : (at : Option ℕ) (c : ℕ) → IsLinkOf z at → cell_of_link_word (v (link_name q at)) ≡ Some c → HoldsCell v g q c
-      linked None c o e = holds_cell c (leads_back (first_listed (infant_cells k)) (v (name.First q)) c (w.first tt) (λ d f. last_below (infant_cells k) 0 d f) e)
-      linked (Some j) c o e = holds_cell c (leads_back (listed_after (infant_cells k) j) (v (name.After q j)) c (w.afters j o tt) (λ d f. listed_below (infant_cells k) j d f) e)
+      count : built_in v q ≡ length (infant_cells k)
+      count = ap built_of_word (w.least tt) ∙ built_of_word-least_word (infant_least k) (length (infant_cells k)) least
 
 module _ {z : Sizes} {r r' : Run} {s : ℕ} {choice : Choice} {l l' : Local} (h : Happens z r r' s choice l l' (Activity.Rebalance (Rebalance.Replace Replace.Exchange))) (i : Shape z r) where
   -- the range of a new row ends above its keys
@@ -114,7 +122,7 @@ module _ {z : Sizes} {r r' : Run} {s : ℕ} {choice : Choice} {l l' : Local} (h 
   -- where the seat finds the unmarked link to its full row, the new rows may hold their keys from
   -- then on
   pub new_rows_keyed : word z r.world (replaced_link l.rebalance.before) ≡ link_word (unmarked_link (Some l.row)) → (q : ℕ) → IsIn l.rebalance.taken q → Keyed z (word z r'.world) r'.ledger.rows q
-  new_rows_keyed won q m = new_row_keyed z (word z r'.world) r'.ledger.rows (at_infant k l) q written fits few i.sane.sized.few_cells held
+  new_rows_keyed won q m = new_row_keyed z (word z r'.world) r'.ledger.rows (at_infant k l) q written fits few i.sane.sized.few_cells (least_fits h i k q e) held
     where
       k : ℕ
       k = (index_of_row l.rebalance.taken q m).0

@@ -10,7 +10,8 @@ use Rattle.kw_words.specs.declared.sizes.TheConstants.{KEY_END, VERSION_END}
 use Rattle.kw_words.specs.Count.{count_of, count_word}
 use Rattle.kw_words.specs.Layout.{IsSized}
 use Rattle.kw_words.specs.Link.{link_of, link_word}
-use Rattle.kw_words.specs.Plain.{IsValue, cell_link_word, key_word, value_word, version_word}
+use Rattle.kw_words.specs.Plain.{IsValue, built_of_word, cell_link_word, key_word, least_word, value_word, version_word}
+use Rattle.kw_words.proofs.PlainWords.{built_of_word-least_word}
 use Rattle.kw_words.proofs.CountWords.{count_of-count_word}
 use Rattle.kw_words.proofs.LinkWords.{link_of-link_word}
 use Rattle.kw_cells.specs.Cells.{value_in}
@@ -84,12 +85,15 @@ module _ (z : Sizes) (rows : ℕ) (l : Local) (sized : IsSized z.seats z.cells r
   pub count_known : IsGiven (count_of (count_word (infant_count l)))
   count_known = subst IsGiven (sym (count_of-count_word (infant_count l) (omega (arith, cells_few, sized.few_cells)))) (omega (arith, cells_few, sized.few_cells))
 
-  pub least_known : key_word (infant_least l) < KEY_END
-  least_known = which (l.rebalance.at == 0)
+  least_below : infant_least l < KEY_END
+  least_below = which (l.rebalance.at == 0)
     where
       which : (c : Bool) → (if c then l.lower else first_cell_key (infant_cells l)) < KEY_END
       which true = k.lower
       which false = first_fits (infant_cells l) cells_known
+
+  pub least_known : built_of_word (least_word (infant_least l) (length (infant_cells l))) ≤ z.cells
+  least_known = omega (arith, built_of_word-least_word (infant_least l) (length (infant_cells l)) least_below, cells_few)
 
   pub first_known : cell_link_word (first_listed (infant_cells l)) ≤ z.cells
   first_known = with_fits z.cells (infant_cells l) _ sized.some_cells cells_few

@@ -14,7 +14,7 @@ use Rattle.kw_world.specs.ScanTransitions.{answer_or_stopped}
 use Rattle.kw_core.specs.Stages.{IsBalancing, IsPublished, IsDone, IsPutClear, IsUnderway}
 use Rattle.kw_core.specs.Words.{Words}
 use Rattle.kw_shape.specs.Shape.{IsPairs, IsKind}
-use Rattle.kw_core.proofs.Arrows.{IsNotOwn, NextLook, looks, lists, NextLeftOver, goes_to_left_over, answers, ends_scan, scans_on, Arrow, begins, list_ends, key_above, left_over_gone_by, gathers_left_over, sees_stamped, sees_neither, is_gone_by, helps, finds_stamped, finds_other, clears_scan, loads_clock, stamps, is_stamped, stamps_full, stores_version, reaches_cell, sees_none, key_before, key_same, key_after, version_before, version_after, stores_after, inserts, loses, clears, leaves, builds, clock_serves, epoch_serves, finds_infant, finds_normal, finds_leader, normalises, engages, is_engaged, marks_link, marks_led, decides, freezes_count, sees_idle, sees_unstamped, remembers, remembers_last, sees_frozen, sees_frozen_last, freezes_entry, freezes_last, looks_again, sees_quiet, sees_quiet_last, helps_scan, sees_drawn, sees_drawn_last, draws_for, settles_scan, settles_last, finds_drawn, finds_drawn_last, finds_no_scan, finds_no_scan_last, take_leads, takes_left, takes_no_more, takes_key, takes_version, keeps_taken, takes_left_key, keeps_left, keeps_no_more, tidies, clock_is_spent, ends_at_clock, epoch_is_spent, ends_at_epoch, finds_other_state, ends_at_state, decides_not, ends_undecided}
+use Rattle.kw_core.proofs.Arrows.{IsNotOwn, NextLook, looks, lists, NextLeftOver, goes_to_left_over, answers, ends_scan, scans_on, Arrow, begins, list_ends, key_above, left_over_gone_by, gathers_left_over, sees_stamped, sees_neither, is_gone_by, helps, finds_stamped, finds_other, clears_scan, loads_clock, stamps, is_stamped, stamps_full, stores_version, reaches_cell, sees_none, key_before, key_same, key_after, version_before, version_after, stores_after, inserts, loses, clears, leaves, builds, clock_serves, epoch_serves, finds_infant, finds_normal, finds_leader, normalises, engages, is_engaged, marks_link, marks_led, decides, freezes_count, sees_idle, sees_unstamped, remembers, remembers_last, sees_frozen, sees_frozen_last, freezes_entry, freezes_last, looks_again, sees_quiet, sees_quiet_last, helps_scan, sees_drawn, sees_drawn_last, draws_for, settles_scan, settles_last, finds_drawn, finds_drawn_last, finds_no_scan, finds_no_scan_last, take_leads, takes_left, takes_no_more, takes_key, takes_version, keeps_taken, takes_left_key, keeps_left, keeps_no_more, tidies, clock_is_spent, ends_at_clock, epoch_is_spent, ends_at_epoch, finds_other_state, ends_at_state, decides_not, ends_undecided, first_ends, first_reaches, first_sees_none, inserts_at_first, inserts_behind}
 use Rattle.kw_core.proofs.BuiltNext.{built_goes}
 use Rattle.kw_shape.proofs.AfterBuilding.{built_unpublished}
 
@@ -30,6 +30,7 @@ pub arrow_call : (z : Sizes) (v : Words) (s : ℕ) (choice : Choice) (l : Local)
 arrow_call z v s choice l a k (builds b next y t) u = let g = built_goes z v choice l b next t in (g.call, g.number)
 arrow_call z v s choice l a k (begins call e b) u = absurd u
 arrow_call z v s choice l a k (leaves answer) u = absurd u
+arrow_call z v s choice l a k (first_ends next e n) u = let x = cell_call _ _ n in (x.0, x.1)
 arrow_call z v s choice l a k (list_ends next e n) u = let x = cell_call _ _ n in (x.0, x.1)
 arrow_call z v s choice l a k (key_above next e n) u = cell_call _ _ n
 arrow_call z v s choice l a k (left_over_gone_by next e n) u = cell_call _ _ n
@@ -39,6 +40,7 @@ arrow_call z v s choice l a k _ u = (refl, refl)
 -- a seat begins at most one call at an event
 pub arrow_number : (z : Sizes) (v : Words) (s : ℕ) (choice : Choice) (l : Local) (a : Activity) (k : Local) → Arrow z v s choice l a k → l.number ≤ k.number
 arrow_number z v s choice l a k (builds b next y t) = omega (arith, (built_goes z v choice l b next t).number)
+arrow_number z v s choice l a k (first_ends next e n) = let x = cell_call _ _ n in omega (arith, x.1)
 arrow_number z v s choice l a k (list_ends next e n) = let x = cell_call _ _ n in omega (arith, x.1)
 arrow_number z v s choice l a k (key_above next e n) = let x = cell_call _ _ n in omega (arith, x.1)
 arrow_number z v s choice l a k (left_over_gone_by next e n) = let x = cell_call _ _ n in omega (arith, x.1)
@@ -53,8 +55,12 @@ arrow_published z v s choice l a k (stamps e) f p = inl tt
 arrow_published z v s choice l a k (is_stamped version e) f p = inl tt
 arrow_published z v s choice l a k (stamps_full n) f p = absurd (f n refl)
 arrow_published z v s choice l a k stores_version f p = inl tt
+arrow_published z v s choice l a k (first_reaches c e) f p = inl tt
 arrow_published z v s choice l a k (reaches_cell c e) f p = inl tt
+arrow_published z v s choice l a k (first_sees_none e) f p = inl tt
 arrow_published z v s choice l a k (sees_none e) f p = inl tt
+arrow_published z v s choice l a k (inserts_behind guess inside e) f p = inl tt
+arrow_published z v s choice l a k (inserts_at_first guess e) f p = inl tt
 arrow_published z v s choice l a k (key_before e) f p = inl tt
 arrow_published z v s choice l a k (key_same e) f p = inl tt
 arrow_published z v s choice l a k (key_after e) f p = inl tt
@@ -106,6 +112,7 @@ arrow_done z v s choice l a k (ends_at_epoch e) n d = inr e
 arrow_done z v s choice l a k (ends_at_state e) n d = inr e
 arrow_done z v s choice l a k (ends_undecided count e) n d = inr e
 arrow_done z v s choice l a k (clears_scan answer) n d = absurd (cleared_not_done answer choice n.1 d)
+arrow_done z v s choice l a k (first_ends next e x) n d = absurd (next_cell_done _ _ x d)
 arrow_done z v s choice l a k (list_ends next e x) n d = absurd (next_cell_done _ _ x d)
 arrow_done z v s choice l a k (key_above next e x) n d = absurd (next_cell_done _ _ x d)
 arrow_done z v s choice l a k (left_over_gone_by next e x) n d = absurd (next_cell_done _ _ x d)
@@ -245,6 +252,7 @@ arrow_tidied z v s choice l a k (ends_undecided count o) f e = inr tt
 arrow_tidied z v s choice l a k clears f e = inr tt
 arrow_tidied z v s choice l a k (tidies rows o) f e = inl tt
 arrow_tidied z v s choice l a k (leaves answer) f e = let y : false ≡ true = e in cc
+arrow_tidied z v s choice l a k (first_ends next o n) f e = nobody _ (f (sym (cell_tidies _ _ n) ∙ e))
 arrow_tidied z v s choice l a k (list_ends next o n) f e = nobody _ (f (sym (cell_tidies _ _ n) ∙ e))
 arrow_tidied z v s choice l a k (key_above next o n) f e = nobody _ (f (sym (cell_tidies _ _ n) ∙ e))
 arrow_tidied z v s choice l a k (left_over_gone_by next o n) f e = nobody _ (f (sym (cell_tidies _ _ n) ∙ e))
@@ -256,6 +264,7 @@ pub arrow_from : (z : Sizes) (v : Words) (s : ℕ) (choice : Choice) (l : Local)
 arrow_from z v s choice l a k (builds b next y t) e = let g = built_goes z v choice l b next t in inr (sym g.tidies ∙ e)
 arrow_from z v s choice l a k (tidies rows o) e = inl tt
 arrow_from z v s choice l a k (leaves answer) e = let y : false ≡ true = e in cc
+arrow_from z v s choice l a k (first_ends next o n) e = inr (sym (cell_tidies _ _ n) ∙ e)
 arrow_from z v s choice l a k (list_ends next o n) e = inr (sym (cell_tidies _ _ n) ∙ e)
 arrow_from z v s choice l a k (key_above next o n) e = inr (sym (cell_tidies _ _ n) ∙ e)
 arrow_from z v s choice l a k (left_over_gone_by next o n) e = inr (sym (cell_tidies _ _ n) ∙ e)

@@ -17,7 +17,7 @@ use Rattle.kw_world.specs.Transition.{Outcome, leave}
 use Rattle.kw_core.specs.Run.{Run}
 use Rattle.kw_core.specs.Stages.{IsBalancing, IsDone, IsPutClear}
 use Rattle.kw_core.specs.Words.{Words}
-use Rattle.kw_core.proofs.Arrows.{Arrow, below, begins, builds, enters_again, gathers_left_over, key_above, leaves, list_ends, left_over_gone_by}
+use Rattle.kw_core.proofs.Arrows.{Arrow, below, begins, builds, enters_again, gathers_left_over, key_above, leaves, list_ends, left_over_gone_by, first_ends}
 use Rattle.kw_core.proofs.Building.{IsBuilding}
 use Rattle.kw_core.proofs.BuiltNext.{built_goes}
 use Rattle.kw_core.proofs.Happens.{Happens}
@@ -30,6 +30,7 @@ balancing_epoch z v s choice l a k (builds b next y t) x = (built_goes z v choic
 balancing_epoch z v s choice l a k (begins call e b) x = absurd x
 balancing_epoch z v s choice l a k (leaves answer) x = absurd x
 balancing_epoch z v s choice l a k enters_again x = absurd x
+balancing_epoch z v s choice l a k (first_ends next e n) x = absurd x
 balancing_epoch z v s choice l a k (list_ends next e n) x = absurd x
 balancing_epoch z v s choice l a k (key_above next e n) x = absurd x
 balancing_epoch z v s choice l a k (left_over_gone_by next e n) x = absurd x

@@ -13,8 +13,8 @@ use Rattle.kw_cells.specs.Cuts.{starts_of}
 use Rattle.kw_cells.specs.Kept.{kept_of}
 use Rattle.kw_core.specs.Run.{Run}
 use Rattle.kw_core.specs.Words.{Words}
-use Rattle.kw_core.proofs.Arrows.{Arrow, NextLook, NextLeftOver, answers, builds, ends_scan, finds_other, finds_stamped, gathers_left_over, helps, is_gone_by, keeps_no_more, key_above, list_ends, lists, looks, sees_neither, sees_stamped, left_over_gone_by, goes_to_left_over, scans_on, takes_no_more}
-use Rattle.kw_core.proofs.Building.{Building, first_is_retired, sought_is_retired, pass_is_old, pass_is_young, frees_row, before_is_above, before_serves, begins_before, draws_number, first_is_free, first_is_taken, gives_last_back, gives_one_back, guess_before_fails, guesses_before, is_marked_before, is_replaced, leads_nowhere, leads_on_marked, leads_to_full, leads_to_other, loses_row, makes_last_normal, makes_normal, replaces_row, retires_row, sought_is_free, sought_is_taken, takes_head_before, takes_row, walks_before, walks_past, writes_after, writes_count, writes_entry, writes_first, writes_key, writes_least, writes_link, writes_value, writes_version, retires_and_leaves}
+use Rattle.kw_core.proofs.Arrows.{Arrow, NextLook, NextLeftOver, answers, builds, ends_scan, finds_other, finds_stamped, gathers_left_over, helps, is_gone_by, keeps_no_more, key_above, list_ends, lists, looks, sees_neither, sees_stamped, left_over_gone_by, goes_to_left_over, scans_on, takes_no_more, first_ends}
+use Rattle.kw_core.proofs.Building.{Building, first_is_retired, sought_is_retired, pass_is_old, pass_is_young, frees_row, before_is_above, before_serves, begins_before, draws_number, first_is_free, first_is_taken, gives_last_back, gives_one_back, guess_before_fails, guesses_before, is_marked_before, is_replaced, leads_nowhere, leads_on_marked, leads_to_full, leads_to_other, loses_row, makes_last_normal, makes_normal, replaces_row, retires_row, sought_is_free, sought_is_taken, takes_head_before, takes_row, walks_before, walks_past, writes_no_cell, writes_after, writes_count, writes_entry, writes_first, writes_key, writes_least, writes_link, writes_value, writes_version, retires_and_leaves}
 use Rattle.kw_core.proofs.Happens.{Happens}
 use Rattle.kw_core.proofs.NextBuilt.{GivenBack, is_refused_rows, moves_left, tries_again, NextBack, gives_back, has_none, NextSeek, asks, has_asked, NextPass, looks_on, has_looked, NextTaken, has_enough, wants_more, NextNewCell, empties, fills, has_cells, NextNewEntry, has_entries, writes_idle, NextNewRow, has_written, writes_row, NextBefore, is_behind, is_first, was_done, was_served}
 use Rattle.kw_shape.specs.Infants.{HasAll, HasNone, nursing_of}
@@ -114,7 +114,8 @@ module _ (z : Sizes) where
   plans_built v choice l a k (writes_entry i next y) o p = entry_on (i + 1) l k y (p.few tt) (has_plan z a l tt p)
   plans_built v choice l a k (writes_key j) o p = record { kept = p.kept; starts = p.starts; few = p.few }
   plans_built v choice l a k (writes_value j) o p = record { kept = p.kept; starts = p.starts; few = p.few }
-  plans_built v choice l a k (writes_version j) o p = record { kept = p.kept; starts = p.starts; few = p.few }
+  plans_built v choice l a k (writes_version j u) o p = record { kept = p.kept; starts = p.starts; few = p.few }
+  plans_built v choice l a k (writes_no_cell j next u y) o p = cell_on (j + 1) l k y (p.few tt) (has_plan z a l tt p)
   plans_built v choice l a k (writes_after j next y) o p = cell_on (j + 1) l k y (p.few tt) (has_plan z a l tt p)
   plans_built v choice l a k (begins_before next y) o p = first_on _ l k y (p.few tt) (has_plan z a l tt p)
   plans_built v choice l a k (guesses_before q f e) o p = record { kept = p.kept; starts = p.starts; few = p.few }
@@ -148,6 +149,7 @@ plans_by z v s choice l a l' (is_gone_by next y n) o p = look_unplanned z _ next
 plans_by z v s choice l a l' (helps next y n) o p = look_unplanned z _ next _ n
 plans_by z v s choice l a l' (finds_stamped c version next y n) o p = look_unplanned z _ next _ n
 plans_by z v s choice l a l' (finds_other next y n) o p = look_unplanned z _ next _ n
+plans_by z v s choice l a l' (first_ends next e n) o p = left_over_unplanned z _ next n
 plans_by z v s choice l a l' (list_ends next e n) o p = left_over_unplanned z _ next n
 plans_by z v s choice l a l' (key_above next y n) o p = left_over_unplanned z _ next n
 plans_by z v s choice l a l' (left_over_gone_by next y n) o p = left_over_unplanned z _ next n

@@ -7,7 +7,7 @@ use Rattle.kw_world.specs.declared.activity.walk.Walk.TheVariants as Walk
 use Rattle.kw_world.specs.declared.local.Local.{Local}
 use Rattle.kw_world.specs.Calls.{first_key, is_scan}
 use Rattle.kw_core.specs.Stages.{IsVisiting, IsPastStart}
-use Rattle.kw_core.specs.Words.{Words, least_in}
+use Rattle.kw_core.specs.Words.{Words, least_in, built_in}
 use Rattle.kw_shape.specs.Shape.{IsAtItsRow, IsOnWalk, Walks}
 
 pub record RelyRows (v v' : Words) (g g' : Ledger) (t : ℕ) : Type 0 where
@@ -16,6 +16,7 @@ pub record RelyRows (v v' : Words) (g g' : Ledger) (t : ℕ) : Type 0 where
   pub born : (q : ℕ) → IsFresh g t q → (g'.fates q).born ≡ (g.fates q).born
   pub upper : (q : ℕ) → IsFresh g t q → (g'.fates q).upper ≡ (g.fates q).upper
   pub least : (q : ℕ) → IsFresh g t q → least_in v' q ≡ least_in v q
+  pub built : (q : ℕ) → IsFresh g t q → built_in v' q ≡ built_in v q
 
 -- a seat past the start of its walk may name its row
 pub fresh_past : (v : Words) (g : Ledger) (t : ℕ) (a : Activity) (l : Local) → Walks v g t a l → IsPastStart a → IsFresh g t l.row
@@ -31,8 +32,8 @@ is_visiting _ = inl tt
 
 -- a seat that is in no visit is nowhere along the rows
 pub walks_outside : (v : Words) (g : Ledger) (t : ℕ) (a : Activity) (l : Local) → (IsVisiting a → ⊥) → Walks v g t a l
-walks_outside v g t Activity.Idle l n = record { on = tt; lower = λ x. absurd x; at = λ x. absurd x; begins = λ x. absurd x; wants = λ x. absurd x }
-walks_outside v g t (Activity.Enter _) l n = record { on = tt; lower = λ x. absurd x; at = λ x. absurd x; begins = λ x. absurd x; wants = λ x. absurd x }
+walks_outside v g t Activity.Idle l n = record { on = tt; lower = λ x. absurd x; built = λ x. absurd x; at = λ x. absurd x; begins = λ x. absurd x; wants = λ x. absurd x }
+walks_outside v g t (Activity.Enter _) l n = record { on = tt; lower = λ x. absurd x; built = λ x. absurd x; at = λ x. absurd x; begins = λ x. absurd x; wants = λ x. absurd x }
 walks_outside v g t _ l n = absurd (n tt)
 
 module _ (v v' : Words) (g g' : Ledger) (t : ℕ) (y : RelyRows v v' g g' t) where
@@ -58,6 +59,7 @@ module _ (v v' : Words) (g g' : Ledger) (t : ℕ) (y : RelyRows v v' g g' t) whe
   walks_stable a l w = record {
     on = on_stable a l w.on;
     lower = λ x. w.lower x ∙ sym (y.least l.row (fresh_past v g t a l w x));
+    built = λ x. omega (arith, w.built x, y.built l.row (fresh_past v g t a l w x));
     at = λ x. row_stable l (w.at x);
     begins = w.begins;
     wants = λ x. which (y.least l.row (fresh_past v g t a l w x)) (w.wants x);

@@ -14,7 +14,7 @@ use Rattle.kw_words.specs.Link.{IsLink, link_of, link_word}
 use Rattle.kw_words.specs.Plain.{key_of_word}
 use Rattle.kw_words.proofs.CountWords.{count_of-count_word}
 use Rattle.kw_words.proofs.LinkWords.{link_of-link_word, link_word_of}
-use Rattle.kw_words.proofs.PlainWords.{key_of_word-key_word}
+use Rattle.kw_words.proofs.PlainWords.{key_of_word-least_word}
 use Rattle.kw_rows.specs.Events.{Event, IsIn, IsOpenLink, Links, Rises, replaces, rests}
 use Rattle.kw_rows.specs.Group.{Alone, Group}
 use Rattle.kw_rows.specs.Ledger.{Fate, Ledger, IsHeld}
@@ -30,7 +30,7 @@ use Rattle.kw_world.specs.SeekTransitions.{at_infant}
 use Rattle.kw_world.specs.Sizes.{Sizes}
 use Rattle.kw_world.specs.Step.{word}
 use Rattle.kw_world.specs.Transition.{row_linked}
-use Rattle.kw_world.specs.WriteTransitions.{infant_count, infant_least, infant_link, row_or, unmarked_link}
+use Rattle.kw_world.specs.WriteTransitions.{infant_cells, infant_count, infant_least, infant_link, row_or, unmarked_link}
 use Rattle.kw_core.specs.Ledger as ledger
 use Rattle.kw_core.specs.Ledger.{fate_dead, fate_live, least_of}
 use Rattle.kw_core.specs.Run.{Run}
@@ -53,7 +53,7 @@ whole_count : (z : Sizes) (v : Words) (k : Local) (q : ℕ) → IsCount (infant_
 whole_count z v k q i w = ap count_of (w.count tt) ∙ count_of-count_word (infant_count k) i
 
 pub whole_least : (z : Sizes) (v : Words) (k : Local) (q : ℕ) → infant_least k < KEY_END → Written z v (Activity.Rebalance (Rebalance.Replace Replace.Start)) k q → least_in v q ≡ infant_least k
-whole_least z v k q i w = ap key_of_word (w.least tt) ∙ key_of_word-key_word (infant_least k) i
+whole_least z v k q i w = ap key_of_word (w.least tt) ∙ key_of_word-least_word (infant_least k) (length (infant_cells k)) i
 
 -- rows of which each leads to the next one of a list, and the last one there, are so linked
 links_by : (next : ℕ → Option ℕ) (after : Option ℕ) (x : ℕ) (xs : List ℕ) → ((i q : ℕ) → slice_get (x ∷ xs) i ≡ Some q → next q ≡ row_or (slice_get (x ∷ xs) (i + 1)) after) → Links next x xs after

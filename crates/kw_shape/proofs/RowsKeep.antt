@@ -317,6 +317,7 @@ module _ {z : Sizes} {r r' : Run} {s : ℕ} {choice : Choice} {l l' : Local} whe
         born = λ q f. (linked_keeps a h i q (fresh_linked r.ledger.rows t q f)).born;
         upper = λ q f. (linked_keeps a h i q (fresh_linked r.ledger.rows t q f)).upper;
         least = λ q f. (linked_keeps a h i q (fresh_linked r.ledger.rows t q f)).least;
+        built = λ q f. (linked_keeps a h i q (fresh_linked r.ledger.rows t q f)).built;
       }
 
   -- what a seat knows of the row that it rebalances stays known

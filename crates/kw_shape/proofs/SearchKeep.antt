@@ -21,7 +21,7 @@ use Rattle.kw_world.specs.ReplaceTransitions.{replaced_link}
 use Rattle.kw_world.specs.Sizes.{Sizes}
 use Rattle.kw_world.specs.Transition.{row_linked, row_or_first}
 use Rattle.kw_core.specs.Words.{Words, least_in, next_in}
-use Rattle.kw_core.proofs.Building.{Building, first_is_free, first_is_retired, first_is_taken, sought_is_free, sought_is_retired, sought_is_taken, pass_is_old, pass_is_young, frees_row, takes_row, loses_row, gives_one_back, gives_last_back, writes_count, writes_least, writes_link, writes_first, writes_entry, writes_key, writes_value, writes_version, writes_after, begins_before, guesses_before, guess_before_fails, before_serves, before_is_above, takes_head_before, leads_to_full, leads_on_marked, leads_to_other, leads_nowhere, walks_before, walks_past, replaces_row, is_marked_before, is_replaced, makes_normal, makes_last_normal, draws_number, retires_row, marked_link, retires_and_leaves}
+use Rattle.kw_core.proofs.Building.{Building, first_is_free, first_is_retired, first_is_taken, sought_is_free, sought_is_retired, sought_is_taken, pass_is_old, pass_is_young, frees_row, takes_row, loses_row, gives_one_back, gives_last_back, writes_count, writes_least, writes_link, writes_first, writes_entry, writes_key, writes_value, writes_version, writes_no_cell, writes_after, begins_before, guesses_before, guess_before_fails, before_serves, before_is_above, takes_head_before, leads_to_full, leads_on_marked, leads_to_other, leads_nowhere, walks_before, walks_past, replaces_row, is_marked_before, is_replaced, makes_normal, makes_last_normal, draws_number, retires_row, marked_link, retires_and_leaves}
 use Rattle.kw_core.proofs.NextBuilt.{GivenBack, is_refused_rows, moves_left, tries_again, NextBack, gives_back, has_none, NextPass, has_looked, looks_on, NextSeek, asks, has_asked, NextTaken, has_enough, wants_more, NextNewCell, empties, fills, has_cells, NextNewEntry, has_entries, writes_idle, NextNewRow, has_written, writes_row, NextBefore, is_behind, is_first, was_done, was_served}
 use Rattle.kw_shape.specs.RowsIn.{rows_in, state_seen}
 use Rattle.kw_shape.specs.Search.{HasBefore, HasReachedNext, IsLeft, IsMeasured, IsSearching, Search}
@@ -137,7 +137,8 @@ module _ (v : Words) (g : Ledger) (t now : ℕ) (i : Structure (rows_in v) g now
   search_by z choice a k (writes_entry j next y) head x = entry_on v g t z (j + 1) l next y
   search_by z choice a k (writes_key j) head x = elsewhere v g t _ _ (λ y. y) (λ y. y) (λ y. y) (λ y. y)
   search_by z choice a k (writes_value j) head x = elsewhere v g t _ _ (λ y. y) (λ y. y) (λ y. y) (λ y. y)
-  search_by z choice a k (writes_version j) head x = elsewhere v g t _ _ (λ y. y) (λ y. y) (λ y. y) (λ y. y)
+  search_by z choice a k (writes_version j o) head x = elsewhere v g t _ _ (λ y. y) (λ y. y) (λ y. y) (λ y. y)
+  search_by z choice a k (writes_no_cell j next o y) head x = cell_on v g t z (j + 1) l next y
   search_by z choice a k (writes_after j next y) head x = cell_on v g t z (j + 1) l next y
   search_by z choice a k (begins_before next y) head x = begins_on next y
   search_by z choice a k (guesses_before q f e) head x = record { some = λ y. (q, refl); fresh = λ p y d. subst (IsFresh g t) (same_Some q p d) (inl (normal_live (rows_in v) g q i.states (ap state_seen e))); least = λ p y d. absurd y; left = λ p y d. absurd y; saw = λ y. absurd y }

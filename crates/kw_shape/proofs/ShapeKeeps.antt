@@ -94,7 +94,7 @@ use Rattle.kw_shape.proofs.NextCalls.{arrow_tidied}
 use Rattle.kw_shape.proofs.Offered.{offered_own, offered_other}
 use Rattle.kw_world.specs.declared.limits.TheConstants.{TIDY_SHARE}
 use Rattle.kw_shape.proofs.AfterBuilding.{after_kinds, built_kinds, built_pass, built_visits}
-use Rattle.kw_core.proofs.Arrows.{Arrow, begins, enters, enters_scan, is_spent, waits, stores_waiting, draws, settles_empty, settles, starts_at_head, guesses, guess_fails, takes_head, guess_serves, guess_is_above, stops, puts_in_last, reads_last, reaches_next, walks_on, puts_before, reads_before, sees_pending, sees_stamped, sees_neither, is_wanted, is_gone_by, loads_to_help, helps, finds_stamped, finds_other, list_leads, list_ends, key_below, key_within, key_above, loads_version, gathers_listed, left_over_wanted, left_over_gone_by, gathers_left_over, clears_scan, finds_room, takes_cell, stores_key, stores_value, announces, loads_clock, stamps, is_stamped, stores_version, reaches_cell, sees_none, key_before, key_same, key_after, version_before, version_after, stores_after, inserts, loses, clears, leaves, retries, enters_again, clock_is_spent, clock_serves, epoch_is_spent, epoch_serves, finds_infant, finds_normal, finds_leader, finds_other_state, normalises, engages, is_engaged, marks_link, marks_led, decides, decides_not, finds_full, takes_full, announces_full, stamps_full, NextLook, looks, lists, NextLeftOver, goes_to_left_over, answers, ends_scan, scans_on, not_below, freezes_count, sees_idle, sees_unstamped, remembers, remembers_last, sees_frozen, sees_frozen_last, freezes_entry, freezes_last, looks_again, sees_quiet, sees_quiet_last, helps_scan, sees_drawn, sees_drawn_last, draws_for, settles_scan, settles_last, finds_drawn, finds_drawn_last, finds_no_scan, finds_no_scan_last, take_leads, takes_left, takes_no_more, takes_key, takes_version, keeps_taken, takes_left_key, keeps_left, keeps_no_more, builds, ends_at_state, ends_at_clock, ends_at_epoch, ends_undecided, tidies}
+use Rattle.kw_core.proofs.Arrows.{Arrow, begins, enters, enters_scan, is_spent, waits, stores_waiting, draws, settles_empty, settles, starts_at_head, guesses, guess_fails, takes_head, guess_serves, guess_is_above, stops, puts_in_last, reads_last, reaches_next, walks_on, puts_before, reads_before, sees_pending, sees_stamped, sees_neither, is_wanted, is_gone_by, loads_to_help, helps, finds_stamped, finds_other, list_leads, list_ends, key_below, key_within, key_above, loads_version, gathers_listed, left_over_wanted, left_over_gone_by, gathers_left_over, clears_scan, finds_room, takes_cell, stores_key, stores_value, announces, loads_clock, stamps, is_stamped, stores_version, reaches_cell, sees_none, key_before, key_same, key_after, version_before, version_after, stores_after, inserts, loses, clears, leaves, retries, enters_again, clock_is_spent, clock_serves, epoch_is_spent, epoch_serves, finds_infant, finds_normal, finds_leader, finds_other_state, normalises, engages, is_engaged, marks_link, marks_led, decides, decides_not, finds_full, takes_full, announces_full, stamps_full, NextLook, looks, lists, NextLeftOver, goes_to_left_over, answers, ends_scan, scans_on, not_below, freezes_count, sees_idle, sees_unstamped, remembers, remembers_last, sees_frozen, sees_frozen_last, freezes_entry, freezes_last, looks_again, sees_quiet, sees_quiet_last, helps_scan, sees_drawn, sees_drawn_last, draws_for, settles_scan, settles_last, finds_drawn, finds_drawn_last, finds_no_scan, finds_no_scan_last, take_leads, takes_left, takes_no_more, takes_key, takes_version, keeps_taken, takes_left_key, keeps_left, keeps_no_more, builds, ends_at_state, ends_at_clock, ends_at_epoch, ends_undecided, tidies, begins_at_first, begins_behind, first_ends, first_leads, first_reaches, first_sees_none, inserts_at_first, inserts_behind}
 use Rattle.kw_core.proofs.Building.{IsBuilding}
 
 -- The acting seat.
@@ -350,8 +350,12 @@ kinds_by z v s choice l a l' loads_to_help k = record { kind = k.kind; range = �
 kinds_by z v s choice l a l' (helps next y n) k = kinds_look z _ _ next n k.kind (k.range tt)
 kinds_by z v s choice l a l' (finds_stamped c version next y n) k = kinds_look z _ _ next n k.kind (k.range tt)
 kinds_by z v s choice l a l' (finds_other next y n) k = kinds_look z _ _ next n k.kind (k.range tt)
+kinds_by z v s choice l a l' (first_ends next e n) k = kinds_cell z _ next n k.kind (k.range tt)
 kinds_by z v s choice l a l' (list_ends next e n) k = kinds_cell z _ next n k.kind (k.range tt)
+kinds_by z v s choice l a l' (first_leads c y) k = record { kind = k.kind; range = λ x. k.range tt }
 kinds_by z v s choice l a l' (list_leads c y) k = record { kind = k.kind; range = λ x. k.range tt }
+kinds_by z v s choice l a l' (begins_behind guess inside y) k = record { kind = k.kind; range = λ x. k.range tt }
+kinds_by z v s choice l a l' (begins_at_first guess y) k = record { kind = k.kind; range = λ x. k.range tt }
 kinds_by z v s choice l a l' (key_below y) k = record { kind = k.kind; range = λ x. k.range tt }
 kinds_by z v s choice l a l' (key_within y w) k = record { kind = k.kind; range = λ x. k.range tt }
 kinds_by z v s choice l a l' loads_version k = record { kind = k.kind; range = λ x. k.range tt }
@@ -380,8 +384,12 @@ kinds_by z v s choice l a l' (is_stamped version y) k = record { kind = k.kind; 
 kinds_by z v s choice l a l' (stamps_full y) k = record { kind = k.kind; range = λ x. absurd x }
 kinds_by z v s choice l a l' (tidies rows y) k = record { kind = k.kind; range = λ x. absurd x }
 kinds_by z v s choice l a l' stores_version k = record { kind = k.kind; range = λ x. absurd x }
+kinds_by z v s choice l a l' (first_reaches c y) k = record { kind = k.kind; range = λ x. absurd x }
 kinds_by z v s choice l a l' (reaches_cell c y) k = record { kind = k.kind; range = λ x. absurd x }
+kinds_by z v s choice l a l' (first_sees_none y) k = record { kind = k.kind; range = λ x. absurd x }
 kinds_by z v s choice l a l' (sees_none y) k = record { kind = k.kind; range = λ x. absurd x }
+kinds_by z v s choice l a l' (inserts_behind guess inside y) k = record { kind = k.kind; range = λ x. absurd x }
+kinds_by z v s choice l a l' (inserts_at_first guess y) k = record { kind = k.kind; range = λ x. absurd x }
 kinds_by z v s choice l a l' (key_before y) k = record { kind = k.kind; range = λ x. absurd x }
 kinds_by z v s choice l a l' (key_same y) k = record { kind = k.kind; range = λ x. absurd x }
 kinds_by z v s choice l a l' (key_after y) k = record { kind = k.kind; range = λ x. absurd x }
@@ -459,8 +467,8 @@ walks_in_visit z r r' s choice l a l' b h i x n =
 pub walks_own : (z : Sizes) (r r' : Run) (s : ℕ) (choice : Choice) (l : Local) (a : Activity) (l' : Local) → Arrow z (word z r.world) s choice l a l' → Happens z r r' s choice l l' a → Shape z r → Walks (word z r'.world) r'.ledger.rows s l'.activity l'
 walks_own z r r' s choice l a l' (builds b next y t) h i = walks_in_visit z r r' s choice l b l' (builds b next y t) h i (built_visits b y).0 (built_pass b y)
 walks_own z r r' s choice l a l' (begins call e b) h i = walks_outside _ _ s (Activity.Enter Enter.Announce) l' (λ x. x)
-walks_own z r r' s choice l a l' (enters e) h i = record { on = tt; lower = λ q. absurd q; at = λ q. absurd q; begins = λ q. refl; wants = λ q. absurd q }
-walks_own z r r' s choice l a l' (enters_scan e) h i = record { on = tt; lower = λ q. absurd q; at = λ q. absurd q; begins = λ q. absurd q; wants = λ q. absurd q }
+walks_own z r r' s choice l a l' (enters e) h i = record { on = tt; lower = λ q. absurd q; built = λ q. absurd q; at = λ q. absurd q; begins = λ q. refl; wants = λ q. absurd q }
+walks_own z r r' s choice l a l' (enters_scan e) h i = record { on = tt; lower = λ q. absurd q; built = λ q. absurd q; at = λ q. absurd q; begins = λ q. absurd q; wants = λ q. absurd q }
 walks_own z r r' s choice l a l' (leaves answer) h i = walks_outside _ _ s Activity.Idle l' (λ x. x)
 walks_own z r r' s choice l a l' retries h i = walks_outside _ _ s (Activity.Enter Enter.LoadEpoch) l' (λ x. x)
 walks_own z r r' s choice l a l' enters_again h i = walks_outside _ _ s (Activity.Enter Enter.Announce) l' (λ x. x)
@@ -511,7 +519,7 @@ shape_keeps z r r' s choice l a l' h i = record {
   outside = outside_stays a h i;
   walks = each_seat h (λ t k. Walks (word z r'.world) r'.ledger.rows t k.activity k) (walks_own z r r' s choice l a l' h.arrow h i) (walks_other z r r' s choice l a l' h i);
   balances = each_seat h (λ t k. Balances (word z r'.world) r'.ledger.rows t k.activity k) (balances_own z r r' s choice l a l' h.arrow h i) (balances_other z r r' s choice l a l' h i);
-  keys = each_seat h (λ t k. Keys (word z r'.world) r'.ledger.rows k.activity k) (keys_own a h i sane) (λ t k d g. keys_stay a h i t k g);
+  keys = each_seat h (λ t k. Keys (word z r'.world) r'.ledger.rows k.activity k) (keys_own a h i sane) (λ t k d g. keys_stay a h i sane t k g);
   plans = each_seat h (λ t k. Plans z k.activity k) (plans_own z r r' s choice l a l' h.arrow h i) (λ t k d g. i.plans t k g);
   infants = each_seat h (λ t k. Infants z (word z r'.world) r'.ledger.rows t k.activity k) (infants_go a h.arrow h i) (infants_other a h i);
   none_lost = each_seat h (λ t k. HasLostNone r'.ledger.rows t k.activity k) (none_lost_own a l' h.arrow h i) (none_lost_other a h i);

@@ -25,7 +25,7 @@ use Rattle.kw_world.proofs.Opens.{opened-sane}
 use Rattle.kw_world.proofs.Begins.{opened-word}
 use Rattle.kw_shape.specs.Rooms.{adders, drawers}
 use Rattle.kw_world.specs.Step.{word}
-use Rattle.kw_core.specs.Words.{next_in, given_in}
+use Rattle.kw_core.specs.Words.{built_in, next_in, given_in}
 use Rattle.kw_core.specs.Ledger.{fate_at_first, ledger_at_first}
 use Rattle.kw_core.specs.Run.{start}
 use Rattle.kw_core.proofs.Beyond.{beyond}
@@ -50,11 +50,11 @@ use Rattle.kw_shape.proofs.BalancesKeep.{outside}
 use Rattle.kw_shape.proofs.PlansKeep.{unplanned}
 use Rattle.kw_shape.specs.Plans.{Plans}
 use Rattle.kw_shape.specs.Epochs.{numberers}
-use Rattle.kw_shape.specs.Keyed.{IsLinkOf, IsOfCell, Keyed, Keys}
+use Rattle.kw_shape.specs.Keyed.{IsOfCell, Keyed, Keys}
 use Rattle.kw_words.specs.Pend.{pend_of}
-use Rattle.kw_words.specs.Plain.{cell_of_link_word, key_of_word}
+use Rattle.kw_words.specs.Plain.{built_of_word, cell_of_link_word, key_of_word}
+use Rattle.kw_words.proofs.PlainWords.{built_of_word-zero}
 use Rattle.kw_words.proofs.PendWords.{pend_of-Idle}
-use Rattle.kw_world.specs.ListTransitions.{link_name}
 use Rattle.kw_shape.specs.Shape.{Kinds, Shape, Walks}
 use Rattle.kw_shape.proofs.RelyRows.{walks_outside}
 
@@ -213,16 +213,16 @@ module _ (z : Sizes) (o : Opening) (i : IsOpening z o) where
     before = λ m at since o e f. let x : None ≡ Some at = e in absurd (cc);
   }
 
-  -- no entry names a cell, and no link leads to one
+  -- no entry names a cell, no first link leads to one, and no row was built with any
   keyed_starts : (q : ℕ) → Keyed z (word z (opened z o)) (ledger_at_first o).rows q
   keyed_starts q = record {
     named = λ j c p x. absurd (subst (IsOfCell c) (ap pend_of (word-none (name.Pend q j) q (λ w. (w, p)) (omega arith) refl) ∙ pend_of-Idle) x);
-    linked = λ at c p x. let y : None ≡ Some c = sym (ap cell_of_link_word (link-none at p) ∙ no_cell) ∙ x in absurd (cc);
+    first = λ c x. let y : None ≡ Some c = sym (ap cell_of_link_word (word-none (name.First q) q (λ w. w) (omega arith) refl) ∙ no_cell) ∙ x in absurd (cc);
+    built = λ c x. absurd (omega (arith, x, none_built));
   }
     where
-      link-none : (at : Option ℕ) → IsLinkOf z at → word z (opened z o) (link_name q at) ≡ 0
-      link-none (Some c) p = word-none (name.After q c) q (λ w. (w, p)) (omega arith) refl
-      link-none None p = word-none (name.First q) q (λ w. w) (omega arith) refl
+      none_built : built_in (word z (opened z o)) q ≡ 0
+      none_built = ap built_of_word (word-none (name.Least q) q (λ w. w) (omega arith) refl) ∙ built_of_word-zero
 
   pub shape_starts : Shape z (start z o)
   shape_starts = record {
@@ -234,7 +234,7 @@ module _ (z : Sizes) (o : Opening) (i : IsOpening z o) where
     beyond = beyond_starts;
     keyed = λ q k. keyed_starts q;
     epoch = omega (arith, opens name.Epoch tt, no_numberers o.seats, i.epoch);
-    keys = each_rests z o (λ t l. Keys (word z (opened z o)) (ledger_at_first o).rows l.activity l) (λ t. record { own = λ x. absurd x; held = λ x. absurd x; marks = λ x. absurd x; saw = λ x. absurd x; key = λ x. absurd x; gathered = λ x. absurd x });
+    keys = each_rests z o (λ t l. Keys (word z (opened z o)) (ledger_at_first o).rows l.activity l) (λ t. record { own = λ x. absurd x; list = λ c x. absurd x; marks = λ x. absurd x; saw = λ x. absurd x; key = λ x. absurd x; gathered = λ x. absurd x });
     plans = each_rests z o (λ t l. Plans z l.activity l) (λ t. unplanned z Activity.Idle (resting 0) refl);
     infants = each_rests z o (λ t l. Infants z (word z (opened z o)) (ledger_at_first o).rows t l.activity l) (λ t. nowhere z (word z (opened z o)) (ledger_at_first o).rows t Activity.Idle (resting 0) refl);
     none_lost = each_rests z o (λ t l. HasLostNone (ledger_at_first o).rows t l.activity l) (λ t q x. none_infant q x.status);

@@ -45,7 +45,7 @@ use Rattle.kw_core.specs.Run.{Run}
 use Rattle.kw_core.specs.Stages.{IsVisiting}
 use Rattle.kw_core.specs.Words.{Words}
 use Rattle.kw_core.proofs.Arrows.{Arrow}
-use Rattle.kw_core.proofs.Building.{Building, IsBuilding, IsYoung, first_is_free, first_is_retired, first_is_taken, sought_is_free, sought_is_retired, sought_is_taken, pass_is_old, pass_is_young, frees_row, takes_row, loses_row, gives_last_back, writes_first, writes_entry, writes_after, begins_before, takes_head_before, leads_on_marked, leads_nowhere, walks_past, is_marked_before, is_replaced}
+use Rattle.kw_core.proofs.Building.{Building, IsBuilding, IsYoung, first_is_free, first_is_retired, first_is_taken, sought_is_free, sought_is_retired, sought_is_taken, pass_is_old, pass_is_young, frees_row, takes_row, loses_row, gives_last_back, writes_first, writes_entry, writes_no_cell, writes_after, begins_before, takes_head_before, leads_on_marked, leads_nowhere, walks_past, is_marked_before, is_replaced}
 use Rattle.kw_core.proofs.Fates.{ChangesFate, DrawsNumber, fate_of_freed, fate_stays, none_freed, numbers_stay, others_stay}
 use Rattle.kw_core.proofs.Happens.{Happens, not_exchanged}
 use Rattle.kw_core.proofs.InfantFrames.{ChangesState, normal_lost, not_freed, taken_lost}
@@ -440,6 +440,7 @@ module _ {z : Sizes} {r r' : Run} {s : ℕ} {choice : Choice} {l l' : Local} whe
   sought_built a k (gives_last_back next o y) h i = unsought z _ r'.ledger.rows s _ next (given_elsewhere _ l next y)
   sought_built a k (writes_first next y) h i = unsought z _ r'.ledger.rows s _ next (entry_elsewhere z 0 l next y)
   sought_built a k (writes_entry j next y) h i = unsought z _ r'.ledger.rows s _ next (entry_elsewhere z (j + 1) l next y)
+  sought_built a k (writes_no_cell j next o y) h i = unsought z _ r'.ledger.rows s _ next (cell_elsewhere z (j + 1) l next y)
   sought_built a k (writes_after j next y) h i = unsought z _ r'.ledger.rows s _ next (cell_elsewhere z (j + 1) l next y)
   sought_built a k (begins_before next y) h i = unsought z _ r'.ledger.rows s _ next (before_elsewhere _ l next y)
   sought_built a k (takes_head_before next y) h i = unsought z _ r'.ledger.rows s _ next (before_elsewhere _ l next y)

@@ -20,7 +20,7 @@ use Rattle.kw_world.specs.Step.{word}
 use Rattle.kw_world.specs.Transition.{Outcome}
 use Rattle.kw_core.specs.Run.{Run}
 use Rattle.kw_core.specs.Words.{Words}
-use Rattle.kw_core.proofs.Building.{Building, IsBuilding, first_is_free, first_is_taken, sought_is_free, sought_is_taken, first_is_retired, sought_is_retired, pass_is_old, pass_is_young, frees_row, takes_row, loses_row, gives_last_back, writes_first, writes_entry, writes_after, begins_before, takes_head_before, leads_on_marked, leads_nowhere, walks_past, is_marked_before, is_replaced, retires_row, building, retires_and_leaves}
+use Rattle.kw_core.proofs.Building.{Building, IsBuilding, first_is_free, first_is_taken, sought_is_free, sought_is_taken, first_is_retired, sought_is_retired, pass_is_old, pass_is_young, frees_row, takes_row, loses_row, gives_last_back, writes_first, writes_entry, writes_no_cell, writes_after, begins_before, takes_head_before, leads_on_marked, leads_nowhere, walks_past, is_marked_before, is_replaced, retires_row, building, retires_and_leaves}
 use Rattle.kw_core.proofs.Happens.{Happens}
 use Rattle.kw_core.proofs.NextBuilt.{GivenBack, tries_again, is_refused_rows, moves_left, NextBack, gives_back, has_none, NextSeek, asks, has_asked, NextPass, looks_on, has_looked, NextTaken, wants_more, has_enough, NextNewRow, writes_row, has_written, NextNewCell, fills, empties, has_cells, NextNewEntry, writes_idle, has_entries, NextBefore, is_first, is_behind, next_pass, next_seek, next_taken, was_done, was_served}
 use Rattle.kw_shape.proofs.Known.{IsSoughtIn}
@@ -91,6 +91,7 @@ module _ (rows : ℕ) (some : 0 < rows) where
   kept_sought z v choice l a k (gives_last_back next o y) n i = given_sought _ l next y
   kept_sought z v choice l a k (writes_first next y) n i = entry_sought z _ l next y i
   kept_sought z v choice l a k (writes_entry j next y) n i = entry_sought z _ l next y i
+  kept_sought z v choice l a k (writes_no_cell j next o y) n i = cell_sought z _ l next y i
   kept_sought z v choice l a k (writes_after j next y) n i = cell_sought z _ l next y i
   kept_sought z v choice l a k (begins_before next y) n i = before_sought _ l next y i
   kept_sought z v choice l a k (takes_head_before next y) n i = before_sought _ l next y i

@@ -17,7 +17,7 @@ use Rattle.kw_world.specs.Step.{word}
 use Rattle.kw_core.specs.Run.{Run}
 use Rattle.kw_core.specs.Stages.{IsBusy, IsVisiting}
 use Rattle.kw_core.specs.Words.{Words}
-use Rattle.kw_core.proofs.Arrows.{Arrow, begins, enters, enters_scan, sees_stamped, sees_neither, is_gone_by, helps, finds_stamped, finds_other, list_ends, key_above, left_over_gone_by, gathers_left_over, leaves, NextLook, looks, lists, NextLeftOver, goes_to_left_over, answers, ends_scan, scans_on, retries, enters_again, builds}
+use Rattle.kw_core.proofs.Arrows.{Arrow, begins, enters, enters_scan, sees_stamped, sees_neither, is_gone_by, helps, finds_stamped, finds_other, list_ends, key_above, left_over_gone_by, gathers_left_over, leaves, NextLook, looks, lists, NextLeftOver, goes_to_left_over, answers, ends_scan, scans_on, retries, enters_again, builds, first_ends}
 use Rattle.kw_core.proofs.BuiltNext.{built_goes}
 use Rattle.kw_core.proofs.Fates.{number_of_drawn, numbers_stay, other_numbers, others_stay}
 use Rattle.kw_core.proofs.Frame.{WritesPass, pass_kept}
@@ -62,6 +62,7 @@ arrow_visits z v s choice l a k (is_gone_by next e y) p n = let x = look_visits 
 arrow_visits z v s choice l a k (helps next e y) p n = let x = look_visits z _ next y in (x.0, x.1, refl)
 arrow_visits z v s choice l a k (finds_stamped c version next e y) p n = let x = look_visits z _ next y in (x.0, x.1, refl)
 arrow_visits z v s choice l a k (finds_other next e y) p n = let x = look_visits z _ next y in (x.0, x.1, refl)
+arrow_visits z v s choice l a k (first_ends next e y) p n = left_over_visits _ next y
 arrow_visits z v s choice l a k (list_ends next e y) p n = left_over_visits _ next y
 arrow_visits z v s choice l a k (key_above next e y) p n = left_over_visits _ next y
 arrow_visits z v s choice l a k (left_over_gone_by next e y) p n = left_over_visits _ next y

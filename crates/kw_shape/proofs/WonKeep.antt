@@ -30,7 +30,7 @@ use Rattle.kw_core.specs.Run.{Run}
 use Rattle.kw_core.specs.Stages.{IsBalancing, IsVisiting}
 use Rattle.kw_core.specs.Words.{Words, least_in}
 use Rattle.kw_core.proofs.Arrows.{Arrow}
-use Rattle.kw_core.proofs.Building.{Building, first_is_taken, sought_is_taken, pass_is_old, pass_is_young, takes_row, loses_row, gives_last_back, writes_first, writes_entry, writes_after, begins_before, takes_head_before, leads_on_marked, leads_nowhere, walks_past, replaces_row, is_marked_before, is_replaced, makes_normal, makes_last_normal, draws_number, marked_link}
+use Rattle.kw_core.proofs.Building.{Building, first_is_taken, sought_is_taken, pass_is_old, pass_is_young, takes_row, loses_row, gives_last_back, writes_first, writes_entry, writes_no_cell, writes_after, begins_before, takes_head_before, leads_on_marked, leads_nowhere, walks_past, replaces_row, is_marked_before, is_replaced, makes_normal, makes_last_normal, draws_number, marked_link}
 use Rattle.kw_core.proofs.Fates.{fate_of_full, fate_of_new, number_of_drawn}
 use Rattle.kw_core.proofs.Happens.{Happens}
 use Rattle.kw_core.proofs.NextBuilt.{GivenBack, is_refused_rows, moves_left, tries_again, NextBack, gives_back, has_none, NextPass, has_looked, looks_on, NextSeek, asks, has_asked, NextTaken, has_enough, wants_more, NextNewCell, empties, fills, has_cells, NextNewEntry, has_entries, writes_idle, NextNewRow, has_written, writes_row, NextBefore, is_behind, is_first, was_done, was_served}
@@ -149,6 +149,7 @@ module _ (v : Words) (g : Ledger) (t : ℕ) (l : Local) where
       by (gives_last_back next o y) s x = given_moves l.rebalance.afterwards refl next y x (λ f. let p = s.some f in arrives p.0 p.1 (s.fresh p.0 f p.1) (s.least p.0 f p.1) next (subst (λ c. GivenBack l c next) f y))
       by (writes_first next y) s x = absurd ((entry_plain z 0 l next y).0 x)
       by (writes_entry j next y) s x = absurd ((entry_plain z (j + 1) l next y).0 x)
+      by (writes_no_cell j next o y) s x = absurd ((cell_plain z (j + 1) l next y).0 x)
       by (writes_after j next y) s x = absurd ((cell_plain z (j + 1) l next y).0 x)
       by (begins_before next y) s x = absurd ((before_plain _ l next y).0 x)
       by (takes_head_before next y) s x = absurd ((before_plain _ l next y).0 x)
@@ -225,6 +226,7 @@ won_by z v choice l a k (loses_row rows next d y) x = absurd ((seek_plain rows _
 won_by z v choice l a k (gives_last_back next o y) x = absurd (given_unwon l.rebalance.afterwards l next y x)
 won_by z v choice l a k (writes_first next y) x = absurd ((entry_plain z 0 l next y).1 x)
 won_by z v choice l a k (writes_entry j next y) x = absurd ((entry_plain z (j + 1) l next y).1 x)
+won_by z v choice l a k (writes_no_cell j next o y) x = absurd ((cell_plain z (j + 1) l next y).1 x)
 won_by z v choice l a k (writes_after j next y) x = absurd ((cell_plain z (j + 1) l next y).1 x)
 won_by z v choice l a k (begins_before next y) x = absurd ((before_plain _ l next y).1 x)
 won_by z v choice l a k (takes_head_before next y) x = absurd ((before_plain _ l next y).1 x)

@@ -2,16 +2,16 @@
 -- it has written of them stand.
 --
 -- A row is an infant of the seat that took it until it is linked or given back, and nobody else
--- writes a word of it. They are written one after the other, each from its count to the link behind
--- its last cell. Once all are written, every word of each stands, until they are linked. Taken rows
--- are given back from the first on.
+-- writes a word of it. They are written one after the other, each from its count to what stands at
+-- its last place. Once all are written, every word of each stands, until they are linked. Taken
+-- rows are given back from the first on.
 use Rattle.std.specs.Prelude.{ℕ, ◌≡◌, ◌<◌, ◌≤◌, Some, length, slice_get}
 use Rattle.kw_words.specs.declared.layout.Name.TheVariants as name
 use Rattle.kw_words.specs.declared.pend.Pend.TheVariants as pend
 use Rattle.kw_words.specs.Count.{count_word}
 use Rattle.kw_words.specs.Link.{link_word}
 use Rattle.kw_words.specs.Pend.{pend_word}
-use Rattle.kw_words.specs.Plain.{cell_link_word, key_word, value_word, version_word}
+use Rattle.kw_words.specs.Plain.{cell_link_word, key_word, least_word, value_word, version_word}
 use Rattle.kw_cells.specs.Cells.{value_in}
 use Rattle.kw_rows.specs.Ledger.{Ledger, Infant}
 use Rattle.kw_world.specs.declared.activity.Activity.{Activity}
@@ -87,7 +87,7 @@ IsWriting _ = ⊥
 -- What is written of a row, where the seat is about to make the event of an activity. The words
 -- come in the order of the activities: its count, its least key, its link, its first cell, its
 -- entries, and of each cell the key, the value, the version and the link behind it. A place for
--- which the row has no cell gets a version and a link alone.
+-- which the row has no cell gets a version alone.
 
 abbrev pub HasCount : Activity → Type 0
 HasCount (Activity.Rebalance (Rebalance.Write Write.Count)) = ⊥
@@ -155,14 +155,14 @@ HasAfter _ j = Unit {0}
 -- do this
 pub record Written (z : Sizes) (v : Words) (a : Activity) (l : Local) (q : ℕ) : Type 0 where
   pub count : HasCount a → v (name.Count q) ≡ count_word (infant_count l)
-  pub least : HasLeast a → v (name.Least q) ≡ key_word (infant_least l)
+  pub least : HasLeast a → v (name.Least q) ≡ least_word (infant_least l) (length (infant_cells l))
   pub next : HasNext a → v (name.Next q) ≡ link_word (infant_link l)
   pub first : HasFirst a → v (name.First q) ≡ cell_link_word (first_listed (infant_cells l))
   pub entries : (i : ℕ) → i < z.seats → HasEntry a i → v (name.Pend q i) ≡ pend_word pend.Idle
   pub keys : (j : ℕ) → j < z.cells → j < length (infant_cells l) → HasKey a j → v (name.Key q j) ≡ key_word (key_in (slice_get (infant_cells l) j))
   pub values : (j : ℕ) → j < z.cells → j < length (infant_cells l) → HasValue a j → v (name.Value q j) ≡ value_word (value_in (slice_get (infant_cells l) j))
   pub versions : (j : ℕ) → j < z.cells → HasVersion a j → v (name.Version q j) ≡ version_word (version_in (slice_get (infant_cells l) j))
-  pub afters : (j : ℕ) → j < z.cells → HasAfter a j → v (name.After q j) ≡ cell_link_word (listed_after (infant_cells l) j)
+  pub afters : (j : ℕ) → j < z.cells → j < length (infant_cells l) → HasAfter a j → v (name.After q j) ≡ cell_link_word (listed_after (infant_cells l) j)
 
 -- The rows of a seat.
 

@@ -1,6 +1,10 @@
--- Which keys stand in the cells of rows: the cells that an entry names, or to which a link leads,
--- have keys that their row may hold.
-use Rattle.std.specs.Prelude.{ℕ, ◌≡◌, ◌<◌, All, Option, Some, None}
+-- Which keys stand in the cells of rows: the cells that an entry names, and those that are reached
+-- by links, have keys that their row may hold.
+--
+-- Links are followed from a row's first one, or from a cell with which the row was built. A place
+-- that has no cell yet may have a link of an earlier use of the row, which says nothing; it is not
+-- reached before a put has stored the link after its own cell.
+use Rattle.std.specs.Prelude.{ℕ, ◌≡◌, ◌⊎◌, ◌<◌, All, Option, Some, None}
 use Rattle.kw_words.specs.declared.layout.Name.TheVariants as name
 use Rattle.kw_words.specs.declared.pend.Pend.{Pend}
 use Rattle.kw_words.specs.declared.pend.Pend.TheVariants as pend
@@ -15,9 +19,8 @@ use Rattle.kw_world.specs.declared.activity.insert.Insert.TheVariants as Insert
 use Rattle.kw_world.specs.declared.activity.put.Put.TheVariants as Put
 use Rattle.kw_world.specs.declared.activity.rebalance.Rebalance.TheVariants as Rebalance
 use Rattle.kw_world.specs.declared.local.Local.{Local}
-use Rattle.kw_world.specs.ListTransitions.{link_name}
 use Rattle.kw_world.specs.Sizes.{Sizes}
-use Rattle.kw_core.specs.Words.{Words}
+use Rattle.kw_core.specs.Words.{Words, built_in}
 use Rattle.kw_shape.specs.Infants.{Nursing, HasNone, nursing_of}
 use Rattle.kw_shape.specs.RowsIn.{rows_in}
 
@@ -31,15 +34,20 @@ IsOfCell c (Some (pend.Pending cell)) = cell ≡ c
 IsOfCell c (Some (pend.Stamped cell version)) = cell ≡ c
 IsOfCell c _ = ⊥
 
--- the link is the first one, or that of a cell
-abbrev pub IsLinkOf : Sizes → Option ℕ → Type 0
-IsLinkOf z (Some c) = c < z.cells
-IsLinkOf z None = Unit {0}
+-- the links of row q lead from the first cell to the second, or they are one
+pub data Reaches (v : Words) (q : ℕ) : ℕ → ℕ → Type 0 where
+  is_there : (c : ℕ) → Reaches v q c c
+  leads_on : (c d e : ℕ) → cell_of_link_word (v (name.After q c)) ≡ Some d → Reaches v q d e → Reaches v q c e
+
+-- the row may hold the key of this cell and of each that is reached from it
+abbrev pub HoldsFrom : Words → Ledger → ℕ → ℕ → Type 0
+HoldsFrom v g q c = (d : ℕ) → Reaches v q c d → HoldsCell v g q d
 
 -- of a row that is linked, or was
 pub record Keyed (z : Sizes) (v : Words) (g : Ledger) (q : ℕ) : Type 0 where
   pub named : (i c : ℕ) → i < z.seats → IsOfCell c (pend_of (v (name.Pend q i))) → HoldsCell v g q c
-  pub linked : (at : Option ℕ) (c : ℕ) → IsLinkOf z at → cell_of_link_word (v (link_name q at)) ≡ Some c → HoldsCell v g q c
+  pub first : (c : ℕ) → cell_of_link_word (v (name.First q)) ≡ Some c → HoldsFrom v g q c
+  pub built : (c : ℕ) → c < built_in v q → HoldsFrom v g q c
 
 -- a put has stored its key, and may name or link its cell
 abbrev pub HasOwnKey : Activity → Type 0
@@ -51,12 +59,21 @@ HasOwnKey (Activity.Put Put.Version) = Unit {0}
 HasOwnKey (Activity.Insert _) = Unit {0}
 HasOwnKey _ = ⊥
 
--- it may store what it holds behind its own cell
-abbrev pub HasHeldCell : Activity → Type 0
-HasHeldCell (Activity.Insert Insert.Key) = Unit {0}
-HasHeldCell (Activity.Insert Insert.Version) = Unit {0}
-HasHeldCell (Activity.Insert Insert.Set) = Unit {0}
-HasHeldCell _ = ⊥
+-- the cell is one from which the seat goes on in its row's list, or to which it may make links
+-- lead: that of its link, the one that it has reached, the one that is to stand behind its own
+-- cell, or its own cell, whose link it has stored
+abbrev pub IsInList : Activity → Local → ℕ → Type 0
+IsInList (Activity.Insert Insert.Start) l c = l.link ≡ Some c
+IsInList (Activity.Insert Insert.Link) l c = l.link ≡ Some c
+IsInList (Activity.Insert Insert.Key) l c = (l.place ≡ c) ⊎ (l.held ≡ Some c)
+IsInList (Activity.Insert Insert.Version) l c = (l.place ≡ c) ⊎ (l.held ≡ Some c)
+IsInList (Activity.Insert Insert.Set) l c = l.held ≡ Some c
+IsInList (Activity.Insert Insert.Exchange) l c = l.cell ≡ c
+IsInList (Activity.Rebalance (Rebalance.Gather Gather.Link)) l c = l.link ≡ Some c
+IsInList (Activity.Rebalance (Rebalance.Gather Gather.Key)) l c = l.place ≡ c
+IsInList (Activity.Rebalance (Rebalance.Gather Gather.Version)) l c = l.place ≡ c
+IsInList (Activity.Rebalance (Rebalance.Gather Gather.Value)) l c = l.place ≡ c
+IsInList _ l c = ⊥
 
 -- a rebalance remembers cells
 abbrev pub HasMarks : Activity → Type 0
@@ -93,7 +110,7 @@ HasGathered a = IsPlanned (nursing_of a)
 -- what a seat knows of the keys of its row
 pub record Keys (v : Words) (g : Ledger) (a : Activity) (l : Local) : Type 0 where
   pub own : HasOwnKey a → HoldsCell v g l.row l.cell
-  pub held : HasHeldCell a → (c : ℕ) → l.held ≡ Some c → HoldsCell v g l.row c
+  pub list : (c : ℕ) → IsInList a l c → HoldsFrom v g l.row c
   pub marks : HasMarks a → All (λ m. HoldsCell v g l.row m.cell) l.rebalance.marks
   pub saw : HasReachedCell a → HoldsCell v g l.row l.place
   pub key : HasKeyInHand a → rows.HoldsKey (rows_in v) g l.row l.place_key

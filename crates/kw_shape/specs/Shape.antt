@@ -21,7 +21,7 @@ use Rattle.kw_world.specs.Sizes.{Sizes}
 use Rattle.kw_world.specs.Calls.{first_key, last_key, is_scan}
 use Rattle.kw_world.specs.Sane.{IsSane}
 use Rattle.kw_world.specs.Step.{word}
-pub use Rattle.kw_core.specs.Words.{Words, next_in, least_in, given_in}
+pub use Rattle.kw_core.specs.Words.{Words, next_in, least_in, built_in, given_in}
 use Rattle.kw_core.specs.declared.stage.Stage.{Stage}
 use Rattle.kw_core.specs.declared.stage.Stage.TheVariants.{Rebalancing, Retrying}
 use Rattle.kw_core.specs.Stages.{stage_of, IsBalancing, IsDone, IsStarting, IsCovering, IsAtRow, IsPastStart}
@@ -77,10 +77,12 @@ IsOnWalk _ v g t l = Unit {0}
 -- what a seat's walk is at. A put, a delete or a get wants its key throughout; a scan wants its
 -- first key, or the least key of the row to which it went on. From the first row on the seat knows
 -- the least key of the row that it is at; as least keys rise along the links, so does what it knows
--- from row to row, and the walk ends
+-- from row to row, and the walk ends. It knows no more cells with which that row was built than
+-- there are
 pub record Walks (v : Words) (g : Ledger) (t : ℕ) (a : Activity) (l : Local) : Type 0 where
   pub on : IsOnWalk a v g t l
   pub lower : IsPastStart a → l.lower ≡ least_in v l.row
+  pub built : IsPastStart a → l.built ≤ built_in v l.row
   pub at : IsAtRow a → IsAtItsRow v g t l
   pub begins : IsStarting a → l.want ≡ first_key l.call
   pub wants : IsPastStart a → (l.want ≡ first_key l.call) ⊎ (is_scan l.call ≡ true) × (least_in v l.row ≡ l.want)

@@ -8,7 +8,7 @@ ghost use Rattle.kw_world.specs.Sizes.{product};
 ghost use Rattle.kw_world.specs.Parts.{part_of};
 ghost use Rattle.kw_world.specs.declared.part.Part.{Part};
 ghost use Rattle.kw_words.specs.Plain.{cell_link_word};
-ghost use Rattle.kw_world.specs.ListTransitions.{link_name};
+ghost use Rattle.kw_world.specs.ListTransitions.{link_name, first_operation};
 ghost use Rattle.kw_world.specs.Sane.{IsLocal, IsVersion, IsCellBelow};
 ghost use Rattle.kw_world.specs.Step.{transition_of};
 ghost use Rattle.kw_words.specs.declared.sizes.TheConstants.{CELLS};
@@ -60,6 +60,9 @@ pub fn put_operation(seat: u32, local: &Local, choice: Choice) -> Operation
         Activity::Look(Look::Help) => {
             let entry = Name::Pend(row, local.looked);
             stamp(Kind::HelpStamp, entry, local.saw, local.helping)
+        }
+        Activity::Read(Read::Start) | Activity::Insert(Insert::Start) => {
+            first_operation(local, local.cell_guess(choice))
         }
         Activity::Read(Read::Link) => load(Kind::LoadAfter, link_name(row, local.link)),
         Activity::Read(Read::Key) => load(Kind::LoadKey, Name::Key(row, local.place)),
@@ -214,6 +217,17 @@ pub fn link_name(row: u32, link: Option<u32>) -> Name
     match link {
         Some(cell) => Name::After(row, cell),
         None => Name::First(row),
+    }
+}
+
+// The load with which a walk along a row's list begins: that of the guessed cell's key, or of the
+// link at which the walk stands.
+fn first_operation(local: &Local, guess: Option<u32>) -> Operation
+    ensures { result ≡ first_operation guess local.now }
+{
+    match guess {
+        Some(cell) => load(Kind::LoadKey, Name::Key(local.row, cell)),
+        None => load(Kind::LoadAfter, link_name(local.row, local.link)),
     }
 }
 

@@ -9,7 +9,7 @@ ghost use Rattle.kw_world.specs.declared.activity.Activity.{Activity};
 ghost use Rattle.kw_world.specs.declared.activity.read.Read.{Read};
 ghost use Rattle.kw_world.specs.Sizes.{product};
 ghost use Rattle.kw_world.specs.Marks.{least_mark};
-ghost use Rattle.kw_world.specs.ListTransitions.{past_cell};
+ghost use Rattle.kw_world.specs.ListTransitions.{behind_cell, past_cell};
 ghost use Rattle.kw_world.specs.ReadTransitions.{reaching, gathering, to_left_over};
 
 use crate::resume_insert::one_more;
@@ -26,6 +26,14 @@ pub fn reach(local: &mut Local, cell: u32)
     local.place = cell;
     local.walked = one_more(local.walked);
     local.remembered.forget(cell);
+}
+
+/// The walk begins behind this cell.
+#[inline(always)]
+pub fn begin_behind(local: &mut Local, cell: u32)
+    ensures { local.new ≡ behind_cell cell local.old }
+{
+    local.link = Some(cell);
 }
 
 /// The walk stands at the link after the cell that it reached.

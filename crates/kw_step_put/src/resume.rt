@@ -14,10 +14,12 @@ ghost use Rattle.kw_world.specs.Step.{next_of};
 ghost use Rattle.kw_world.specs.RowEnd.{MayEndRow};
 
 use crate::resume_cells::{
-    left_over_key, left_over_value, list_from, list_key, list_value, list_version,
+    left_over_key, left_over_value, list_from, list_key, list_start, list_value, list_version,
 };
 use crate::resume_entries::{help, look, look_key};
-use crate::resume_insert::{insert, insert_from, insert_key, insert_version, start_insert};
+use crate::resume_insert::{
+    insert, insert_from, insert_key, insert_start, insert_version, start_insert,
+};
 use crate::resume_put::{add, announce, clear, count, stamp};
 use crate::resume_scan::{begin, clock, enter, settle};
 use kw_model::memory::Memory;
@@ -73,6 +75,10 @@ pub fn put_resume(
             Ok(to(local, Activity::Look(Look::Help)))
         }
         Activity::Look(Look::Help) => Ok(help(local, told)),
+        Activity::Read(Read::Start) => {
+            let guess = local.cell_guess(choice);
+            list_start(local, guess, told)
+        }
         Activity::Read(Read::Link) => list_from(local, told),
         Activity::Read(Read::Key) => list_key(local, told),
         Activity::Read(Read::Version) => Ok(list_version(local, told)),
@@ -91,6 +97,10 @@ pub fn put_resume(
         }
         Activity::Put(Put::Stamp) => Ok(stamp(local, told)),
         Activity::Put(Put::Version) => Ok(start_insert(local)),
+        Activity::Insert(Insert::Start) => {
+            let guess = local.cell_guess(choice);
+            Ok(insert_start(local, guess, told))
+        }
         Activity::Insert(Insert::Link) => Ok(insert_from(local, told)),
         Activity::Insert(Insert::Key) => Ok(insert_key(local, told)),
         Activity::Insert(Insert::Version) => Ok(insert_version(local, told)),

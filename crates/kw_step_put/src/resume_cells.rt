@@ -13,9 +13,9 @@ ghost use Rattle.kw_world.specs.Answers.{answer_found};
 ghost use Rattle.kw_world.specs.Sizes.{product};
 ghost use Rattle.kw_world.specs.Calls.{is_in_range, is_scan};
 ghost use Rattle.kw_world.specs.Transition.{outcome, to, leave};
-ghost use Rattle.kw_world.specs.ReadTransitions.{list_reached, list_key, list_version, list_past, left_over_key, to_left_over, row_read, row_scanned, scan_on, scan_ended, get_answered, gathering};
+ghost use Rattle.kw_world.specs.ReadTransitions.{list_started, list_guessed, list_reached, list_key, list_version, list_past, left_over_key, to_left_over, row_read, row_scanned, scan_on, scan_ended, get_answered, gathering};
 
-use crate::reading::{gather, go_by_cell, hold_version, reach, take_remembered};
+use crate::reading::{begin_behind, gather, go_by_cell, hold_version, reach, take_remembered};
 use crate::resume::{leave, to};
 use kw_cells::cell::Cell;
 use kw_cells::in_order::{first_fit, next_in_order};
@@ -31,6 +31,35 @@ use kw_world::calls::{first_key, is_in_range, last_key};
 use kw_world::event::StepDone;
 use kw_world::limits::NEWEST;
 use kw_world::local::Local;
+
+// The seat was told the key of the guessed cell, or the link at which it stands.
+pub(crate) fn list_start(
+    local: &mut Local,
+    guess: Option<u32>,
+    found: u64,
+) -> Result<StepDone, Memory>
+    requires { local.old.walked ≤ CELLS }
+    ensures ok { IfOk result (λ done. outcome local.new done
+        ≡ list_started product local.old guess found) }
+    ensures err { OnErr result (local.new ≡ local.old) }
+    ensures scan { OnErr result (is_scan local.old.call ≡ true) }
+{
+    match guess {
+        Some(cell) => Ok(list_guessed(local, cell, found)),
+        None => list_from(local, found),
+    }
+}
+
+// The seat was told the key of the guessed cell: it begins behind it, if the key is below its
+// range.
+fn list_guessed(local: &mut Local, cell: u32, found: u64) -> StepDone
+    ensures { outcome local.new result ≡ list_guessed cell (key_of_word found) local.old }
+{
+    if unpack_key(found) < first_key(local.call) {
+        begin_behind(local, cell);
+    }
+    to(local, Activity::Read(Read::Link))
+}
 
 // The seat was told the link at which it stands.
 pub(crate) fn list_from(local: &mut Local, found: u64) -> Result<StepDone, Memory>
@@ -193,6 +222,7 @@ fn go_on(local: &mut Local, upto: u32) -> StepDone
         Some(row) if local.upper <= upto => {
             local.row = row;
             local.lower = local.upper;
+            local.built = 0;
             local.want = local.upper;
             local.next = None;
             local.upper = 0;

@@ -31,7 +31,7 @@ fn to_look(local: &mut Local, entry: u32) -> StepDone
     if entry < SEAT_COUNT {
         to(local, Activity::Look(Look::Entry(entry)))
     } else {
-        to(local, Activity::Read(Read::Link))
+        to(local, Activity::Read(Read::Start))
     }
 }
 

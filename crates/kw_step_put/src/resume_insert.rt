@@ -2,15 +2,16 @@
 //!
 //! Once the version stands in the cell, the put walks from link to link past every cell that stands
 //! before its own, stores what the last link holds in its own one, and exchanges that link for one
-//! to its cell. Where another put was there first, it walks again from the row's first link.
+//! to its cell. Where another put was there first, it begins its walk again.
 ghost use Rattle.std.specs.Prelude.{◌≡◌, ◌==◌, ◌≤◌, unwrap_or};
 ghost use Rattle.kw_words.specs.Plain.{key_of_word, version_of_word, cell_link_word, cell_of_link_word};
 ghost use Rattle.kw_words.specs.declared.sizes.TheConstants.{CELLS};
 ghost use Rattle.kw_world.specs.Sizes.{product};
 ghost use Rattle.kw_world.specs.Sane.{IsCellBelow};
 ghost use Rattle.kw_world.specs.Transition.{outcome, to};
-ghost use Rattle.kw_world.specs.ListTransitions.{at_first, one_more, to_insert, insert_from, insert_past, insert_key, insert_version, insert_tried, is_newer};
+ghost use Rattle.kw_world.specs.ListTransitions.{at_first, one_more, to_insert, insert_started, insert_guessed, insert_from, insert_past, insert_key, insert_version, insert_tried, is_newer};
 
+use crate::reading::begin_behind;
 use crate::resume::to;
 use kw_words::plain::{pack_cell_link, unpack_cell_link, unpack_key, unpack_version};
 use kw_words::sizes::CELL_COUNT;
@@ -43,6 +44,27 @@ pub fn start_insert(local: &mut Local) -> StepDone
 {
     go_to_first(local);
     local.lost = 0;
+    to(local, Activity::Insert(Insert::Start))
+}
+
+/// The seat was told the key of the guessed cell, or the link at which it stands.
+pub(crate) fn insert_start(local: &mut Local, guess: Option<u32>, found: u64) -> StepDone
+    requires { local.old.walked ≤ CELLS }
+    ensures { outcome local.new result ≡ insert_started product local.old guess found }
+{
+    match guess {
+        Some(cell) => insert_guessed(local, cell, found),
+        None => insert_from(local, found),
+    }
+}
+
+/// The seat was told the key of the guessed cell: it begins behind it, if its own key is greater.
+pub fn insert_guessed(local: &mut Local, cell: u32, found: u64) -> StepDone
+    ensures { outcome local.new result ≡ insert_guessed cell (key_of_word found) local.old }
+{
+    if unpack_key(found) < first_key(local.call) {
+        begin_behind(local, cell);
+    }
     to(local, Activity::Insert(Insert::Link))
 }
 
@@ -127,6 +149,6 @@ pub fn insert(local: &mut Local, found: u64) -> StepDone
     } else {
         go_to_first(local);
         local.lost = one_more(local.lost);
-        to(local, Activity::Insert(Insert::Link))
+        to(local, Activity::Insert(Insert::Start))
     }
 }

@@ -2,12 +2,12 @@
 //!
 //! They follow from what the seat knows: its kept cells, cut at the starts, and the rows that it
 //! took. Each function takes the new row at hand. Takes no memory.
-ghost use Rattle.std.specs.Prelude.{◌≡◌, slice_get};
+ghost use Rattle.std.specs.Prelude.{◌≡◌, length, slice_get};
 ghost use Rattle.kw_cells.specs.Cells.{value_in};
 ghost use Rattle.kw_cells.specs.Kept.{AreRising};
 ghost use Rattle.kw_words.specs.Count.{count_word};
 ghost use Rattle.kw_words.specs.Link.{link_word};
-ghost use Rattle.kw_words.specs.Plain.{cell_link_word, key_word, value_word, version_word};
+ghost use Rattle.kw_words.specs.Plain.{cell_link_word, key_word, least_word, value_word, version_word};
 ghost use Rattle.kw_world.specs.Sane.{IsLocal};
 ghost use Rattle.kw_world.specs.Sizes.{product};
 ghost use Rattle.kw_world.specs.WriteTransitions.{infant_cells, infant_count, infant_least, infant_link, first_listed, listed_after, key_in, version_in};
@@ -17,7 +17,7 @@ use crate::infant::{
 };
 use crate::infant_rising::listed_after_rising;
 use crate::operation::link_to;
-use kw_words::plain::{pack_cell_link, pack_key, pack_value, pack_version};
+use kw_words::plain::{pack_cell_link, pack_key, pack_least, pack_value, pack_version};
 use kw_world::local::Local;
 
 /// The word of its count: that of its cells.
@@ -29,13 +29,14 @@ pub fn count_word(local: &Local) -> u64
     infant_count(local).pack()
 }
 
-/// The word of its least key.
+/// The word of its least key, with the number of its cells.
 #[inline(always)]
 pub fn least_word(local: &Local) -> u64
     requires { IsLocal product local.now }
-    ensures { result ≡ key_word (infant_least local.now) }
+    ensures { result ≡ least_word (infant_least local.now) (length (infant_cells local.now)) }
 {
-    pack_key(infant_least(local))
+    let built = infant_cells(local).len() as u32;
+    pack_least(infant_least(local), built)
 }
 
 /// The word of the link after it, which is not marked.

@@ -1,9 +1,9 @@
 //! The operations that store what a new row holds, one for each sort of word.
-ghost use Rattle.std.specs.Prelude.{◌≡◌, slice_get};
+ghost use Rattle.std.specs.Prelude.{◌≡◌, length, slice_get};
 ghost use Rattle.kw_cells.specs.Cells.{value_in};
 ghost use Rattle.kw_words.specs.Count.{count_word};
 ghost use Rattle.kw_words.specs.Link.{link_word};
-ghost use Rattle.kw_words.specs.Plain.{cell_link_word, key_word, value_word, version_word};
+ghost use Rattle.kw_words.specs.Plain.{cell_link_word, key_word, least_word, value_word, version_word};
 ghost use Rattle.kw_world.specs.Sane.{IsLocal};
 ghost use Rattle.kw_world.specs.Sizes.{product};
 ghost use Rattle.kw_world.specs.WriteTransitions.{infant_cells, infant_count, infant_least, infant_link, first_listed, listed_after, key_in, version_in};
@@ -30,14 +30,14 @@ pub(crate) fn write_count(local: &Local, row: u32) -> Operation
     store(Kind::StoreInfant, Name::Count(row), count_word(local))
 }
 
-// Its least key.
+// Its least key, and how many cells it is built with.
 pub(crate) fn write_least(local: &Local, row: u32) -> Operation
     requires { IsLocal product local.now }
     ensures { result ≡ record {
       kind = Kind.StoreInfant;
       name = Name.Least row;
       action = Action.Store
-          (key_word (infant_least local.now));
+          (least_word (infant_least local.now) (length (infant_cells local.now)));
     } }
 {
     store(Kind::StoreInfant, Name::Least(row), least_word(local))

@@ -21,7 +21,7 @@ use crate::resume_seek::{gave_back, pass, seek, seek_first, take_row};
 use crate::resume_take::{
     left_over_value, take_from, take_key, take_left_over_key, take_value, take_version,
 };
-use crate::resume_write::{to_write_cell, to_write_entry};
+use crate::resume_write::{to_write_after, to_write_cell, to_write_entry};
 use kw_world::activity::Activity;
 use kw_world::activity::enter::Enter;
 use kw_world::activity::rebalance::Rebalance;
@@ -137,10 +137,7 @@ fn build_resume(local: &mut Local, rows: u32, choice: Choice, told: u64) -> Step
             local,
             Activity::Rebalance(Rebalance::Write(Write::Version(cell))),
         ),
-        Activity::Rebalance(Rebalance::Write(Write::Version(cell))) => to(
-            local,
-            Activity::Rebalance(Rebalance::Write(Write::After(cell))),
-        ),
+        Activity::Rebalance(Rebalance::Write(Write::Version(cell))) => to_write_after(local, cell),
         Activity::Rebalance(Rebalance::Write(Write::After(cell))) => to_write_cell(local, cell + 1),
         Activity::Rebalance(Rebalance::Replace(Replace::Start)) => before(local, choice, told),
         Activity::Rebalance(Rebalance::Replace(Replace::GuessedLeast)) => guess_least(local, told),

@@ -1,9 +1,10 @@
 //! What a seat knows after the events that write a new row: which word it writes next.
-ghost use Rattle.std.specs.Prelude.{◌≡◌, ◌≤◌, length};
+ghost use Rattle.std.specs.Prelude.{◌≡◌, ◌<◌, ◌≤◌, length};
+ghost use Rattle.kw_words.specs.declared.sizes.TheConstants.{CELLS};
 ghost use Rattle.kw_world.specs.Sane.{IsLocal};
 ghost use Rattle.kw_world.specs.Sizes.{product};
 ghost use Rattle.kw_world.specs.Transition.{outcome};
-ghost use Rattle.kw_world.specs.WriteTransitions.{row_written, to_write_cell, to_write_entry};
+ghost use Rattle.kw_world.specs.WriteTransitions.{row_written, to_write_after, to_write_cell, to_write_entry};
 
 use crate::infant::{infant_cells, next_at};
 use crate::resume::to;
@@ -51,6 +52,23 @@ pub fn to_write_cell(local: &mut Local, cell: u32) -> StepDone
             local,
             Activity::Rebalance(Rebalance::Write(Write::Version(cell))),
         )
+    }
+}
+
+/// The seat goes on to the link after this cell, or to the next place where the row has no cell
+/// here.
+pub fn to_write_after(local: &mut Local, cell: u32) -> StepDone
+    requires ranges { IsLocal product local.old }
+    requires within { cell < CELLS }
+    ensures { outcome local.new result ≡ to_write_after product cell local.old }
+{
+    if (cell as usize) < infant_cells(local).len() {
+        to(
+            local,
+            Activity::Rebalance(Rebalance::Write(Write::After(cell))),
+        )
+    } else {
+        to_write_cell(local, cell + 1)
     }
 }
 

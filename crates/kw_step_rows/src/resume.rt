@@ -5,7 +5,7 @@
 ghost use Rattle.std.specs.Prelude.{◌≡◌, if◌then◌else◌};
 ghost use Rattle.kw_words.specs.Link.{link_of};
 ghost use Rattle.kw_words.specs.State.{state_of};
-ghost use Rattle.kw_words.specs.Plain.{key_of_word};
+ghost use Rattle.kw_words.specs.Plain.{key_of_word, built_of_word};
 ghost use Rattle.kw_world.specs.Sizes.{product};
 ghost use Rattle.kw_world.specs.Parts.{part_of};
 ghost use Rattle.kw_world.specs.declared.part.Part.{Part};
@@ -15,7 +15,7 @@ ghost use Rattle.kw_world.specs.Step.{next_of};
 
 use kw_model::call::Call;
 use kw_words::link::Link;
-use kw_words::plain::unpack_key;
+use kw_words::plain::{unpack_built, unpack_key};
 use kw_words::state::State;
 use kw_world::activity::Activity;
 use kw_world::activity::look::Look;
@@ -71,10 +71,12 @@ pub fn first(local: &mut Local, found: u64) -> StepDone
       row = row_or_first
           (row_linked (link_of found));
       lower = 0;
+      built = 0;
     }) }
 {
     local.row = linked(found).unwrap_or(0);
     local.lower = 0;
+    local.built = 0;
     to(local, Activity::Walk(Walk::Next))
 }
 
@@ -93,13 +95,15 @@ pub fn guess(local: &mut Local, row: u32, found: u64) -> StepDone
 
 /// The seat was told the least key of the guessed row.
 pub fn guessed_least(local: &mut Local, found: u64) -> StepDone
-    ensures { outcome local.new result ≡ guessed_least (key_of_word found) local.old }
+    ensures { outcome local.new result ≡ guessed_least (key_of_word found) (built_of_word found)
+        local.old }
 {
     let least = unpack_key(found);
     if least > local.want {
         return to(local, Activity::Walk(Walk::First));
     }
     local.lower = least;
+    local.built = unpack_built(found);
     to(local, Activity::Walk(Walk::Next))
 }
 
@@ -122,12 +126,13 @@ pub fn link(local: &mut Local, found: u64) -> StepDone
 
 /// The seat was told the least key of the row after its row.
 pub fn walk_least(local: &mut Local, found: u64) -> StepDone
-    ensures { outcome local.new result ≡ walk_least (key_of_word found) local.old }
+    ensures { outcome local.new result ≡ walk_least (key_of_word found) (built_of_word found) local.old }
 {
     let least = unpack_key(found);
     if least <= local.want {
         local.row = local.candidate;
         local.lower = least;
+        local.built = unpack_built(found);
         return to(local, Activity::Walk(Walk::Next));
     }
     local.next = Some(local.candidate);

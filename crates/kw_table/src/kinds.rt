@@ -321,11 +321,11 @@ pub fn load_pend(shared: &Shared, pass: &mut Pass, word: Name) -> u64
 
 /// Loads the key of a cell.
 #[inline(always)]
-pub fn load_key(shared: &Shared, pass: &mut Pass, word: Name) -> u64
-    requires { Asks shared.now pass.old Choice.Go (operation Kind.LoadKey word Action.Load) }
-    ensures { Makes shared.now pass.old Choice.Go result pass.new }
+pub fn load_key(shared: &Shared, pass: &mut Pass, choice: Choice, word: Name) -> u64
+    requires { Asks shared.now pass.old choice (operation Kind.LoadKey word Action.Load) }
+    ensures { Makes shared.now pass.old choice result pass.new }
 {
-    step!(load, LoadKey, Action::Load, shared, pass, Choice::Go, word)
+    step!(load, LoadKey, Action::Load, shared, pass, choice, word)
 }
 
 /// Loads the value of a cell.

@@ -13,6 +13,7 @@ ghost use Rattle.kw_words.specs.declared.sizes.TheConstants.{SEATS, CELLS, CELL_
 use crate::shared::Shared;
 use kw_words::layout::Name;
 use kw_words::link::Link;
+use kw_words::plain::unpack_key;
 use kw_words::sizes::{CELL_COUNT, FROZEN_BIT};
 use kw_words::state::State;
 
@@ -62,16 +63,40 @@ impl Shared {
     pub fn serves(&self, row: u32, key: u32) -> bool {
         row < self.opening.rows
             && State::unpack(self.peek(Name::State(row))) == Some(State::Normal)
-            && self.peek(Name::Least(row)) <= u64::from(key)
+            && unpack_key(self.peek(Name::Least(row))) <= key
     }
 
     /// The least key that the row may hold just now; none where the table has no such row.
     pub fn least(&self, row: u32) -> Option<u32> {
         if row < self.opening.rows {
-            u32::try_from(self.peek(Name::Least(row))).ok()
+            Some(unpack_key(self.peek(Name::Least(row))))
         } else {
             None
         }
+    }
+
+    /// Behind which of the first cells of the row, below this number, a walk to this key may begin:
+    /// the last one whose key is below it just now, where the keys rise; none where the first is
+    /// not. A cell whose number is not that of a row of the table cannot be guessed, and is never
+    /// the answer.
+    pub fn cell_below(&self, row: u32, built: u32, key: u32) -> Option<u32>
+        requires { built ≤ CELL_COUNT }
+        ensures { IfSome result (λ cell. (cell < built) × (cell < self.now.opening.rows)) }
+    {
+        if row >= self.opening.rows {
+            return None;
+        }
+        let mut low = 0;
+        let mut high = built.min(self.opening.rows);
+        while low < high {
+            let middle = low + (high - low) / 2;
+            if unpack_key(self.peek(Name::Key(row, middle))) < key {
+                low = middle + 1;
+            } else {
+                high = middle;
+            }
+        }
+        if low == 0 { None } else { Some(low - 1) }
     }
 
     // Whether the table has the row, and is so large that it may lie far away.

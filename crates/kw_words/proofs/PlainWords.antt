@@ -3,7 +3,7 @@
 use Rattle.std.proofs.Common.{ℕ, Bool, true, false, nat_lt, nat_le, if◌then◌else◌, ◌≡◌, ◌==◌, ◌-◌, ◌<◌, ◌≤◌, ◌^◌, Some, None, Option, refl, ap, arith}
 use Rattle.std.proofs.lemmas.Bool.Decides.{nat_tests}
 use Rattle.kw_words.specs.declared.sizes.TheConstants.{MOST_CELLS, KEY_END, VALUE_END}
-use Rattle.kw_words.specs.Plain.{IsValue, value_word, value_of_word, IsCounted, number_word, number_of_word, IsCell, cell_link_word, cell_of_link_word, key_word, key_of_word}
+use Rattle.kw_words.specs.Plain.{IsValue, value_word, value_of_word, IsCounted, number_word, number_of_word, IsCell, cell_link_word, cell_of_link_word, key_word, key_of_word, least_word, built_of_word}
 
 -- a value, or a tombstone, is read back from its word
 pub value_of_word-value_word : (value : Option ℕ) → value_of_word (value_word value) ≡ value
@@ -86,3 +86,18 @@ key_of_word-key_word key h = grind arith
 pub key_of_word-below : (word : ℕ) → key_of_word word < KEY_END
 unfolding key_of_word
 key_of_word-below word = omega arith
+
+-- the least key of a row is read back from its word
+pub key_of_word-least_word : (key built : ℕ) → key < KEY_END → key_of_word (least_word key built) ≡ key
+unfolding key_of_word
+key_of_word-least_word key built h = omega arith
+
+-- and so is with how many cells the row was built
+pub built_of_word-least_word : (key built : ℕ) → key < KEY_END → built_of_word (least_word key built) ≡ built
+unfolding built_of_word
+built_of_word-least_word key built h = omega arith
+
+-- the word of a row that was never built says so
+pub built_of_word-zero : built_of_word 0 ≡ 0
+unfolding built_of_word
+built_of_word-zero = refl

@@ -1,6 +1,6 @@
 -- The words that hold one number, or none: keys, values, versions, announced epochs and links
--- between cells.
-use Rattle.std.specs.Prelude.{ℕ, ◌+◌, ◌-◌, ◌%◌, ◌<◌, ◌≤◌, ◌==◌, nat_lt, nat_le, if◌then◌else◌, Option, Some, None}
+-- between cells; and the word of a row's least key, which holds two.
+use Rattle.std.specs.Prelude.{ℕ, ◌+◌, ◌-◌, ◌*◌, ◌/◌, ◌%◌, ◌<◌, ◌≤◌, ◌==◌, nat_lt, nat_le, if◌then◌else◌, Option, Some, None}
 use Rattle.kw_words.specs.declared.sizes.TheConstants.{MOST_CELLS, KEY_END, VALUE_END}
 
 -- the value, if there is one, is in range
@@ -61,10 +61,18 @@ cell_link_word None = 0
 unfoldable pub cell_of_link_word : ℕ → Option ℕ
 cell_of_link_word word = if word == 0 then None else if nat_le word MOST_CELLS then Some (word - 1) else None
 
--- the word for a key, of a cell or the least of a row
+-- the word for the key of a cell
 abbrev pub key_word : ℕ → ℕ
 key_word key = key
 
--- the key that a word stands for
+-- the key that a word stands for, of a cell or the least of a row
 unfoldable pub key_of_word : ℕ → ℕ
 key_of_word word = word % KEY_END
+
+-- the word for the least key of a row that was built with so many cells
+abbrev pub least_word : ℕ → ℕ → ℕ
+least_word key built = key + KEY_END * built
+
+-- with how many cells a row was built, of the word for its least key
+unfoldable pub built_of_word : ℕ → ℕ
+built_of_word word = word / KEY_END

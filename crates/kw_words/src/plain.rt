@@ -1,10 +1,11 @@
-//! The words that hold one number, or none.
+//! The words that hold one number, or none; and the word of a row's least key, which holds two.
 //!
 //! Keys, values, versions, announced epochs and links between cells are written as plain numbers.
+//! The least key of a row stands beside the number of cells with which the row was built.
 //! Every number is read back as something, so `unpack` of these words never refuses: what is
 //! promised is that each value in range has a word of its own, and is read back from it.
 ghost use Rattle.std.specs.Prelude.{◌≡◌, ◌<◌, ◌≤◌};
-ghost use Rattle.kw_words.specs.Plain.{IsValue, value_word, value_of_word, IsCounted, version_word, version_of_word, pass_word, pass_of_word, IsCell, cell_link_word, cell_of_link_word, key_word, key_of_word};
+ghost use Rattle.kw_words.specs.Plain.{IsValue, value_word, value_of_word, IsCounted, version_word, version_of_word, pass_word, pass_of_word, IsCell, cell_link_word, cell_of_link_word, key_word, key_of_word, least_word, built_of_word};
 ghost use Rattle.kw_words.specs.declared.sizes.TheConstants.{MOST_CELLS, KEY_END, VALUE_END};
 
 use crate::sizes::{KEY_END, MOST_CELLS, VALUE_END};
@@ -102,7 +103,7 @@ pub fn unpack_cell_link(word: u64) -> Option<u32>
     }
 }
 
-/// The word for a key, of a cell or the least of a row.
+/// The word for the key of a cell.
 #[tactic(auto, unfolding(crate::specs::Plain::key_of_word))]
 pub fn pack_key(key: u32) -> u64
     ensures value { result ≡ key_word key }
@@ -111,11 +112,29 @@ pub fn pack_key(key: u32) -> u64
     key as u64
 }
 
-/// The key that a word stands for: its lowest 32 bits.
+/// The key that a word stands for, of a cell or the least of a row: its lowest 32 bits.
 #[tactic(auto, unfolding(crate::specs::Plain::key_of_word))]
 pub fn unpack_key(word: u64) -> u32
     ensures value { result ≡ key_of_word word }
     ensures right { word < KEY_END → key_word result ≡ word }
 {
     (word % KEY_END) as u32
+}
+
+/// The word for the least key of a row, and with how many cells the row was built.
+#[tactic(auto, unfolding(crate::specs::Plain::key_of_word, crate::specs::Plain::built_of_word))]
+pub fn pack_least(key: u32, built: u32) -> u64
+    ensures value { result ≡ least_word key built }
+    ensures key { key_of_word result ≡ key }
+    ensures built { built_of_word result ≡ built }
+{
+    key as u64 + KEY_END * built as u64
+}
+
+/// With how many cells a row was built, of the word for its least key: the highest 32 bits.
+#[tactic(auto, unfolding(crate::specs::Plain::built_of_word))]
+pub fn unpack_built(word: u64) -> u32
+    ensures { result ≡ built_of_word word }
+{
+    (word / KEY_END) as u32
 }

@@ -11,7 +11,7 @@ use Rattle.kw_words.specs.declared.state.State.TheVariants.{Free, Infant, Normal
 use Rattle.kw_words.specs.State.{state_of}
 use Rattle.kw_words.specs.Link.{link_of}
 use Rattle.kw_words.specs.Pend.{pend_of, pend_word}
-use Rattle.kw_words.specs.Plain.{version_of_word, key_of_word, value_of_word, pass_of_word, cell_of_link_word, cell_link_word}
+use Rattle.kw_words.specs.Plain.{version_of_word, key_of_word, built_of_word, value_of_word, pass_of_word, cell_of_link_word, cell_link_word}
 use Rattle.kw_words.specs.Count.{count_of}
 use Rattle.kw_words.specs.Scan.{scan_of}
 use Rattle.kw_words.specs.declared.sizes.TheConstants.{SPENT}
@@ -42,10 +42,10 @@ use Rattle.kw_world.specs.declared.event.Choice.TheVariants.{Begin, Go, Guess, S
 use Rattle.kw_world.specs.Sizes.{Sizes}
 use Rattle.kw_world.specs.Transition.{Outcome, row_linked, row_or_first, to, leave}
 use Rattle.kw_world.specs.PutTransitions.{stamp_seen, has_room, given_of, tidies_row}
-use Rattle.kw_world.specs.ListTransitions.{insert_from, insert_key, insert_past, insert_tried, is_newer}
+use Rattle.kw_world.specs.ListTransitions.{cell_guess, behind_cell, insert_started, insert_from, insert_key, insert_past, insert_tried, is_newer}
 use Rattle.kw_world.specs.declared.marks.Mark.{Mark}
 use Rattle.kw_world.specs.Marks.{least_mark}
-use Rattle.kw_world.specs.ReadTransitions.{to_look, look_seen, help_seen, scan_on, row_read, left_over_of, to_left_over, list_reached, list_key, list_past, with_pairs, remembering, gathering}
+use Rattle.kw_world.specs.ReadTransitions.{to_look, look_seen, help_seen, scan_on, row_read, left_over_of, to_left_over, list_started, list_reached, list_key, list_past, with_pairs, remembering, gathering}
 use Rattle.kw_world.specs.ScanTransitions.{begun, entered, settled, to_start, version_settled}
 use Rattle.kw_world.specs.WalkTransitions.{guess_seen, start_transition, walk_transition, is_stopped, link_reached, walk_least, arrive}
 use Rattle.kw_words.specs.declared.scan.ScanWord.{ScanWord}
@@ -58,7 +58,7 @@ use Rattle.kw_world.specs.EngageTransitions.{again, refuse, to_rebalance, is_alo
 use Rattle.kw_world.specs.FreezeTransitions.{to_scans, to_freeze_look, marking, freeze_seen, entry_tried, to_scan_look, needing, scan_seen, scan_helped}
 use Rattle.kw_world.specs.TakeTransitions.{to_take, left_of, take_reached, keeping}
 use Rattle.kw_world.specs.SeekTransitions.{given_back, give_back, gave_back, at_infant, has_more, row_behind, to_seek, to_pass, seek_seen, pass_seen, seeking, seek_first_transition, with_row, take_row}
-use Rattle.kw_world.specs.WriteTransitions.{infant_cells, row_written, to_write_cell, to_write_entry}
+use Rattle.kw_world.specs.WriteTransitions.{infant_cells, row_written, to_write_after, to_write_cell, to_write_entry}
 use Rattle.kw_world.specs.ReplaceTransitions.{at_before, first_before, guess_before, before_transition, row_before, link_before, row_replaced, replaced}
 use Rattle.kw_world.specs.Table.{transition}
 use Rattle.kw_world.specs.Step.{is_skipped, IsMade}
@@ -122,6 +122,10 @@ list_goes : (z : Sizes) (cell : Option ℕ) (l : Local) → Goes l.number (list_
 list_goes z (Some cell) l = record { moved = refl; number = refl }
 list_goes z None l = rests l
 
+list_start_goes : (z : Sizes) (guess : Option ℕ) (l : Local) (told : ℕ) → Goes l.number (list_started z l guess told)
+list_start_goes z (Some cell) l told = either (nat_lt (key_of_word told) (first_key l.call)) (to (Activity.Read Read.Link) (behind_cell cell l)) (to (Activity.Read Read.Link) l) (record { moved = refl; number = refl }) (record { moved = refl; number = refl })
+list_start_goes z None l told = list_goes z (cell_of_link_word told) l
+
 list_key_goes : (key : ℕ) (l : Local) → Goes l.number (list_key key l)
 list_key_goes key l = either (nat_lt key (first_key l.call)) (list_past l) _ (record { moved = refl; number = refl }) (either (nat_le key (last_key l.call)) (to (Activity.Read Read.Version) (record l { place_key = key })) (to_left_over l) (record { moved = refl; number = refl }) (rests l))
 
@@ -135,6 +139,10 @@ stamp_goes None l = record { moved = refl; number = refl }
 insert_from_goes : (z : Sizes) (cell : Option ℕ) (l : Local) → Goes l.number (insert_from z cell l)
 insert_from_goes z (Some cell) l = record { moved = refl; number = refl }
 insert_from_goes z None l = record { moved = refl; number = refl }
+
+insert_start_goes : (z : Sizes) (guess : Option ℕ) (l : Local) (told : ℕ) → Goes l.number (insert_started z l guess told)
+insert_start_goes z (Some cell) l told = either (nat_lt (key_of_word told) (first_key l.call)) (to (Activity.Insert Insert.Link) (behind_cell cell l)) (to (Activity.Insert Insert.Link) l) (record { moved = refl; number = refl }) (record { moved = refl; number = refl })
+insert_start_goes z None l told = insert_from_goes z (cell_of_link_word told) l
 
 insert_key_goes : (key : ℕ) (l : Local) → Goes l.number (insert_key key l)
 insert_key_goes key l = either (nat_lt key (first_key l.call)) _ _ (record { moved = refl; number = refl }) (either (key == first_key l.call) (to (Activity.Insert Insert.Version) l) (to (Activity.Insert Insert.Set) l) (record { moved = refl; number = refl }) (record { moved = refl; number = refl }))
@@ -189,8 +197,8 @@ enter_goes None l = record { moved = refl; number = refl }
 settle_goes : (version : ℕ) (l : Local) → Goes l.number (settled version l)
 settle_goes version l = either (is_range_empty l.call) (to (Activity.EndScan Pairs) (record l { version = version })) (to_start (record l { version = version })) (record { moved = refl; number = refl }) (record { moved = refl; number = refl })
 
-walk_least_goes : (least : ℕ) (l : Local) → Goes l.number (walk_least least l)
-walk_least_goes least l = either (nat_le least l.want) (to (Activity.Walk Walk.Next) (record l { row = l.candidate; lower = least })) (arrive l.call (record l { next = Some l.candidate; upper = least })) (record { moved = refl; number = refl }) (arrive_goes l.call (record l { next = Some l.candidate; upper = least }))
+walk_least_goes : (least built : ℕ) (l : Local) → Goes l.number (walk_least least built l)
+walk_least_goes least built l = either (nat_le least l.want) (to (Activity.Walk Walk.Next) (record l { row = l.candidate; lower = least; built = built })) (arrive l.call (record l { next = Some l.candidate; upper = least })) (record { moved = refl; number = refl }) (arrive_goes l.call (record l { next = Some l.candidate; upper = least }))
 
 state_goes : (state : Option State) (l : Local) → Goes l.number (state_seen state l)
 state_goes (Some Free) l = record { moved = refl; number = refl }
@@ -305,6 +313,9 @@ row_written_goes l = either (has_more l) (to (Activity.Rebalance (Rebalance.Writ
 write_cell_goes : (z : Sizes) (j : ℕ) (l : Local) → Goes l.number (to_write_cell z j l)
 write_cell_goes z j l = either (nat_lt j z.cells) (if nat_lt j (length (infant_cells l)) then to (Activity.Rebalance (Rebalance.Write (Write.Key j))) l else to (Activity.Rebalance (Rebalance.Write (Write.Version j))) l) (row_written l) (either (nat_lt j (length (infant_cells l))) (to (Activity.Rebalance (Rebalance.Write (Write.Key j))) l) (to (Activity.Rebalance (Rebalance.Write (Write.Version j))) l) (record { moved = refl; number = refl }) (record { moved = refl; number = refl })) (row_written_goes l)
 
+write_after_goes : (z : Sizes) (j : ℕ) (l : Local) → Goes l.number (to_write_after z j l)
+write_after_goes z j l = either (nat_lt j (length (infant_cells l))) (to (Activity.Rebalance (Rebalance.Write (Write.After j))) l) (to_write_cell z (j + 1) l) (record { moved = refl; number = refl }) (write_cell_goes z (j + 1) l)
+
 write_entry_goes : (z : Sizes) (i : ℕ) (l : Local) → Goes l.number (to_write_entry z i l)
 write_entry_goes z i l = either (nat_lt i z.seats) (to (Activity.Rebalance (Rebalance.Write (Write.Entry i))) l) (to_write_cell z 0 l) (record { moved = refl; number = refl }) (write_cell_goes z 0 l)
 
@@ -362,13 +373,14 @@ goes_on z (Activity.Draw Draw.Version) s choice l rows told e n = record { moved
 goes_on z (Activity.Draw Draw.Settle) s choice l rows told e n = settle_goes (version_settled (scan_of told) l.drawn) l
 goes_on z (Activity.Walk Walk.Start) s choice l rows told e n = start_goes choice l rows told
 goes_on z (Activity.Walk Walk.First) s choice l rows told e n = record { moved = refl; number = refl }
-goes_on z (Activity.Walk Walk.GuessedLeast) s choice l rows told e n = either (nat_le (key_of_word told) l.want) (to (Activity.Walk Walk.Next) (record l { lower = key_of_word told })) (to (Activity.Walk Walk.First) l) (record { moved = refl; number = refl }) (record { moved = refl; number = refl })
+goes_on z (Activity.Walk Walk.GuessedLeast) s choice l rows told e n = either (nat_le (key_of_word told) l.want) (to (Activity.Walk Walk.Next) (record l { lower = key_of_word told; built = built_of_word told })) (to (Activity.Walk Walk.First) l) (record { moved = refl; number = refl }) (record { moved = refl; number = refl })
 goes_on z (Activity.Walk Walk.Next) s choice l rows told e n = walk_goes (is_stopped choice l) s l rows told
-goes_on z (Activity.Walk Walk.NextLeast) s choice l rows told e n = walk_least_goes (key_of_word told) l
+goes_on z (Activity.Walk Walk.NextLeast) s choice l rows told e n = walk_least_goes (key_of_word told) (built_of_word told) l
 goes_on z (Activity.Look (Look.Entry i)) s choice l rows told e n = look_goes z i (pend_of told) l
 goes_on z (Activity.Look Look.Key) s choice l rows told e n = either (is_in_range l.call (key_of_word told)) (to (Activity.Look Look.Clock) l) (to_look z (l.looked + 1) l) (record { moved = refl; number = refl }) (looks z (l.looked + 1) l)
 goes_on z (Activity.Look Look.Clock) s choice l rows told e n = record { moved = refl; number = refl }
 goes_on z (Activity.Look Look.Help) s choice l rows told e n = help_goes z (pend_of told) l
+goes_on z (Activity.Read Read.Start) s choice l rows told e n = list_start_goes z (cell_guess choice l) l told
 goes_on z (Activity.Read Read.Link) s choice l rows told e n = list_goes z (cell_of_link_word told) l
 goes_on z (Activity.Read Read.Key) s choice l rows told e n = list_key_goes (key_of_word told) l
 goes_on z (Activity.Read Read.Version) s choice l rows told e n = record { moved = refl; number = refl }
@@ -380,6 +392,7 @@ goes_on z (Activity.Put Put.Count) s choice l rows told e n = either (has_room z
 goes_on z (Activity.Put Put.Add) s choice l rows told e n = either (has_room z (count_of told)) (to (Activity.Put Put.Key) (record l { cell = given_of (count_of told) })) (to_rebalance l) (record { moved = refl; number = refl }) (record { moved = refl; number = refl })
 goes_on z (Activity.Put Put.Announce) s choice l rows told e n = either (told == pend_word pend.Idle) (to (Activity.Put Put.Clock) l) (to_rebalance l) (record { moved = refl; number = refl }) (record { moved = refl; number = refl })
 goes_on z (Activity.Put Put.Stamp) s choice l rows told e n = stamp_goes (pend_of told) l
+goes_on z (Activity.Insert Insert.Start) s choice l rows told e n = insert_start_goes z (cell_guess choice l) l told
 goes_on z (Activity.Insert Insert.Link) s choice l rows told e n = insert_from_goes z (cell_of_link_word told) l
 goes_on z (Activity.Insert Insert.Key) s choice l rows told e n = insert_key_goes (key_of_word told) l
 goes_on z (Activity.Insert Insert.Version) s choice l rows told e n = either (is_newer (unwrap_or (version_of_word told) 0) l.place l) (insert_past l) (to (Activity.Insert Insert.Set) l) (record { moved = refl; number = refl }) (record { moved = refl; number = refl })
@@ -414,6 +427,7 @@ goes_on z (Activity.Rebalance (Rebalance.Seek Seek.Take)) s choice l rows told e
 goes_on z (Activity.Rebalance (Rebalance.Seek Seek.GiveBack)) s choice l rows told e n = gave_back_goes l
 goes_on z (Activity.Rebalance (Rebalance.Write Write.First)) s choice l rows told e n = write_entry_goes z 0 l
 goes_on z (Activity.Rebalance (Rebalance.Write (Write.Entry i))) s choice l rows told e n = write_entry_goes z (i + 1) l
+goes_on z (Activity.Rebalance (Rebalance.Write (Write.Version j))) s choice l rows told e n = write_after_goes z j l
 goes_on z (Activity.Rebalance (Rebalance.Write (Write.After j))) s choice l rows told e n = write_cell_goes z (j + 1) l
 goes_on z (Activity.Rebalance (Rebalance.Write _)) s choice l rows told e n = record { moved = refl; number = refl }
 goes_on z (Activity.Rebalance (Rebalance.Replace Replace.Start)) s choice l rows told e n = before_goes choice l rows told

@@ -12,6 +12,7 @@ use Rattle.kw_words.specs.Layout.{IsSized, IsWithin}
 use Rattle.kw_words.specs.Count.{count_of}
 use Rattle.kw_words.specs.Link.{link_of, link_word}
 use Rattle.kw_words.proofs.PendWords.{pend_of-Idle}
+use Rattle.kw_words.proofs.PlainWords.{built_of_word-zero}
 use Rattle.kw_words.proofs.ScanWords.{scan_of-Quiet}
 use Rattle.kw_words.proofs.StateWords.{state_of-Free, state_of-Normal}
 use Rattle.kw_world.specs.declared.local.Local.{Local}
@@ -61,6 +62,7 @@ rests_known z rows n sized = record {
     epoch = (omega arith, omega arith);
     want = omega arith;
     lower = omega arith;
+    built = omega arith;
     upper = omega arith;
     waiting = (omega arith, omega arith);
     drawn = (omega arith, omega arith);
@@ -120,7 +122,7 @@ module _ (z : Sizes) (o : Opening) (i : IsOpening z o) where
   opening_sane (name.State zero) w = subst (IsRowState z) (sym state_of-Normal) tt
   opening_sane (name.State (suc q)) w = subst (IsRowState z) (sym state_of-Free) tt
   opening_sane (name.Count q) w = subst IsGiven (sym none_counted) (omega arith)
-  opening_sane (name.Least q) w = omega arith
+  opening_sane (name.Least q) w = omega (arith, built_of_word-zero)
   opening_sane (name.Next q) w = subst IsKnownWord (sym last_link) tt
   opening_sane (name.First q) w = omega arith
   opening_sane (name.Pend q seat) w = subst (IsEntry z) (sym pend_of-Idle) tt

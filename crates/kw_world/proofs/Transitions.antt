@@ -1,6 +1,6 @@
 -- What every line of the table keeps to: its word is one of the table, its action can happen, and a
 -- store tells nothing.
-use Rattle.std.proofs.Common.{ℕ, ◌≡◌, ◌+◌, ◌<◌, ◌^◌, Option, Some, None, Bool, true, false, nat_lt, if◌then◌else◌, arith, refl, ap, length, slice_get, zero, suc, List, [], ◌∷◌, All, slice_index}
+use Rattle.std.proofs.Common.{ℕ, ◌≡◌, ◌+◌, ◌<◌, ◌≤◌, ◌^◌, Option, Some, None, Bool, true, false, nat_lt, if◌then◌else◌, arith, refl, sym, subst, ap, length, slice_get, zero, suc, List, [], ◌∷◌, All, slice_index}
 use Rattle.std.proofs.lemmas.Bool.Decides.{nat_tests}
 use Rattle.std.proofs.lemmas.List.Elements.{All-head, All-tail}
 use Rattle.kw_words.specs.declared.count.Count.{Count as Counted}
@@ -28,6 +28,7 @@ use Rattle.kw_world.specs.declared.event.Choice.TheVariants.{Begin, Go, Guess, S
 use Rattle.kw_world.specs.Sizes.{Sizes}
 use Rattle.kw_world.specs.WorldView.{WorldView}
 use Rattle.kw_world.specs.Operation.{CanHappen}
+use Rattle.kw_world.specs.declared.operation.Action.TheVariants.{Load}
 use Rattle.kw_world.specs.WalkTransitions.{offered, start_transition, walk_transition, is_stopped}
 use Rattle.kw_world.specs.Parts.{part_of, part_at}
 use Rattle.kw_world.specs.SeekTransitions.{seek_first_transition}
@@ -35,7 +36,7 @@ use Rattle.kw_world.specs.ReplaceTransitions.{before_transition, replaced_link}
 use Rattle.kw_world.specs.Table.{transition}
 use Rattle.kw_world.specs.Transition.{Outcome, row_or_first}
 use Rattle.kw_world.specs.Step.{word, transition_of, transition_at, next_of}
-use Rattle.kw_world.specs.ListTransitions.{link_name}
+use Rattle.kw_world.specs.ListTransitions.{link_name, cell_guess, first_operation}
 use Rattle.kw_world.specs.Sane.{IsLocal, IsLocalBelow, IsCellBelow, IsRowBelow, IsActivity, IsWord, IsGiven, IsSane, IsOffered, IsStore}
 
 -- a guess that is offered is at a row of the table
@@ -69,6 +70,34 @@ part-offered rows Stop l = refl
 pub link_within : (z : Sizes) (rows r : ℕ) (link : Option ℕ) → IsCellBelow z.cells link → r < rows → IsWithin z.seats z.cells rows (link_name r link)
 link_within z rows r (Some cell) h b = (b, h)
 link_within z rows r None h b = b
+
+-- a guessed cell is one with which the row was built
+pub guessed_below : (choice : Choice) (l : Local) (cell : ℕ) → cell_guess choice l ≡ Some cell → cell < l.built
+guessed_below (Begin call) l cell e = let x : None ≡ Some cell = e in absurd (cc)
+guessed_below Go l cell e = let x : None ≡ Some cell = e in absurd (cc)
+guessed_below (Guess c) l cell e = saw (nat_lt c l.built) refl e
+  where
+    saw : (b : Bool) → nat_lt c l.built ≡ b → (let x : Option ℕ = if b then Some c else None in x) ≡ Some cell → cell < l.built
+    saw true t f = let x : Some c ≡ Some cell = f in let same : c ≡ cell = cc in grind (arith, nat_tests)
+    saw false t f = let x : None ≡ Some cell = f in absurd (cc)
+guessed_below Stop l cell e = let x : None ≡ Some cell = e in absurd (cc)
+
+-- the word with which a walk along a row's list begins is one of the table, and it is loaded
+first_within : (z : Sizes) (rows : ℕ) (guess : Option ℕ) (l : Local) → IsCellBelow z.cells guess → IsLocal z l → l.row < rows → IsWithin z.seats z.cells rows (first_operation guess l).name
+first_within z rows (Some cell) l o i b = (b, o)
+first_within z rows None l o i b = link_within z rows l.row l.link i.link b
+
+pub first_loads : (guess : Option ℕ) (l : Local) → (first_operation guess l).action ≡ Load
+first_loads (Some cell) l = refl
+first_loads None l = refl
+
+-- a guessed cell is one of the row's
+pub guess_below : (z : Sizes) (choice : Choice) (l : Local) → l.built ≤ z.cells → IsCellBelow z.cells (cell_guess choice l)
+guess_below z choice l o = saw (cell_guess choice l) refl
+  where
+    saw : (g : Option ℕ) → cell_guess choice l ≡ g → IsCellBelow z.cells g
+    saw (Some cell) e = omega (arith, o, guessed_below choice l cell e)
+    saw None e = tt
 
 -- a seat's row is one of the table's, so that there is one
 first_row : (rows : ℕ) (l : Local) → IsLocalBelow rows l → 0 < rows
@@ -117,6 +146,7 @@ within z (Activity.Look (Look.Entry k)) rows s choice l i b t o g = (b.row, o)
 within z (Activity.Look Look.Key) rows s choice l i b t o g = (b.row, i.saw)
 within z (Activity.Look Look.Clock) rows s choice l i b t o g = tt
 within z (Activity.Look Look.Help) rows s choice l i b t o g = (b.row, i.looked)
+within z (Activity.Read Read.Start) rows s choice l i b t o g = first_within z rows (cell_guess choice l) l (guess_below z choice l i.built) i b.row
 within z (Activity.Read Read.Link) rows s choice l i b t o g = link_within z rows l.row l.link i.link b.row
 within z (Activity.Read _) rows s choice l i b t o g = (b.row, i.place)
 within z (Activity.EndScan answer) rows s choice l i b t o g = t
@@ -125,6 +155,7 @@ within z (Activity.Put Put.Add) rows s choice l i b t o g = b.row
 within z (Activity.Put Put.Announce) rows s choice l i b t o g = (b.row, t)
 within z (Activity.Put Put.Clock) rows s choice l i b t o g = tt
 within z (Activity.Put Put.Stamp) rows s choice l i b t o g = (b.row, t)
+within z (Activity.Insert Insert.Start) rows s choice l i b t o g = first_within z rows (cell_guess choice l) l (guess_below z choice l i.built) i b.row
 within z (Activity.Insert Insert.Link) rows s choice l i b t o g = link_within z rows l.row l.link i.link b.row
 within z (Activity.Insert Insert.Key) rows s choice l i b t o g = (b.row, i.place)
 within z (Activity.Insert Insert.Version) rows s choice l i b t o g = (b.row, i.place)
@@ -217,6 +248,8 @@ can_happen z (Activity.Walk Walk.Next) s choice l w o = walks (is_stopped choice
     walks : (c : Bool) → CanHappen (walk_transition c s l).operation.action w
     walks true = tt
     walks false = tt
+can_happen z (Activity.Read Read.Start) s choice l w o = subst (λ x. CanHappen x w) (sym (first_loads (cell_guess choice l) l)) tt
+can_happen z (Activity.Insert Insert.Start) s choice l w o = subst (λ x. CanHappen x w) (sym (first_loads (cell_guess choice l) l)) tt
 can_happen z (Activity.Enter Enter.Announce) s choice l w o = tt
 can_happen z (Activity.Look Look.Key) s choice l w o = tt
 can_happen z (Activity.Read Read.Link) s choice l w o = tt
@@ -270,12 +303,14 @@ store_blind z (Activity.Walk Walk.Next) s choice l v w h rows = walks (is_stoppe
 store_blind z (Activity.Walk Walk.NextLeast) s choice l v w h rows = absurd h
 store_blind z (Activity.Look Look.Key) s choice l v w h rows = absurd h
 store_blind z (Activity.Look _) s choice l v w h rows = absurd h
+store_blind z (Activity.Read Read.Start) s choice l v w h rows = absurd (subst IsStore (first_loads (cell_guess choice l) l) h)
 store_blind z (Activity.Read Read.Link) s choice l v w h rows = absurd h
 store_blind z (Activity.Read _) s choice l v w h rows = absurd h
 store_blind z (Activity.EndScan answer) s choice l v w h rows = refl
 store_blind z (Activity.Put Put.Key) s choice l v w h rows = refl
 store_blind z (Activity.Put Put.Value) s choice l v w h rows = refl
 store_blind z (Activity.Put Put.Version) s choice l v w h rows = refl
+store_blind z (Activity.Insert Insert.Start) s choice l v w h rows = absurd (subst IsStore (first_loads (cell_guess choice l) l) h)
 store_blind z (Activity.Insert Insert.Set) s choice l v w h rows = refl
 store_blind z (Activity.Insert _) s choice l v w h rows = absurd h
 store_blind z (Activity.Put Put.Clear) s choice l v w h rows = refl

@@ -38,6 +38,7 @@ resting number = record {
   want = 0;
   row = 0;
   lower = 0;
+  built = 0;
   candidate = 0;
   next = None;
   upper = 0;
@@ -65,7 +66,7 @@ resting number = record {
 
 -- no row is known any more
 abbrev pub without_rows : Local → Local
-without_rows l = record l { row = 0; lower = 0; candidate = 0; next = None; upper = 0 }
+without_rows l = record l { row = 0; lower = 0; built = 0; candidate = 0; next = None; upper = 0 }
 
 -- nothing of a row is remembered or gathered, and no cell of its list is reached
 abbrev pub before_row : Local → Local

@@ -14,7 +14,7 @@ use Rattle.kw_world.specs.Sizes.{Sizes}
 use Rattle.kw_world.specs.Calls.{first_key, put_value}
 use Rattle.kw_world.specs.Transition.{Transition, at, at_rows, to}
 use Rattle.kw_world.specs.PutTransitions.{has_room, given_of, stamp_seen, cleared}
-use Rattle.kw_world.specs.ListTransitions.{link_name, to_insert, insert_from, insert_key, insert_version, insert_tried}
+use Rattle.kw_world.specs.ListTransitions.{link_name, cell_guess, begins_list, to_insert, insert_started, insert_from, insert_key, insert_version, insert_tried}
 use Rattle.kw_world.specs.EngageTransitions.{to_rebalance}
 use Rattle.kw_world.specs.declared.activity.put.Put.{Put}
 use Rattle.kw_world.specs.declared.activity.insert.Insert.{Insert}
@@ -33,6 +33,7 @@ put_lines z Put.Clear s choice l = at_rows kind.ClearPend (Pend l.row s) (Store 
 
 -- the lines of the insert of its cell
 abbrev pub insert_lines : Sizes → Insert → ℕ → Choice → Local → Transition
+insert_lines z Insert.Start s choice l = begins_list (cell_guess choice l) l (insert_started z l)
 insert_lines z Insert.Link s choice l = at kind.LoadAfter (link_name l.row l.link) Load (λ w. insert_from z (cell_of_link_word w) l)
 insert_lines z Insert.Key s choice l = at kind.LoadKey (Key l.row l.place) Load (λ w. insert_key (key_of_word w) l)
 insert_lines z Insert.Version s choice l = at kind.LoadVersion (Version l.row l.place) Load (λ w. insert_version (version_of_word w) l)

@@ -12,8 +12,8 @@ use Rattle.kw_world.specs.declared.operation.Action.TheVariants.{Load, Exchange}
 use Rattle.kw_world.specs.Sizes.{Sizes}
 use Rattle.kw_world.specs.Calls.{is_in_range}
 use Rattle.kw_world.specs.Transition.{Transition, at, to}
-use Rattle.kw_world.specs.ReadTransitions.{to_look, look_seen, help_seen, list_reached, list_key, list_version, list_past, gathering, left_over_key, to_left_over}
-use Rattle.kw_world.specs.ListTransitions.{link_name}
+use Rattle.kw_world.specs.ReadTransitions.{to_look, look_seen, help_seen, list_started, list_reached, list_key, list_version, list_past, gathering, left_over_key, to_left_over}
+use Rattle.kw_world.specs.ListTransitions.{link_name, cell_guess, begins_list}
 use Rattle.kw_world.specs.declared.activity.look.Look.{Look}
 use Rattle.kw_world.specs.declared.activity.read.Read.{Read}
 
@@ -27,6 +27,7 @@ look_lines z Look.Help s choice l = at kind.HelpStamp (Pend l.row l.looked) (Exc
 -- the lines of a reader along the list of its row, and at the cells that it remembers and did not
 -- reach
 abbrev pub read_lines : Sizes → Read → ℕ → Choice → Local → Transition
+read_lines z Read.Start s choice l = begins_list (cell_guess choice l) l (list_started z l)
 read_lines z Read.Link s choice l = at kind.LoadAfter (link_name l.row l.link) Load (λ w. list_reached z (cell_of_link_word w) l)
 read_lines z Read.Key s choice l = at kind.LoadKey (Key l.row l.place) Load (λ w. list_key (key_of_word w) l)
 read_lines z Read.Version s choice l = at kind.LoadVersion (Version l.row l.place) Load (λ w. list_version (version_of_word w) l)

@@ -1,5 +1,6 @@
 -- What follows from the events of a get or a scan that reads a row.
 use Rattle.std.specs.Prelude.{ℕ, ◌+◌, nat_lt, nat_le, ◌==◌, if◌then◌else◌, Option, Some, None, [], ◌∷◌, ◌++◌, true, length, unwrap_or}
+use Rattle.kw_words.specs.Plain.{key_of_word, cell_of_link_word}
 use Rattle.kw_words.specs.declared.pend.Pend.{Pend}
 use Rattle.kw_words.specs.declared.pend.Pend.TheVariants.{Idle, Pending, Stamped, Frozen}
 use Rattle.kw_cells.specs.declared.cell.Cell.{Cell}
@@ -20,12 +21,12 @@ use Rattle.kw_world.specs.Sizes.{Sizes}
 use Rattle.kw_world.specs.Calls.{first_key, last_key, is_in_range}
 use Rattle.kw_world.specs.Marks.{mark_of, unmarked, least_mark}
 use Rattle.kw_world.specs.Transition.{Outcome, to, leave}
-use Rattle.kw_world.specs.ListTransitions.{one_more, past_cell}
+use Rattle.kw_world.specs.ListTransitions.{behind_cell, one_more, past_cell}
 
--- Look(i): the entry of seat i; once all entries are looked at, the row's list, from its first link
--- on, at which a reader stands since it came to the row
+-- Look(i): the entry of seat i; once all entries are looked at, the row's list, at whose first link
+-- a reader stands since it came to the row
 abbrev pub to_look : Sizes → ℕ → Local → Outcome
-to_look z i l = if nat_lt i z.seats then to (Activity.Look (Look.Entry i)) l else to (Activity.Read Read.Link) l
+to_look z i l = if nat_lt i z.seats then to (Activity.Look (Look.Entry i)) l else to (Activity.Read Read.Start) l
 
 -- the cell is remembered with this version
 abbrev pub remembering : ℕ → ℕ → Local → Local
@@ -63,7 +64,7 @@ abbrev pub scan_on : Option ℕ → ℕ → Local → Outcome
 scan_on None upto l = scan_ended l
 scan_on (Some r) upto l =
     if nat_lt upto l.upper then scan_ended l
-    else to (Activity.Walk Walk.Next) (record l { row = r; lower = l.upper; want = l.upper; next = None; upper = 0 })
+    else to (Activity.Walk Walk.Next) (record l { row = r; lower = l.upper; built = 0; want = l.upper; next = None; upper = 0 })
 
 -- the pairs of the row come after those of the rows before it: each key that is still wanted and
 -- shows a value at the scan's version, by rising key. No cell of the row has a key of the range
@@ -101,6 +102,16 @@ reaching z cell l = record l { place = cell; walked = one_more z l.walked; remem
 abbrev pub list_reached : Sizes → Option ℕ → Local → Outcome
 list_reached z (Some cell) l = to (Activity.Read Read.Key) (reaching z cell l)
 list_reached z None l = to_left_over l
+
+-- Read::Start with a guess: behind a cell below the range the walk begins, and else at the row's
+-- first link
+abbrev pub list_guessed : ℕ → ℕ → Local → Outcome
+list_guessed cell key l = if nat_lt key (first_key l.call) then to (Activity.Read Read.Link) (behind_cell cell l) else to (Activity.Read Read.Link) l
+
+-- Read::Start: without a guess all is as at Read::Link
+abbrev pub list_started : Sizes → Local → Option ℕ → ℕ → Outcome
+list_started z l (Some cell) w = list_guessed cell (key_of_word w) l
+list_started z l None w = list_reached z (cell_of_link_word w) l
 
 -- the cell that was reached is gone by
 abbrev pub list_past : Local → Outcome

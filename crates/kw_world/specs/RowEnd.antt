@@ -9,6 +9,7 @@ use Rattle.kw_world.specs.Calls.{is_scan}
 -- the seat's event may be the last one of a row: it may end the walk along the list, where nothing
 -- is left that the seat remembers, or read the last cell that is
 abbrev pub IsInCells : Activity → Type 0
+IsInCells (Activity.Read Read.Start) = Unit {0}
 IsInCells (Activity.Read Read.Link) = Unit {0}
 IsInCells (Activity.Read Read.Key) = Unit {0}
 IsInCells (Activity.Read Read.LeftOverKey) = Unit {0}

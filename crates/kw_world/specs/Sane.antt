@@ -15,7 +15,7 @@ use Rattle.kw_words.specs.State.{state_of}
 use Rattle.kw_words.specs.Count.{count_of}
 use Rattle.kw_words.specs.Link.{link_of}
 use Rattle.kw_words.specs.Scan.{scan_of}
-use Rattle.kw_words.specs.Plain.{IsValue}
+use Rattle.kw_words.specs.Plain.{IsValue, built_of_word}
 use Rattle.kw_cells.specs.declared.cell.Cell as kw_cell
 use Rattle.kw_model.specs.declared.call.Call.{Call}
 use Rattle.kw_model.specs.declared.call.Call.TheVariants.{Put, Del, Get, Scan}
@@ -96,7 +96,7 @@ IsWord z (name.Scan seat) w = IsKnownWord (scan_of w)
 IsWord z (name.Pin seat) w = w < VERSION_END
 IsWord z (name.State r) w = IsRowState z (state_of w)
 IsWord z (name.Count r) w = IsGiven (count_of w)
-IsWord z (name.Least r) w = w < KEY_END
+IsWord z (name.Least r) w = built_of_word w ≤ z.cells
 IsWord z (name.Next r) w = IsKnownWord (link_of w)
 IsWord z (name.First r) w = w ≤ z.cells
 IsWord z (name.Pend r seat) w = IsEntry z (pend_of w)
@@ -217,6 +217,7 @@ pub record IsLocal (z : Sizes) (l : Local) : Type 0 where
   pub epoch : IsNumber l.epoch
   pub want : l.want < KEY_END
   pub lower : l.lower < KEY_END
+  pub built : l.built ≤ z.cells
   pub upper : l.upper < KEY_END
   pub waiting : IsVersion l.waiting
   pub drawn : IsVersion l.drawn

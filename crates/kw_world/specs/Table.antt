@@ -20,10 +20,11 @@
 -- `transition` is by cases on the activity alone, so that each line computes for every choice and
 -- every local. What a choice decides is given to a definition by cases on the choice (`begun`,
 -- `start_transition`, `walk_transition`, `answer_or_stopped`, `seek_first_transition`,
--- `before_transition`). The sizes come first. The number of rows is not among them: which operation
--- a line makes does not depend on it, since `offered` has taken every guess at a row that does not
--- exist for `Go` before an event comes here. It is given to what follows, where a search along the
--- table ends with its last row (`at_rows`); every other line leaves it out (`at`).
+-- `before_transition`), or on the cell that it guesses (`begins_list`). The sizes come first. The
+-- number of rows is not among them: which operation a line makes does not depend on it, since
+-- `offered` has taken every guess at a row that does not exist for `Go` before an event comes here.
+-- It is given to what follows, where a search along the table ends with its last row (`at_rows`);
+-- every other line leaves it out (`at`).
 use Rattle.std.specs.Prelude.{ℕ, None}
 use Rattle.kw_words.specs.declared.layout.Name.TheVariants.{Epoch, Pass, Scan}
 use Rattle.kw_words.specs.declared.kind.Kind.TheVariants as kind

@@ -30,9 +30,10 @@ offered rows Go = Go
 offered rows (Guess r) = if nat_lt r rows then Guess r else Go
 offered rows Stop = Stop
 
--- Head, and Start without a guess: the walk begins at the first row, whose least key is 0
+-- Head, and Start without a guess: the walk begins at the first row, whose least key is 0; with how
+-- many cells it was built is not asked for
 abbrev pub head_transition : Local → Transition
-head_transition l = at kind.LoadHead name.Head Load (λ w. to (Activity.Walk Walk.Next) (record l { row = row_or_first (row_linked (link_of w)); lower = 0 }))
+head_transition l = at kind.LoadHead name.Head Load (λ w. to (Activity.Walk Walk.Next) (record l { row = row_or_first (row_linked (link_of w)); lower = 0; built = 0 }))
 
 -- Start with a guess: a row in the normal state is taken, and every other one sends the walk to the
 -- first row
@@ -52,9 +53,10 @@ start_transition Go l = head_transition l
 start_transition (Guess r) l = at kind.LoadState (name.State r) Load (λ w. guess_seen r (state_of w) l)
 start_transition Stop l = head_transition l
 
--- Walk::GuessedLeast: the guessed row serves if the wanted key is not below its least key
-abbrev pub guessed_least : ℕ → Local → Outcome
-guessed_least least l = if nat_le least l.want then to (Activity.Walk Walk.Next) (record l { lower = least }) else to (Activity.Walk Walk.First) l
+-- Walk::GuessedLeast: the guessed row serves if the wanted key is not below its least key; then it
+-- is known as well with how many cells it was built
+abbrev pub guessed_least : ℕ → ℕ → Local → Outcome
+guessed_least least built l = if nat_le least l.want then to (Activity.Walk Walk.Next) (record l { lower = least; built = built }) else to (Activity.Walk Walk.First) l
 
 -- Arrive has no event: the walk has found the row of the wanted key
 abbrev pub arrive : Option Call → Local → Outcome
@@ -71,9 +73,9 @@ link_reached (Some r) l = to (Activity.Walk Walk.NextLeast) (record l { candidat
 
 -- Walk::NextLeast: the walk goes on to a row whose least key is at most the wanted key, and else
 -- ends before it
-abbrev pub walk_least : ℕ → Local → Outcome
-walk_least least l =
-    if nat_le least l.want then to (Activity.Walk Walk.Next) (record l { row = l.candidate; lower = least })
+abbrev pub walk_least : ℕ → ℕ → Local → Outcome
+walk_least least built l =
+    if nat_le least l.want then to (Activity.Walk Walk.Next) (record l { row = l.candidate; lower = least; built = built })
     else arrive l.call (record l { next = Some l.candidate; upper = least })
 
 -- the choice is to stop

@@ -94,11 +94,17 @@ version_in None = None
 abbrev pub row_written : Local → Outcome
 row_written l = if has_more l then to (Activity.Rebalance (Rebalance.Write Write.Count)) (at_infant (l.rebalance.at + 1) l) else to (Activity.Rebalance (Rebalance.Replace Replace.Start)) l
 
--- this cell is written: its key first, and its version alone where the row has no cell for it
+-- what is written at this place: a cell, its key first, and of a place without one its version
+-- alone, by which nothing stands there. The link after it stays as it was in an earlier use of the
+-- row: no walk comes to it before a put has stored there the link after its own cell
 abbrev pub to_write_cell : Sizes → ℕ → Local → Outcome
 to_write_cell z j l =
     if nat_lt j z.cells then (if nat_lt j (length (infant_cells l)) then to (Activity.Rebalance (Rebalance.Write (Write.Key j))) l else to (Activity.Rebalance (Rebalance.Write (Write.Version j))) l)
     else row_written l
+
+-- the link after this cell is written, where the row has a cell here, and else the next place
+abbrev pub to_write_after : Sizes → ℕ → Local → Outcome
+to_write_after z j l = if nat_lt j (length (infant_cells l)) then to (Activity.Rebalance (Rebalance.Write (Write.After j))) l else to_write_cell z (j + 1) l
 
 -- this entry is written, and after all entries the cells
 abbrev pub to_write_entry : Sizes → ℕ → Local → Outcome

@@ -15,8 +15,8 @@ pub enum Choice {
     Begin(Call),
     /// The seat goes on.
     Go,
-    /// A walk begins at this row, where it may. A row that is not one of the table's is not
-    /// offered.
+    /// A walk begins at this row, where it may, and a walk along a row behind this cell. A number
+    /// that is not one of the table's rows is not offered.
     Guess(u32),
     /// A scan ends before its time, where it may.
     Stop,

@@ -7,6 +7,7 @@
 ghost use Rattle.std.specs.Prelude.{◌≡◌};
 ghost use Rattle.kw_world.specs.Local.{resting, without_rows, before_row};
 ghost use Rattle.kw_world.specs.WalkTransitions.{is_stopped};
+ghost use Rattle.kw_world.specs.ListTransitions.{cell_guess};
 ghost use Rattle.kw_world.specs.Parts.{part_of};
 
 use crate::activity::Activity;
@@ -40,6 +41,9 @@ pub struct Local {
     pub row: u32,
     /// The least key that this row may hold.
     pub lower: u32,
+    /// With how many cells this row was built, or less where that was not asked for; at most the
+    /// number of cells.
+    pub built: u32,
     /// The row whose least key the walk asks for.
     pub candidate: u32,
     /// The row after the one at which the walk ended; none where that was the last.
@@ -112,6 +116,7 @@ impl Clone for Local {
             want: self.want,
             row: self.row,
             lower: self.lower,
+            built: self.built,
             candidate: self.candidate,
             next: self.next,
             upper: self.upper,
@@ -153,6 +158,7 @@ impl Local {
             want: 0,
             row: 0,
             lower: 0,
+            built: 0,
             candidate: 0,
             next: None,
             upper: 0,
@@ -189,6 +195,7 @@ impl Local {
         self.want = 0;
         self.row = 0;
         self.lower = 0;
+        self.built = 0;
         self.candidate = 0;
         self.next = None;
         self.upper = 0;
@@ -220,6 +227,7 @@ impl Local {
     {
         self.row = 0;
         self.lower = 0;
+        self.built = 0;
         self.candidate = 0;
         self.next = None;
         self.upper = 0;
@@ -240,6 +248,17 @@ impl Local {
         ensures { result ≡ is_stopped choice self.now }
     {
         choice.is_stop() && is_scan(self.call) && self.has_read
+    }
+
+    /// The cell behind which a walk along its row is to begin with this choice: one of those with
+    /// which the row was built. Any other choice names none.
+    pub fn cell_guess(&self, choice: Choice) -> Option<u32>
+        ensures { result ≡ cell_guess choice self.now }
+    {
+        match choice {
+            Choice::Guess(cell) if cell < self.built => Some(cell),
+            _ => None,
+        }
     }
 
     /// The part of the table that has the event with this choice. A walk that is stopped does not

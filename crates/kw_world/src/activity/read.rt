@@ -1,11 +1,15 @@
 //! A reader goes along the list of its row.
 //!
-//! Then it reads the cells that it remembers of the entries and did not reach there.
+//! It begins at the row's first link, or behind a cell with which the row was built. Then it reads
+//! the cells that it remembers of the entries and did not reach there.
 
 /// A reader goes along the list of its row.
 #[derive(Clone, Copy, Debug, PartialEq, Eq)]
 pub enum Read {
-    /// Loads the link of the row's list at which a reader stands, once all entries are looked at.
+    /// Begins the walk along the row's list, once all entries are looked at: loads the row's first
+    /// link, or the key of a guessed cell.
+    Start,
+    /// Loads the link of the row's list at which a reader stands.
     Link,
     /// Loads the key of the cell that was reached there.
     Key,

@@ -21,6 +21,7 @@ in_range = record {
   epoch = (omega arith, omega arith);
   want = omega arith;
   lower = omega arith;
+  built = omega arith;
   upper = omega arith;
   waiting = (omega arith, omega arith);
   drawn = (omega arith, omega arith);

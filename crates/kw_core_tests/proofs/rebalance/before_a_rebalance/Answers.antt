@@ -36,6 +36,7 @@ starts_known z rows sized =
         epoch = k.ranges.epoch;
         want = k.ranges.want;
         lower = k.ranges.lower;
+        built = k.ranges.built;
         upper = k.ranges.upper;
         waiting = k.ranges.waiting;
         drawn = k.ranges.drawn;

@@ -52,7 +52,7 @@ store_infant-requires-in-loop-place-3 c =
     let next = advances_as (cell_next c.loop-place.place c.args.local.now (omega (arith, c.infant_cells-cells.ensures.few)) within) c.loop-place.invariant.on in
     let keyed = key_written c.args.local.now c.loop-place.place next c.store_infant.ensures in
     let valued = value_written c.args.local.now c.loop-place.place keyed c.store_infant-in-loop-place.ensures in
-    asks_word c.args.local.now (Write.After c.loop-place.place) (version_written c.args.local.now c.loop-place.place valued c.store_infant-in-loop-place-2.ensures).follows (ap (λ row. After row c.loop-place.place) c.infant-row.ensures)
+    asks_word c.args.local.now (Write.After c.loop-place.place) (version_written c.args.local.now c.loop-place.place within valued c.store_infant-in-loop-place-2.ensures).follows (ap (λ row. After row c.loop-place.place) c.infant-row.ensures)
     c.rising_after_word-behind.ensures refl
 
 pub overflow_add-place : goal.overflow_add-place
@@ -64,7 +64,7 @@ loop-place-preserved c =
     let next = advances_as (cell_next c.loop-place.place c.args.local.now (omega (arith, c.infant_cells-cells.ensures.few)) within) c.loop-place.invariant.on in
     let keyed = key_written c.args.local.now c.loop-place.place next c.store_infant.ensures in
     let valued = value_written c.args.local.now c.loop-place.place keyed c.store_infant-in-loop-place.ensures in
-    let versioned = version_written c.args.local.now c.loop-place.place valued c.store_infant-in-loop-place-2.ensures in
+    let versioned = version_written c.args.local.now c.loop-place.place within valued c.store_infant-in-loop-place-2.ensures in
     record { within = omega (arith, within); on = link_written c.args.local.now c.loop-place.place versioned c.store_infant-in-loop-place-3.ensures }
 
 pub loop-place-smaller : goal.loop-place-smaller

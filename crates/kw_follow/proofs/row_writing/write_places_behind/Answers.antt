@@ -1,12 +1,12 @@
 use Rattle.std.proofs.Common.{◌≤◌, ◌∙◌, ℕ, arith, ap, length, refl, subst, sym}
 use Rattle.std.proofs.lemmas.Option.{slice_get_past}
-use Rattle.kw_words.specs.declared.layout.Name.TheVariants.{After, Version}
-use Rattle.kw_words.specs.Plain.{cell_link_word, version_word}
+use Rattle.kw_words.specs.declared.layout.Name.TheVariants.{Version}
+use Rattle.kw_words.specs.Plain.{version_word}
 use Rattle.kw_world.specs.declared.activity.rebalance.write.Write.TheVariants as Write
-use Rattle.kw_world.specs.WriteTransitions.{infant_cells, listed_behind, version_in}
+use Rattle.kw_world.specs.WriteTransitions.{infant_cells, version_in}
 use Rattle.kw_follow.specs.BuildsOn.{at_cell}
 use Rattle.kw_follow.specs.Following.{Follows}
-use Rattle.kw_follow.proofs.RowWriting.{asks_word, behind_next, link_written, version_written}
+use Rattle.kw_follow.proofs.RowWriting.{asks_word, behind_next, none_written}
 use Rattle.kw_follow.proofs.row_writing.write_places_behind.Goals as goal
 use Rattle.kw_follow.proofs.Advancing.{advances_as, advances_none}
 
@@ -23,15 +23,8 @@ store_infant-requires c =
     asks_word c.args.local.now (Write.Version c.loop-place.place) next.follows (ap (λ row. Version row c.loop-place.place) c.infant-row.ensures)
     (c.pack_version-none.ensures.value ∙ ap (λ o. version_word (version_in o)) (sym (slice_get_past (infant_cells c.args.local.now) c.loop-place.place behind))) refl
 
-pub store_infant-requires-in-loop-place : goal.store_infant-requires-in-loop-place
-store_infant-requires-in-loop-place c =
-    let behind : length (infant_cells c.args.local.now) ≤ c.loop-place.place = omega (arith, ap length c.infant_cells-cells.ensures.cells) in
-    let next = advances_as (behind_next c.loop-place.place c.args.local.now (omega arith) behind) c.loop-place.invariant in
-    asks_word c.args.local.now (Write.After c.loop-place.place) (version_written c.args.local.now c.loop-place.place next c.store_infant.ensures).follows (ap (λ row. After row c.loop-place.place) c.infant-row.ensures)
-    (c.pack_cell_link-nowhere.ensures.value ∙ ap (λ o. cell_link_word (listed_behind (infant_cells c.args.local.now) c.loop-place.place o)) (sym (slice_get_past (infant_cells c.args.local.now) c.loop-place.place behind))) refl
-
 pub loop-place-preserved : goal.loop-place-preserved
 loop-place-preserved c =
     let behind : length (infant_cells c.args.local.now) ≤ c.loop-place.place = omega (arith, ap length c.infant_cells-cells.ensures.cells) in
     let next = advances_as (behind_next c.loop-place.place c.args.local.now (omega arith) behind) c.loop-place.invariant in
-    link_written c.args.local.now c.loop-place.place (version_written c.args.local.now c.loop-place.place next c.store_infant.ensures) c.store_infant-in-loop-place.ensures
+    none_written c.args.local.now c.loop-place.place behind next c.store_infant.ensures

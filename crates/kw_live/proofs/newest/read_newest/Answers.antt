@@ -1,12 +1,15 @@
-use Rattle.std.proofs.Common.{Some, ap, refl, sym, ◌∙◌}
-use Rattle.kw_live.proofs.NewestCell.{newest_above, newest_begins, newest_counts, newest_ends, newest_gathers, newest_gathers_fewer, newest_led, newest_goes_by, newest_goes_by_fewer, newest_ranged, newest_versioned, reading}
+use Rattle.std.proofs.Common.{Some, [], ap, refl, sym, ◌∙◌}
+use Rattle.kw_live.proofs.NewestCell.{newest_above, newest_at, newest_begins, newest_counts, newest_ends, newest_gathers, newest_gathers_fewer, newest_led, newest_goes_by, newest_goes_by_fewer, newest_ranged, newest_versioned, reading}
 use Rattle.kw_live.proofs.newest.read_newest.Goals as goal
 
 pub loop-cell-init : goal.loop-cell-init
-loop-cell-init c = newest_begins c.args.way c.first-cursor.result c.first-cursor.ensures c.requires
+loop-cell-init c = newest_begins c.args.way c.first-first.result c.begin_list-cursor.result (c.begin_list-cursor.ensures (reading c.args.way []) (newest_at c.args.way c.first-first.result c.first-first.ensures c.requires))
+
+pub begin_list-cursor-requires : goal.begin_list-cursor-requires
+begin_list-cursor-requires c = (reading c.args.way [], newest_at c.args.way c.first-first.result c.first-first.ensures c.requires)
 
 pub load_cell_link-link-requires : goal.load_cell_link-link-requires
-load_cell_link-link-requires c = (reading c.args.way c.loop-cell.invariant.cells, c.loop-cell.invariant.gets.follows)
+load_cell_link-link-requires c = (c.loop-cell.invariant.activity, reading c.args.way c.loop-cell.invariant.cells, c.loop-cell.invariant.loads, c.loop-cell.invariant.gets.follows)
 
 pub returns-in_default : goal.returns-in_default
 returns-in_default c = newest_ends c.loop-cell.invariant c.load_cell_link-link.ensures c.shown_by.result c.shown_by.ensures (sym c.unpack_cell_link.ensures.value ∙ c.in_default.is)

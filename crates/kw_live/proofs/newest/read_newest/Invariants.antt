@@ -7,7 +7,7 @@ use Rattle.kw_live.proofs.NewestCell.{KeepsNewest, reading}
 use Rattle.kw_live.proofs.newest.read_newest.Given as goal
 
 abbrev pub invariant-loop-cell : goal.invariant-loop-cell
-invariant-loop-cell l = KeepsNewest l.shared l.initial.pass l.way l.pass l.cursor l.newest
+invariant-loop-cell l = KeepsNewest l.shared l.fn.pass l.way l.pass l.cursor l.newest
 
 abbrev pub decreases-loop-cell : goal.decreases-loop-cell
 decreases-loop-cell l = reads_ahead (with_cursor (Activity.Read Read.Link) l.cursor (reading l.way []))

@@ -11,8 +11,8 @@ go_put-requires-clause-putting c = sym c.is_putting.ensures ∙ c.loop-pass-test
 pub loop-pass-init : goal.loop-pass-init
 loop-pass-init c = tries_first _ _ _ c.requires.follows c.requires.activity
 
-pub loop-pass-preserved-in-Link-1 : goal.loop-pass-preserved-in-Link-1
-loop-pass-preserved-in-Link-1 c = (tries_further _ _ _ _ _ _ c.loop-pass.invariant c.go_by_lesser.ensures).trying
+pub loop-pass-preserved-in-Insert-1 : goal.loop-pass-preserved-in-Insert-1
+loop-pass-preserved-in-Insert-1 c = (tries_further _ _ _ _ _ _ c.loop-pass.invariant c.go_by_lesser.ensures).trying
 
 pub loop-pass-smaller : goal.loop-pass-smaller
 loop-pass-smaller c =

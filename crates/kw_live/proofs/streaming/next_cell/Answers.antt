@@ -12,7 +12,8 @@ loop-cell-init c = (refl, λ cells streams. stream_begins _ _ _ _ cells streams)
 pub load_cell_link-link-requires : goal.load_cell_link-link-requires
 load_cell_link-link-requires c =
     let cells = c.requires.streams.0 in
-    (record c.args.local.now { gathered = cells }, (c.loop-cell.invariant.1 cells c.requires.streams.1).streams.follows)
+    let here = (c.loop-cell.invariant.1 cells c.requires.streams.1).streams in
+    (here.activity, record c.args.local.now { gathered = cells }, here.loads, here.follows)
 
 pub returns-in_default : goal.returns-in_default
 returns-in_default c = λ cells streams. stream_ends c.args.first c.args.upto c.requires.scan c.requires.leads cells (c.loop-cell.invariant.1 cells streams) c.load_cell_link-link.ensures _ _

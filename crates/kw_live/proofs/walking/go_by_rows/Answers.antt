@@ -18,10 +18,10 @@ pub load_row_least-least-requires : goal.load_row_least-least-requires
 load_row_least-least-requires c = (record c.loop-row.local { gathered = c.loop-row.invariant.cells; candidate = c.in-Some.row }, (going_by_led c.loop-row.local c.loop-row.invariant c.load_row_link-link.ensures c.in-Some.row (sym c.linked.ensures ∙ c.in-Some.is)).follows, refl)
 
 pub loop-row-smaller : goal.loop-row-smaller
-loop-row-smaller c = (going_by_taken c.loop-row.local c.loop-row.invariant c.in-Some.row (sym c.linked.ensures ∙ c.in-Some.is) c.load_row_link-link.ensures c.load_row_least-least.ensures _ c.unpack_key-key.ensures.value c.if-key-local.true).fewer
+loop-row-smaller c = (going_by_taken c.loop-row.local c.loop-row.invariant c.in-Some.row (sym c.linked.ensures ∙ c.in-Some.is) c.load_row_link-link.ensures c.load_row_least-least.ensures _ _ c.unpack_key-key.ensures.value c.unpack_built-local.ensures c.if-key-local.true).fewer
 
 pub loop-row-preserved : goal.loop-row-preserved
-loop-row-preserved c = going_by_on c.loop-row.local c.loop-row.invariant c.in-Some.row (sym c.linked.ensures ∙ c.in-Some.is) c.load_row_link-link.ensures c.load_row_least-least.ensures _ c.unpack_key-key.ensures.value c.if-key-local.true
+loop-row-preserved c = going_by_on c.loop-row.local c.loop-row.invariant c.in-Some.row (sym c.linked.ensures ∙ c.in-Some.is) c.load_row_link-link.ensures c.load_row_least-least.ensures _ _ c.unpack_key-key.ensures.value c.unpack_built-local.ensures c.if-key-local.true
 
 pub returns-else-key-local-clause-walks : goal.returns-else-key-local-clause-walks
 returns-else-key-local-clause-walks c = (arrives_before c.loop-row.local c.loop-row.invariant c.in-Some.row (sym c.linked.ensures ∙ c.in-Some.is) c.load_row_link-link.ensures c.load_row_least-least.ensures _ c.unpack_key-key.ensures.value c.if-key-local.false _ _ c.see_row_least.ensures).walks

@@ -7,7 +7,7 @@
 pub enum Write {
     /// Stores the count of the row at hand, of those taken.
     Count,
-    /// Stores its least key.
+    /// Stores its least key, and how many cells it is built with.
     Least,
     /// Stores the link to the row after it.
     Next,
@@ -21,6 +21,6 @@ pub enum Write {
     Value(u32),
     /// Stores the version of this cell, and none where the row has no cell for it.
     Version(u32),
-    /// Stores the link after this cell.
+    /// Stores the link after this cell, which the row has.
     After(u32),
 }
