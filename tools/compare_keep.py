@@ -6,10 +6,11 @@
   tools/compare_keep.py 10000 --model FILE
       a Python file with the same `Cell`, `keep` and `even_rows`
 
-A list has up to 128 cells of few or many keys, in any order, and up to 31 needed versions. A
-program of one crate, which is made in a folder of its own beside copies of kw_cells and kw_words,
-answers the lists under `rt try`, so nothing is proved here. The last line says how many agreed; the
-status is 1 where one did not."""
+A list has up to 128 cells of few or many keys and up to 31 needed versions. Half of them stand in
+the order of a row's list, as a rebalance gives them, the others in any. A program of one crate,
+which is made in a folder of its own beside copies of kw_cells and what it stands on, answers the
+lists under `rt try`, so nothing is proved here. The last line says how many agreed; the status is 1
+where one did not."""
 
 import argparse
 import importlib.util
@@ -29,7 +30,7 @@ PROGRAM = """//! Answers lists of cells: what a rebuild keeps of them, and where
 #![tactic(auto)]
 
 use kw_cells::cell::Cell;
-use kw_cells::keep::keep;
+use kw_cells::keep::{Kept, keep};
 use kw_cells::pack::pack_rows;
 use std::io;
 
@@ -56,7 +57,8 @@ fn main(rt: HostRuntime) -> io::Result<()> {
         for word in words {
             cells.push(cell_of(word))?;
         }
-        let kept = keep(&cells, &needed);
+        let mut kept = Kept::new();
+        keep(&cells, &needed, &mut kept);
         for cell in kept.as_slice() {
             print!(rt; "{}:{}:{}:", cell.key, cell.version, cell.place)?;
             match cell.value {
@@ -130,6 +132,8 @@ def random_list(rng):
     if cells and len(cells) < GATHERED and rng.random() < 0.1:
         cells.append(rng.choice(cells))
     rng.shuffle(cells)
+    if rng.random() < 0.5:
+        cells.sort(key=lambda cell: (cell.key, -cell.version, -cell.place))
     near = [cell.version for cell in cells] + [rng.randrange(versions) for _ in range(4)]
     count = rng.choice((0, 1, 2, 4, 8, rng.randrange(BUILT)))
     return cells, [max(0, min(2**64 - 1, rng.choice(near) + rng.randrange(-1, 2))) for _ in range(count)]
@@ -160,12 +164,12 @@ def model_of(path):
 
 def make_crates(folder):
     """The program's crate, with copies of those that it stands on."""
-    for name in ("kw_words", "kw_cells"):
+    for name in ("kw_model", "kw_words", "kw_cells"):
         shutil.copytree(TOP / "crates" / name, folder / "crates" / name, ignore=shutil.ignore_patterns("out", "must-fail"))
     source = folder / "crates" / "lists" / "src" / "main.rt"
     source.parent.mkdir(parents=True)
     source.write_text(PROGRAM)
-    (folder / "crates.txt").write_text("kw_words:\nkw_cells: kw_words arrayvec\nlists: kw_cells\n")
+    (folder / "crates.txt").write_text("kw_model:\nkw_words:\nkw_cells: kw_model kw_words arrayvec\nlists: kw_cells\n")
     (folder / "HANDLES").write_text("Handles allowed: none.\n")
     return source.parent.parent
 

@@ -8,8 +8,7 @@ use Rattle.std.proofs.lemmas.List.Sums.{length-filter, count_by-le-length}
 use Rattle.std.proofs.lemmas.Bool.{false≢true, and_parts, and_from, or_cases, or_left, or_right, not-true, not_from_false, false_from_ne_true, true_from_ne_false, eqb-true, leb-true, eq-eqb, le-leb}
 use Rattle.std.proofs.lemmas.Bool.Decides.{nat_tests}
 use Rattle.kw_cells.specs.Cells.{is_later, IsBest, AreApart}
-use Rattle.kw_cells.specs.Kept.{is_below, AreRising, IsNewest, IsChosen, IsKept, IsKeptList, is_newest, is_best, is_chosen, is_kept, with_rising, rising_of, kept_of}
-use Rattle.kw_cells.specs.Ordered.{is_before}
+use Rattle.kw_cells.specs.Kept.{is_before, is_below, AreRising, IsNewest, IsChosen, IsKept, IsKeptList, is_newest, is_best, is_chosen, is_kept, with_rising, rising_of, kept_of}
 use Rattle.kw_cells.specs.declared.cell.Cell.{Cell}
 
 -- At most one list is the kept list.

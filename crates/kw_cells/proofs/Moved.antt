@@ -10,22 +10,23 @@ use Rattle.std.proofs.Math.Seq.{take-length}
 use Rattle.std.proofs.lemmas.Bool.Decides.{nat_tests}
 use Rattle.kw_cells.specs.Cells.{is_later, IsBest, AreApart}
 use Rattle.kw_cells.specs.Kept.{IsNewest, IsChosen, IsKept, IsKeptList}
-use Rattle.kw_cells.specs.Ordered.{is_before, IsOrdered}
+use Rattle.kw_cells.specs.InOrder.{stands_before}
+use Rattle.kw_cells.specs.Ordered.{IsOrdered}
 use Rattle.kw_cells.specs.declared.cell.Cell.{Cell}
 
--- is_before is an order
-pub before_orders : IsStrictWeakOrder is_before
+-- standing before is an order
+pub before_orders : IsStrictWeakOrder stands_before
 before_orders = record { one_way = one_way; chain = chain }
   where
-    one_way : (x y : Cell) → is_before x y ≡ true → is_before y x ≡ false
+    one_way : (x y : Cell) → stands_before x y ≡ true → stands_before y x ≡ false
     one_way x y e = grind (arith, nat_tests)
 
-    chain : (x y z : Cell) → is_before x y ≡ false → is_before y z ≡ false → is_before x z ≡ false
+    chain : (x y z : Cell) → stands_before x y ≡ false → stands_before y z ≡ false → stands_before x z ≡ false
     chain x y z e f = grind (arith, nat_tests)
 
 -- what the sort made is in order
-pub in_order : (xs : List Cell) → IsSortedBy is_before xs → IsOrdered xs
-in_order xs h = sorted_far is_before before_orders xs h
+pub in_order : (xs : List Cell) → IsSortedBy stands_before xs → IsOrdered xs
+in_order xs h = sorted_far stands_before before_orders xs h
 
 -- cells that can be told apart still can be
 pub apart_moved : (xs ys : List Cell) → IsPermutation xs ys → AreApart xs → AreApart ys

@@ -2,12 +2,15 @@
 use Rattle.std.specs.Prelude.{ℕ, ◌≡◌, ◌≤◌, ◌==◌, ◌&&◌, ◌||◌, ◌⊎◌, ◌↔◌, not, nat_lt, nat_le, Bool, true, false, if◌then◌else◌, List, [], ◌∷◌, None, IsSome, is_some, All, AllPairs, Any, Contains, filter, count_by}
 use Rattle.std.specs.List.{list_any}
 use Rattle.kw_cells.specs.Cells.{is_later, IsBest, best_of, shown_at}
-use Rattle.kw_cells.specs.Ordered.{is_before}
 use Rattle.kw_cells.specs.declared.cell.Cell.{Cell}
 
 -- by key, then version
 abbrev pub is_below : Cell → Cell → Bool
 is_below c d = nat_lt c.key d.key || (c.key == d.key && nat_lt c.version d.version)
+
+-- by key, then version, then place
+abbrev pub is_before : Cell → Cell → Bool
+is_before c d = nat_lt c.key d.key || (c.key == d.key && is_later d c)
 
 -- strictly rising by key and version
 abbrev pub AreRising : List Cell → Type 0

@@ -6,7 +6,7 @@
 ghost use Rattle.std.specs.Prelude.{ℕ, ◌≡◌, ◌+◌, ◌≤◌, ◌<◌, [], ◌∷◌, IsTrue, IsNone, IfSome, IfNone, All, MatchOption, if◌then◌else◌, ◌↔◌};
 ghost use Rattle.std.specs.Ordering.{is_lt};
 ghost use Rattle.kw_cells.specs.Cells.{is_later, fits, best_of, IsBest, shown_at, pairs_of, IsLeastKey, IsNextPair};
-ghost use Rattle.kw_cells.specs.Ordered.{is_before};
+ghost use Rattle.kw_cells.specs.InOrder.{stands_before};
 
 use std::cmp::Ordering;
 
@@ -35,17 +35,17 @@ impl Cell {
         self.version > other.version || self.version == other.version && self.place > other.place
     }
 
-    /// By key, then version, then place.
+    /// By key, then by falling version, then by falling place: the order of a row's list.
     pub(crate) fn order(&self, other: &Cell) -> Ordering
-        ensures { is_lt result ≡ is_before self.now other.now }
+        ensures { is_lt result ≡ stands_before self.now other.now }
     {
         if self.key != other.key {
             return self.key.cmp(&other.key);
         }
         if self.version != other.version {
-            return self.version.cmp(&other.version);
+            return other.version.cmp(&self.version);
         }
-        self.place.cmp(&other.place)
+        other.place.cmp(&self.place)
     }
 
     /// Whether this is a cell of the key with a version at most `version`.

@@ -35,11 +35,11 @@ pub type RowCuts = ArrayVec<usize, MOST_STARTS>;
 /// The cells are strictly rising by key and version, and no key has more than `BUILT` of them.
 /// Takes no memory.
 pub fn pack_rows(kept: &Kept) -> RowCuts
-    requires rising { AreRising kept.now.items }
-    requires few { HasFew BUILT kept.now.items }
-    ensures even { AreEven BUILT kept.now.items result.items }
-    ensures is { result.items ≡ starts_of BUILT kept.now.items }
-    ensures filled { AreFilled BUILT kept.now.items result.items }
+    requires rising { AreRising kept.now }
+    requires few { HasFew BUILT kept.now }
+    ensures even { AreEven BUILT kept.now result.items }
+    ensures is { result.items ≡ starts_of BUILT kept.now }
+    ensures filled { AreFilled BUILT kept.now result.items }
     ensures rows { length result.items ≤ MOST_STARTS }
 {
     let cells = kept.as_slice();

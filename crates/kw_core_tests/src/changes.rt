@@ -7,7 +7,6 @@ ghost use Rattle.kw_world.specs.Sizes.{product};
 ghost use Rattle.kw_world.specs.declared.activity.Activity.{Activity};
 
 use kw_cells::cell::Cell;
-use kw_cells::keep::Kept;
 use kw_cells::pack::RowCuts;
 use kw_core::change::{Copied, Happening, Settled, change_of, copied_cell, settled_scan};
 use kw_core::history::{Change, History};
@@ -151,7 +150,7 @@ fn at_a_copy(alloc: Global, cell: u32) -> Local
     requires { cell < CELLS }
     ensures ranges { IsLocal product result }
 {
-    let mut kept = Kept::new();
+    let mut kept = KeptCells::new();
     kept.push(Cell {
         key: 45,
         version: 1,
@@ -162,7 +161,7 @@ fn at_a_copy(alloc: Global, cell: u32) -> Local
     starts.push(0);
     let mut local = Local::idle(alloc);
     local.activity = Activity::Rebalance(Rebalance::Write(Write::Version(cell)));
-    local.rebalance.kept = KeptCells::of(kept);
+    local.rebalance.kept = kept;
     local.rebalance.starts = Starts::of(starts);
     local.rebalance.taken.push(3);
     local

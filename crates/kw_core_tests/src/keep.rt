@@ -8,7 +8,7 @@ ghost use Rattle.std.specs.Prelude.{◌<◌, IsTrue};
 ghost use Rattle.kw_cells.specs.Cells.{AreApart};
 
 use kw_cells::cell::Cell;
-use kw_cells::keep::keep;
+use kw_cells::keep::{Kept, keep};
 use kw_cells::limits::{MOST_GATHERED, MOST_NEEDED};
 use kw_cells::pack::pack_rows;
 use kw_words::sizes::BUILT;
@@ -54,7 +54,8 @@ fn expect_kept(rt: &impl Abort, cells: &[Cell], needed: &[u64], want: &[Cell]) -
     if cells.len() > MOST_GATHERED || !are_apart(cells) {
         return Err("no row has these cells")?;
     }
-    let kept = keep(cells, needed);
+    let mut kept = Kept::new();
+    keep(cells, needed, &mut kept);
     assert_eq!(rt; kept.as_slice(), want, "for {needed:?}");
     Ok(())
 }
@@ -70,8 +71,9 @@ fn expect_starts(
     if cells.len() > MOST_GATHERED || !are_apart(cells) || needed.len() >= BUILT {
         return Err("no row has these cells")?;
     }
-    let kept = keep(cells, needed);
-    if kept.len() != count {
+    let mut kept = Kept::new();
+    keep(cells, needed, &mut kept);
+    if kept.as_slice().len() != count {
         return Err("another number of cells is kept")?;
     }
     let starts = pack_rows(&kept);

@@ -8,7 +8,6 @@ ghost use Rattle.kw_world.specs.declared.event.Choice.{Choice};
 ghost use Rattle.kw_world.specs.declared.part.Part.{Part};
 
 use kw_cells::cell::Cell;
-use kw_cells::keep::Kept;
 use kw_cells::pack::RowCuts;
 use kw_model::memory::Memory;
 use kw_step_rebal::operation::rebalance_operation;
@@ -362,7 +361,7 @@ fn with_new_rows(alloc: Global, rebalance: Rebalance, at: usize) -> Local
     ensures room { HasRoom product result }
     ensures part { part_of Choice.Go result ≡ Part.Rebalance }
 {
-    let mut kept = Kept::new();
+    let mut kept = KeptCells::new();
     kept.push(tombstone(45, 1));
     kept.push(tombstone(45, 3));
     kept.push(tombstone(47, 2));
@@ -375,7 +374,7 @@ fn with_new_rows(alloc: Global, rebalance: Rebalance, at: usize) -> Local
     local.row = 2;
     local.lower = 40;
     local.rebalance.after = Some(7);
-    local.rebalance.kept = KeptCells::of(kept);
+    local.rebalance.kept = kept;
     local.rebalance.starts = Starts::of(starts);
     local.rebalance.taken.push(3);
     local.rebalance.taken.push(5);

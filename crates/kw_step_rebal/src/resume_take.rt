@@ -23,7 +23,7 @@ use kw_world::activity::rebalance::gather::Gather;
 use kw_world::activity::rebalance::seek::Seek;
 use kw_world::event::StepDone;
 use kw_world::local::Local;
-use kw_world::rebuilt::{KeptCells, Starts};
+use kw_world::rebuilt::Starts;
 
 // The seat begins to walk along the full row's list, and no cell is gathered.
 pub(crate) fn to_take(local: &mut Local) -> StepDone
@@ -159,19 +159,19 @@ fn to_left(local: &mut Local) -> StepDone
     }
 }
 
-// The seat chooses the cells that the new rows get, and where each of these starts among them. No
-// row is taken as yet.
+// The seat chooses the cells that the new rows get, and where each of these starts among them. The
+// cells go into its own list, and no other is made. No row is taken as yet.
 fn plan(local: &mut Local)
     requires gathered { length local.old.rebalance.gathered ≤ CELLS }
     requires needed { length local.old.rebalance.needed ≤ SEATS }
     ensures { local.new ≡ planned product local.old }
 {
-    let kept = keep(
+    keep(
         local.rebalance.gathered.as_slice(),
         local.rebalance.needed.as_slice(),
+        &mut local.rebalance.kept,
     );
-    let starts = pack_rows(&kept);
-    local.rebalance.kept = KeptCells::of(kept);
+    let starts = pack_rows(&local.rebalance.kept);
     local.rebalance.starts = Starts::of(starts);
     local.rebalance.taken.clear();
     local.rebalance.at = 0;

@@ -5,13 +5,14 @@ use Rattle.std.proofs.lemmas.List.{take_more, take_all}
 use Rattle.std.proofs.lemmas.List.Elements.{All-push}
 use Rattle.kw_cells.specs.declared.cell.Cell.{Cell}
 use Rattle.kw_cells.proofs.Rising.{any_cell}
-use Rattle.kw_cells.specs.Ordered.{is_before, IsOrdered}
+use Rattle.kw_cells.specs.InOrder.{stands_before}
+use Rattle.kw_cells.specs.Ordered.{IsOrdered}
 use Rattle.kw_cells.proofs.Moved.{before_orders, in_order, refilled}
 use Rattle.kw_cells.proofs.keep.in_order.Goals as goal
 
 pub returns-clause-ordered : goal.returns-clause-ordered
 returns-clause-ordered c =
-    let o = in_order c.sort_unstable_by.new.self (c.sort_unstable_by.ensures.sorted is_before before_orders (answers_always _ _ _ (λ f a r g h. search rules))) in
+    let o = in_order c.sort_unstable_by.new.self (c.sort_unstable_by.ensures.sorted stands_before before_orders (answers_always _ _ _ (λ f a r g h. search rules))) in
     subst IsOrdered (sym (refilled c.loop-cell.ordered.items c.sort_unstable_by.new.self (c.sort_unstable_by.ensures.len ∙ ap length c.as_mut_slice.ensures.value))) o
 
 pub loop-cell-preserved : goal.loop-cell-preserved

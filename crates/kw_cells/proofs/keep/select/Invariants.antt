@@ -1,6 +1,14 @@
--- What holds of the cells gone through.
-use Rattle.kw_cells.proofs.Passing.{IsSoFar}
+-- The keys gone through, and that one begins behind them.
+use Rattle.std.proofs.Common.{ℕ, ◌≡◌, ◌<◌, ◌+◌, ◌-◌, length, get_or}
+use Rattle.kw_cells.specs.Ordered.{IsKeptTo}
+use Rattle.kw_cells.specs.declared.cell.Cell.{Cell}
 use Rattle.kw_cells.proofs.keep.select.Given as goal
 
-abbrev pub invariant-loop-place : goal.invariant-loop-place
-invariant-loop-place l = IsSoFar l.ordered l.needed l.place l.shown l.kept.items
+abbrev pub invariant-loop-from : goal.invariant-loop-from
+invariant-loop-from l = record {
+  so_far : IsKeptTo l.ordered l.needed l.from l.kept;
+  first : (k : ℕ) (d : Cell) → l.from < length l.ordered → k + 1 ≡ l.from → (get_or l.ordered k d).key < (get_or l.ordered l.from d).key;
+}
+
+abbrev pub decreases-loop-from : goal.decreases-loop-from
+decreases-loop-from l = length l.ordered - l.from
