@@ -9,12 +9,11 @@ What the program writes to standard output and standard error and its status mus
 inputs have up to 200 lines, and one in ten has up to 3,000, whose updates fill rows. The last line
 says how many agreed; the status is 1 where one did not."""
 
-import argparse
 import random
 import shlex
 import sys
 
-from kiwi_map import KEY_MOST, KIWI, VALUE_MOST, ended, expected, line_of
+from kiwi_map import KEY_MOST, KIWI, VALUE_MOST, compared, ended, expected, joined, line_of, options_of
 
 
 def random_input(rng):
@@ -25,31 +24,24 @@ def random_input(rng):
         key, other = rng.choice(keys), rng.choice(keys)
         value = rng.choice((rng.randrange(100), rng.randrange(VALUE_MOST + 1)))
         lines.append(line_of(form, key, other, value))
-    text = "\n".join(lines) + rng.choice(("", "\n"))
-    if text and rng.random() < 0.3:
-        at = rng.randrange(len(text))
-        text = text[:at] + rng.choice(" \n\t\rx0+-9") + text[at + rng.randrange(2):]
-    return text.encode()
+    return joined(rng, lines)
+
+
+def runs(inputs, seed, other):
+    """The program on so many inputs, and what another command makes of each, or the small map."""
+    rng = random.Random(seed)
+    for number in range(inputs):
+        text = random_input(rng)
+        wanted = ended(shlex.split(other), text) if other else expected(text)
+        yield f"input {number}", [KIWI, "replay"], text, wanted
 
 
 def main():
-    options = argparse.ArgumentParser(description=__doc__, formatter_class=argparse.RawDescriptionHelpFormatter)
-    options.add_argument("inputs", nargs="?", type=int, default=1000)
-    options.add_argument("--seed", type=int, default=1)
+    options = options_of(__doc__)
     options.add_argument("--with", dest="other", help="a command to compare with")
     options = options.parse_args()
-    rng = random.Random(options.seed)
     ended([KIWI, "replay"], b"")  # proves and builds the program, which the first run says on standard error
-    differ = 0
-    for number in range(options.inputs):
-        text = random_input(rng)
-        wanted = ended(shlex.split(options.other), text) if options.other else expected(text)
-        got = ended([KIWI, "replay"], text)
-        if got != wanted:
-            differ += 1
-            print(f"input {number} differs: {text!r}\n  got    {got}\n  wanted {wanted}")
-    print(f"{options.inputs - differ} passed, {differ} failed")
-    return 1 if differ else 0
+    return compared(runs(options.inputs, options.seed, options.other))
 
 
 if __name__ == "__main__":

@@ -14,12 +14,11 @@ rebuild rows; the map has so many rows that none is refused. Three in ten have a
 in, left out or changed, and most of these have a bad line. The last line says how many runs agreed;
 the status is 1 where one did not."""
 
-import argparse
 import random
 import shlex
 import sys
 
-from kiwi_map import KIWI, NUMBER, VALUE_MOST, ended
+from kiwi_map import KIWI, NUMBER, VALUE_MOST, compared, ended, joined, options_of
 
 MINUTES, SERIES = 1_048_576, 4_096
 LIMITS = {b"put": (SERIES - 1, MINUTES - 1, VALUE_MOST), b"del": (SERIES - 1, MINUTES - 1), b"table": ()}
@@ -81,38 +80,29 @@ def random_input(rng, width):
         value = rng.choice((rng.randrange(5), rng.randrange(100), VALUE_MOST, rng.randrange(VALUE_MOST + 1)))
         point = f"{rng.choice(series)} {minute}"
         lines.append(f"put {point} {value}" if rng.random() < 0.7 else f"del {point}")
-    text = "\n".join(lines) + rng.choice(("", "\n"))
-    if text and rng.random() < 0.3:
-        at = rng.randrange(len(text))
-        text = text[:at] + rng.choice(" \n\t\rx0+-9") + text[at + rng.randrange(2) :]
-    return text.encode()
+    return joined(rng, lines)
 
 
-def main():
-    options = argparse.ArgumentParser(description=__doc__, formatter_class=argparse.RawDescriptionHelpFormatter)
-    options.add_argument("inputs", nargs="?", type=int, default=1000)
-    options.add_argument("--seed", type=int, default=1)
-    options.add_argument("--workers", default="1,2,4,8")
-    options.add_argument("--program", help="a command to compare, if not ./kiwi rollup")
-    options = options.parse_args()
-    rng = random.Random(options.seed)
-    program = shlex.split(options.program) if options.program else [KIWI, "rollup"]
-    ended([*program, "--bucket", "1"], b"")  # proves and builds the program, which the first run says on standard error
-    passed = failed = bad = 0
-    for number in range(options.inputs):
+def runs(inputs, seed, workers, program):
+    """The program on so many inputs with each number of workers, and what the model prints."""
+    rng = random.Random(seed)
+    for number in range(inputs):
         width = rng.choice((1, 2, 7, 10, 60, 1440, MINUTES - 1, MINUTES, rng.randrange(1, MINUTES + 1)))
         text = random_input(rng, width)
         wanted = expected(text, width)
-        bad += wanted[2] != 0
-        for workers in options.workers.split(","):
-            got = ended([*program, "--bucket", str(width), "--workers", workers], text)
-            if got == wanted:
-                passed += 1
-            else:
-                failed += 1
-                print(f"input {number} with {workers} workers, --bucket {width}: {text!r}\n  got    {got}\n  wanted {wanted}")
-    print(f"{bad} of {options.inputs} inputs had a bad line\n{passed} passed, {failed} failed")
-    return 1 if failed else 0
+        for count in workers:
+            command = [*program, "--bucket", str(width), "--workers", count]
+            yield f"input {number} with {count} workers, --bucket {width}", command, text, wanted
+
+
+def main():
+    options = options_of(__doc__)
+    options.add_argument("--workers", default="1,2,4,8")
+    options.add_argument("--program", help="a command to compare, if not ./kiwi rollup")
+    options = options.parse_args()
+    program = shlex.split(options.program) if options.program else [KIWI, "rollup"]
+    ended([*program, "--bucket", "1"], b"")  # proves and builds the program, which the first run says on standard error
+    return compared(runs(options.inputs, options.seed, options.workers.split(","), program))
 
 
 if __name__ == "__main__":

@@ -1,6 +1,7 @@
 """What the scripts of this folder share: the lines of `./kiwi replay`, an ordered map of one thread
-that answers them, and how a program is run."""
+that answers them, and how a program is run and compared."""
 
+import argparse
 import re
 import subprocess
 from pathlib import Path
@@ -81,3 +82,36 @@ def ended(command, text):
     """What a command prints on this input, what it writes to standard error, and its status."""
     run = subprocess.run(command, input=text, capture_output=True, check=False)
     return run.stdout, run.stderr, run.returncode
+
+
+def joined(rng, lines):
+    """These lines as one text. Three in ten have a byte that was put in, left out or changed."""
+    text = "\n".join(lines) + rng.choice(("", "\n"))
+    if text and rng.random() < 0.3:
+        at = rng.randrange(len(text))
+        text = text[:at] + rng.choice(" \n\t\rx0+-9") + text[at + rng.randrange(2) :]
+    return text.encode()
+
+
+def options_of(about):
+    """The options of a script that compares runs on random inputs: how many, and the seed."""
+    options = argparse.ArgumentParser(description=about, formatter_class=argparse.RawDescriptionHelpFormatter)
+    options.add_argument("inputs", nargs="?", type=int, default=1000)
+    options.add_argument("--seed", type=int, default=1)
+    return options
+
+
+def compared(runs):
+    """Makes these runs, each a word that names it, a command, its input, and what it is to print,
+    to write to standard error and to end with. Prints each that differs, and how many did; returns
+    the status that says whether one did."""
+    passed = failed = 0
+    for name, command, text, wanted in runs:
+        got = ended(command, text)
+        if got == wanted:
+            passed += 1
+        else:
+            failed += 1
+            print(f"{name} differs: {text!r}\n  got    {got}\n  wanted {wanted}")
+    print(f"{passed} passed, {failed} failed")
+    return 1 if failed else 0

@@ -13,6 +13,7 @@ ghost use Rattle.kw_command.specs.Reading.{first_name, name_of, picked};
 use crate::word::Word;
 use crate::words::{Arguments, are_known, arguments_of};
 use kw_model::memory::Memory;
+use kw_rollup::item::MINUTES;
 use kw_words::sizes::SEAT_COUNT;
 use std::alloc::Global;
 
@@ -38,7 +39,7 @@ pub const MOST_START: u32 = u32::MAX;
 pub const MOST_LINES: u32 = 1_000_000;
 
 /// The most minutes that a bucket may have, which are all of a series.
-pub const MOST_BUCKET: u32 = 1_048_576;
+pub const MOST_BUCKET: u32 = MINUTES;
 
 /// What the program is asked to do.
 #[derive(Clone, Copy, Debug, PartialEq, Eq)]

@@ -6,8 +6,10 @@
 //! them is at hand, which is what makes a rebalance fast; `rebalancing` asks what else is to be
 //! done before and after.
 ghost use Rattle.std.specs.Prelude.{◌≡◌};
+ghost use Rattle.kw_follow.specs.BuildsOn.{past_row};
 ghost use Rattle.kw_follow.specs.Following.{Follows};
 ghost use Rattle.kw_live_rebal.specs.Standing.{GoesOn};
+ghost use Rattle.kw_live_rebal.specs.Stretches.{HasLeftList, HasLeftSearch};
 
 use kw_follow::{Cursor, Search, gather_cell, is_in_use, reach_next, write_row};
 use kw_table::{Pass, Shared};
@@ -25,6 +27,7 @@ pub(crate) fn gather_row<R: Wait>(rt: &R, shared: &Shared, pass: &mut Pass, loca
     requires follows { Follows shared.now pass.old local.old }
     requires activity { local.old.activity ≡ Activity.Rebalance (Rebalance.Gather Gather.Link) }
     ensures follows { Follows shared.now pass.new local.new }
+    ensures left { HasLeftList local.new }
     ensures on { GoesOn shared.now pass.old local.old pass.new local.new }
 {
     let mut cursor = Cursor::of(local);
@@ -43,6 +46,7 @@ pub(crate) fn seek_row(shared: &Shared, pass: &mut Pass, local: &mut Local)
     requires follows { Follows shared.now pass.old local.old }
     requires activity { local.old.activity ≡ Activity.Rebalance (Rebalance.Seek Seek.Next) }
     ensures follows { Follows shared.now pass.new local.new }
+    ensures left { HasLeftSearch shared.now.opening.rows local.old local.new }
     ensures on { GoesOn shared.now pass.old local.old pass.new local.new }
 {
     let rows = shared.rows();
@@ -64,6 +68,7 @@ pub(crate) fn write_new_row(shared: &Shared, pass: &mut Pass, local: &mut Local)
     requires follows { Follows shared.now pass.old local.old }
     requires activity { local.old.activity ≡ Activity.Rebalance (Rebalance.Write Write.Count) }
     ensures follows { Follows shared.now pass.new local.new }
+    ensures written { local.new ≡ past_row local.old }
     ensures on { GoesOn shared.now pass.old local.old pass.new local.new }
 {
     warm_new_row(shared, local);

@@ -34,3 +34,6 @@ returns-in_default-clause-follows g c = c.in_default.ensures.over.follows
 
 pub returns-in_default-clause-on : goal.returns-in_default-clause-on
 returns-in_default-clause-on g c = stretch_goes_on (advances_trans c.loop.invariant.on c.in_default.ensures.over) (c.in_default.ensures.tidies ∙ c.loop.invariant.tidies) (subst (λ (l : Local). IsBuildingOn l.activity) (sym c.in_default.ensures.left) (past_list_ends c.loop.cursor c.loop.local).stands)
+
+pub returns-in_default-clause-left : goal.returns-in_default-clause-left
+returns-in_default-clause-left g c = record { cursor = c.loop.cursor; before = c.loop.local; left = c.in_default.ensures.left }

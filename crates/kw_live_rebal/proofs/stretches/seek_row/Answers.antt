@@ -1,6 +1,11 @@
-use Rattle.std.proofs.Common.{◌≡◌, ◌<◌, ◌∙◌, ℕ, arith, ap, refl, subst, sym}
+use Rattle.std.proofs.Common.{◌≡◌, ◌<◌, ◌≤◌, ◌∙◌, ℕ, arith, ap, inl, inr, refl, subst, sym}
+use Rattle.std.proofs.lemmas.Bool.{false≢true}
+use Rattle.kw_world.specs.declared.event.Choice.TheVariants.{Go}
+use Rattle.kw_world.specs.declared.local.Local.{Local}
+use Rattle.kw_world.specs.Sizes.{product}
+use Rattle.kw_world.specs.Step.{next_of}
 use Rattle.kw_follow.specs.declared.seeking.Search.{Search}
-use Rattle.kw_follow.specs.Searches.{behind}
+use Rattle.kw_follow.specs.Searches.{behind, seeking_at}
 use Rattle.kw_follow.proofs.OneEvent.{follows_ranges, follows_room}
 use Rattle.kw_follow.proofs.SeekEvents.{begins_search, passed}
 use Rattle.kw_follow.proofs.Advancing.{advances_none}
@@ -37,3 +42,18 @@ returns-else-is_in_use-clause-follows c = row_follows c.loop-search.search c.arg
 
 pub returns-else-is_in_use-clause-on : goal.returns-else-is_in_use-clause-on
 returns-else-is_in_use-clause-on c = row_goes_on c.loop-search.search c.args.local.now c.loop-search.local c.stop.new.local c.stop.result c.rows-rows.result c.requires.activity c.loop-search.invariant.same c.rows-rows.ensures c.loop-search.invariant.on c.load_state-found.ensures c.stop.ensures
+
+pub returns-else-is_in_use-clause-left : goal.returns-else-is_in_use-clause-left
+returns-else-is_in_use-clause-left c = record {
+  search = c.loop-search.search;
+  told = c.load_state-found.result;
+  done = c.stop.result;
+  left =
+      c.stop.ensures
+      ∙ (ap (λ (n : Local). next_of product c.rows-rows.result Go (seeking_at c.loop-search.search n) c.load_state-found.result) c.loop-search.invariant.same
+      ∙ ap (λ n. next_of product n Go (seeking_at c.loop-search.search c.args.local.now) c.load_state-found.result) c.rows-rows.ensures);
+  over = λ used. elim c.else-is_in_use.either [
+    | inl last ↦ subst (λ n. n ≤ c.loop-search.search.asked) c.rows-rows.ensures last.1
+    | inr free ↦ absurd (false≢true (sym free ∙ (c.is_in_use.ensures ∙ used)))
+  ];
+}

@@ -13,3 +13,6 @@ returns-clause-on c =
     let ends = row_over c.args.local.now in
     let written = c.write_row.ensures.written in
     stretch_goes_on c.write_row.ensures.on (ap (λ (l : Local). l.tidies) written ∙ ends.tidies) (subst (λ (l : Local). IsBuildingOn l.activity) (sym written) ends.stands)
+
+pub returns-clause-written : goal.returns-clause-written
+returns-clause-written c = c.write_row.ensures.written
