@@ -16,6 +16,7 @@ use Rattle.kw_line.specs.declared.item.Form.TheVariants as form
 use Rattle.kw_model.specs.Values.{least, greatest, values}
 use Rattle.kw_line.specs.Answered.{IsReplyOf, answer_for, answer_of_pairs, answers_for, number_or_nothing, is_update, is_get, is_range}
 use Rattle.kw_line.specs.Line.{IsCallOf}
+use Rattle.kw_laws.specs.Clocks.{IsScan}
 use Rattle.kw_app.specs.Running.{is_refused}
 
 -- the answer at a place is that of the reply there
@@ -71,6 +72,47 @@ pairs_served form.Count ps e = cc
 pairs_served form.Least ps e = number_served (least (values ps)) e
 pairs_served form.Greatest ps e = number_served (greatest (values ps)) e
 pairs_served _ ps e = cc
+
+-- nor is either a refusal for want of versions
+number_unspent : (n : Option ℕ) → number_or_nothing n ≡ answer.Spent → ⊥
+number_unspent None e = cc
+number_unspent (Some n) e = cc
+
+pairs_unspent : (f : Form) (ps : Pairs) → answer_of_pairs f ps ≡ answer.Spent → ⊥
+pairs_unspent form.Sum ps e = cc
+pairs_unspent form.Count ps e = cc
+pairs_unspent form.Least ps e = number_unspent (least (values ps)) e
+pairs_unspent form.Greatest ps e = number_unspent (greatest (values ps)) e
+pairs_unspent _ ps e = cc
+
+-- what is answered so was refused so
+pub spent_reply : (f : Form) (r : Reply) → IsReplyOf f r → answer_for f r ≡ answer.Spent → r ≡ reply.Spent
+spent_reply f reply.Spent h e = refl
+spent_reply f reply.Done h e = absurd (cc)
+spent_reply f (reply.Value v) h e = absurd (cc)
+spent_reply f reply.Absent h e = absurd (cc)
+spent_reply f (reply.Pairs ps) h e = absurd (pairs_unspent f ps e)
+spent_reply f reply.NoRows h e = absurd (cc)
+spent_reply f reply.Stopped h e = absurd h
+
+-- the calls of lines that ask for a range are the scans
+pub range_scan : (f : Form) (c : Call) → IsCallOf f c → IsTrue (is_range f) → (from : ℕ) × (upto : ℕ) × (c ≡ Scan from upto)
+range_scan f (Scan a b) i t = (a, b, refl)
+range_scan form.Put (Put k v) i t = absurd (false≢true t)
+range_scan form.Del (Del k) i t = absurd (false≢true t)
+range_scan form.Get (Get k) i t = absurd (false≢true t)
+range_scan _ _ i t = absurd i
+
+pub scan_range : (f : Form) (c : Call) → IsCallOf f c → IsScan c → IsTrue (is_range f)
+scan_range form.Sum (Scan a b) i s = refl
+scan_range form.Count (Scan a b) i s = refl
+scan_range form.Least (Scan a b) i s = refl
+scan_range form.Greatest (Scan a b) i s = refl
+scan_range form.List (Scan a b) i s = refl
+scan_range form.Put (Put k v) i s = absurd s
+scan_range form.Del (Del k) i s = absurd s
+scan_range form.Get (Get k) i s = absurd s
+scan_range _ _ i s = absurd i
 
 -- a scan is not refused for want of rows
 scan_served : (f : Form) (a b : ℕ) (m : Pairs) (r : Reply) → IsRight m (Scan a b) r → answer_for f r ≡ answer.NoRows → ⊥

@@ -1,15 +1,18 @@
 -- What the answers of a run are worth, from the order of its lines.
-use Rattle.std.proofs.Common.{ℕ, zero, suc, ◌<◌, true, false, ◌≡◌, ◌⊎◌, inl, inr, IsTrue, All, List, [], ◌∷◌, length, map, take, Some, refl, sym, ap, ◌∙◌, subst, arith}
+use Rattle.std.proofs.Common.{ℕ, zero, suc, ◌<◌, ◌≤◌, true, false, ◌≡◌, ◌⊎◌, inl, inr, IsTrue, All, List, [], ◌∷◌, length, map, take, Some, refl, sym, ap, ◌∙◌, subst, arith}
 use Rattle.std.specs.List.{slice_get, AllByRecursion}
 use Rattle.std.proofs.lemmas.Bool.{false≢true}
 use Rattle.std.proofs.lemmas.List.{length-map}
 use Rattle.std.specs.Option.{option_map}
 use Rattle.std.proofs.lemmas.Option.{same_Some, slice_get_within, slice_get-map, get_or_from_slice_get}
+use Rattle.kw_words.specs.declared.sizes.TheConstants.{SPENT}
 use Rattle.kw_model.specs.Map.{Pairs, after, answers}
 use Rattle.kw_model.specs.Legal.{IsLegal, IsRight, is_refusal, may_refuse}
 use Rattle.kw_model.specs.declared.call.Call.{Call}
 use Rattle.kw_model.specs.declared.call.Reply.{Reply}
+use Rattle.kw_model.specs.declared.call.Reply.TheVariants as reply
 use Rattle.kw_model.proofs.Answers.{answers_only}
+use Rattle.kw_core.specs.declared.history.End.{End}
 use Rattle.kw_world.specs.declared.opening.Opening.{Opening}
 use Rattle.kw_world.specs.Opening.{IsOpening}
 use Rattle.kw_world.specs.Sizes.{product}
@@ -35,15 +38,15 @@ use Rattle.kw_table.specs.declared.pass.View.{View}
 use Rattle.kw_table.specs.Passes.{view}
 use Rattle.kw_laws.specs.SeatCalls.{CallSeen}
 use Rattle.kw_map.proofs.Ordering.{pass_ordered}
-use Rattle.kw_app.specs.Recorded.{line_forms, no_call, recorded, reply_of, seat_calls}
+use Rattle.kw_app.specs.Recorded.{IsWithin, line_forms, no_call, recorded, reply_at as reply_at_end, reply_of, seat_calls}
 use Rattle.kw_app.specs.Running.{is_refused, Shows}
-use Rattle.kw_app.specs.Headline.{Headline, HasOneOrder, UpdatesServed, QuietAnswered, AreRefusals, line_calls}
+use Rattle.kw_app.specs.Headline.{Headline, HasOneOrder, UpdatesServed, QuietAnswered, AreRefusals, AreRefusedBeside, IsBesideRange, line_calls}
 use Rattle.kw_app.specs.Answering.{IsRun, some_refused}
 use Rattle.kw_app.specs.OneThread.{answers_to}
-use Rattle.kw_app.proofs.AnswerForms.{MayBeRefused, answers_at, same_answers, unrefused, range_refused, right_refusal}
+use Rattle.kw_app.proofs.AnswerForms.{MayBeRefused, answers_at, range_refused, range_scan, right_refusal, same_answers, scan_range, spent_reply, unrefused}
 use Rattle.kw_app.proofs.Shown.{IfFirst}
 use Rattle.kw_app.proofs.Merging.{length-merge}
-use Rattle.kw_app.proofs.LineOrders.{AreOrdered, line_caused, line_replied, lines_ordered}
+use Rattle.kw_app.proofs.LineOrders.{AreOrdered, HasOtherScan, has_end, line_caused, line_replied, lines_ordered, scan_beside}
 
 -- there are as many forms as calls
 many_forms : (items : List Item) → length (forms items) ≡ length (calls items)
@@ -245,9 +248,32 @@ module _ (o : Opening) (items : List Item) (printed : List Answer) (v : View) (o
     spent = λ i f e g. let x = at i f e in (may i f x).1 (same_Some (answer_for f x.reply) Spent (sym x.answered ∙ g));
   }
 
+  -- a line that asks for a range made a scan, which was refused only beside another one
+  ranges : o.clock < SPENT → AreRefusedBeside items printed
+  ranges low i f e t g =
+      let made : List CallSeen = line_calls o v.seen (lines_of 1 items) in
+      let x = at i f e in
+      let r : x.reply ≡ reply.Spent = spent_reply f x.reply (are_replies i f x.reply e x.replied) (same_Some (answer_for f x.reply) Spent (sym x.answered ∙ g)) in
+      let l = line_at i f x.reply e x.replied in
+      let asks : l.made.call ≡ x.call =
+      same_Some l.made.call x.call (sym (slice_get-map (λ (c : CallSeen). c.call) made i ∙ ap (option_map (λ (c : CallSeen). c.call)) l.seen) ∙ (ap (λ (cs : List Call). slice_get cs i) one_order.asks ∙ x.calls_are)) in
+      let s = range_scan f x.call x.is_call t in
+      let within = subst (λ (c : CallSeen). IsWithin 0 (length v.seen) c) (get_or_from_slice_get made i l.made l.made l.seen) (ordered.ended_all i l.made (slice_get_within made i l.made l.seen)) in
+      let d = has_end (length v.seen) l.made.end within.ends in
+      let is : d.0.reply ≡ reply.Spent = sym (ap reply_at_end d.1) ∙ (l.is_reply ∙ r) in
+      which (scan_beside o v.seen (lines_of 1 items) opening shows.valid shows.asks_are shows.ended i s.0 s.1 d.0.at l.made l.seen (asks ∙ s.2) (d.1 ∙ ap (λ (q : Reply). let e : End = record { at = d.0.at; reply = q } in Some e) is))
+    where
+      which : (SPENT ≤ o.clock) ⊎ HasOtherScan (line_calls o v.seen (lines_of 1 items)) i → IsBesideRange items i
+      which (inl high) = absurd (omega (arith, low, high))
+      which (inr b) =
+          let made : List CallSeen = line_calls o v.seen (lines_of 1 items) in
+          let called : slice_get (calls items) b.place ≡ Some b.call.call = sym (ap (λ (cs : List Call). slice_get cs b.place) one_order.asks) ∙ (slice_get-map (λ (c : CallSeen). c.call) made b.place ∙ ap (option_map (λ (c : CallSeen). c.call)) b.here) in
+          let f = element_at (forms items) b.place (let many = many_forms items in let inside = slice_get_within (calls items) b.place b.call.call called in omega arith) in
+          record { place = b.place; apart = b.apart; form = f.0; here = f.1; range = scan_range f.0 b.call.call (formed items b.place b.call.call f.0 each called f.1) b.scans }
+
   -- all of it
   pub headline : Headline o v.seen items printed
-  headline = record { order = one_order; alone = alone; quiet = quiet_answered; refusals = refusals }
+  headline = record { order = one_order; alone = alone; quiet = quiet_answered; refusals = refusals; ranges = ranges }
 
 -- where the first of some passes shows a run, the answers are those of the run
 pub run_first : (o : Opening) (items : List Item) (printed : List Answer) (ps : List Pass) → IsOpening product o → AllByRecursion IsItem items → IfFirst ps (λ p. Shows o items printed (view p)) → IfFirst ps (IsRun o items printed)

@@ -19,5 +19,6 @@ pub mod LineOrders
 pub mod AnswerForms
 pub mod Headlines
 pub mod QuietGenerated
+pub mod TableLines
 pub mod Scans
 pub mod RunEnds

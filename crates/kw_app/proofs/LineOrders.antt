@@ -1,11 +1,12 @@
 -- The order of the calls of a run, read as an order of the lines.
-use Rattle.std.proofs.Common.{ℕ, ◌≡◌, ◌<◌, ◌≤◌, ◌⊎◌, inl, inr, true, List, [], ◌++◌, length, map, take, drop, get_or, All, Option, Some, None, refl, sym, ap, ◌∙◌, subst, arith}
+use Rattle.std.proofs.Common.{ℕ, ◌≡◌, ◌≢◌, ◌<◌, ◌≤◌, ◌⊎◌, inl, inr, true, List, [], ◌++◌, length, map, take, drop, get_or, All, Option, Some, None, refl, sym, ap, ◌∙◌, subst, arith}
 use Rattle.std.specs.List.{slice_get}
 use Rattle.std.specs.Option.{option_map}
 use Rattle.std.proofs.lemmas.Bool.{cases_lt}
 use Rattle.std.proofs.lemmas.List.{take-append-drop, take_at, take_all, length-map}
 use Rattle.std.proofs.lemmas.List.Concat.{flat_map-append}
 use Rattle.std.proofs.lemmas.Option.{same_Some, slice_get-map, slice_get_within, get_or_from_slice_get}
+use Rattle.kw_words.specs.declared.sizes.TheConstants.{SPENT}
 use Rattle.kw_model.specs.declared.call.Call.TheVariants.{Scan}
 use Rattle.kw_model.specs.declared.call.Reply.{Reply}
 use Rattle.kw_model.specs.declared.call.Reply.TheVariants as reply
@@ -19,7 +20,9 @@ use Rattle.kw_core.specs.History.{History, called}
 use Rattle.kw_core.specs.HistoryLaws.{EndsWith, HistoryLaws}
 use Rattle.kw_core.specs.Events.{is_valid}
 use Rattle.kw_core.specs.Run.{history}
+use Rattle.kw_laws.specs.Clocks.{IsBehindScan, IsScan}
 use Rattle.kw_laws.specs.SeatCalls.{CallSeen, seen}
+use Rattle.kw_laws.proofs.Clocks.{refusals_hold}
 use Rattle.kw_laws.proofs.LawProofs.{laws_hold}
 use Rattle.kw_map.specs.Refusals.{HasReason}
 use Rattle.kw_order.specs.Order.{IsOrder}
@@ -43,8 +46,16 @@ use Rattle.kw_app.specs.Headline.{HasTops, IsOrderOfCalls, KeepsPrecedence, line
 use Rattle.kw_app.proofs.Merging.{length-merge}
 use Rattle.kw_app.proofs.LineOrdersPlaces.{across, own_before, in_part, share_of, own_before_more, own_before_once, own_before_grows, merged_at}
 
+-- another line than line i made a scan
+pub record HasOtherScan (made : List CallSeen) (i : ℕ) : Type 0 where
+  pub place : ℕ
+  pub apart : place ≢ i
+  pub call : CallSeen
+  pub here : slice_get made place ≡ Some call
+  pub scans : IsScan call.call
+
 -- what has ended before a place has ended
-has_end : (n : ℕ) (e : Option End) → EndsBefore n e → (d : End) × (e ≡ Some d) × (d.at < n)
+pub has_end : (n : ℕ) (e : Option End) → EndsBefore n e → (d : End) × (e ≡ Some d) × (d.at < n)
 has_end n None h = absurd h
 has_end n (Some d) h = (d, refl, h)
 
@@ -169,6 +180,26 @@ module _ (o : Opening) (E : List Event) (lines : List Line) (opening : IsOpening
   replies_here i x a =
       let e = all_ended (worker_of o.seats a.line) (own_before o.seats (worker_of o.seats a.line) lines i) (seen (called h x)) (seated a.line) (seen_here i x a) in
       slice_get-map reply_of (line_calls o E lines) i ∙ (ap (option_map reply_of) (made_here i x a) ∙ ap Some (ap reply_at e.1 ∙ sym (ap order.reply_or_done e.1)))
+
+  -- a line whose scan was refused stands beside another one, unless the clock began at its bound
+  pub scan_beside : (i from upto at : ℕ) (c : CallSeen) → slice_get (line_calls o E lines) i ≡ Some c → c.call ≡ Scan from upto → c.end ≡ Some (record { at = at; reply = reply.Spent }) → (SPENT ≤ o.clock) ⊎ HasOtherScan (line_calls o E lines) i
+  scan_beside i from upto at c e asks ends =
+      let l = element_at lines i (let w = length-merge o.seats (seat_calls o E) no_call [] lines in let inside = slice_get_within (line_calls o E lines) i c e in omega arith) in
+      let x = call_named i l.0 l.1 in
+      let same : c ≡ seen (called h x.0) = same_Some c (seen (called h x.0)) (sym e ∙ made_here i x.0 x.1) in
+      which x.0 x.1 (refusals_hold product o opening E ok x.0 from upto at x.1.turn.within (ap (λ (d : CallSeen). d.call) (sym same) ∙ asks, ap (λ (d : CallSeen). d.end) (sym same) ∙ ends))
+    where
+      which : (x : ℕ) → IsLineOf i x → (SPENT ≤ o.clock) ⊎ IsBehindScan h x at → (SPENT ≤ o.clock) ⊎ HasOtherScan (line_calls o E lines) i
+      which x a (inl high) = inl high
+      which x a (inr b) =
+          let n = line_named b.other b.within in
+          inr (record {
+            place = n.0;
+            apart = λ q. b.apart (one_call i b.other x (subst (λ j. IsLineOf j b.other) q n.1) a);
+            call = seen (called h b.other);
+            here = made_here n.0 b.other n.1;
+            scans = b.scans;
+          })
 
   -- the line of each call of the record
   pick : (x : ℕ) → (x < length h.calls) ⊎ (length h.calls ≤ x) → ℕ

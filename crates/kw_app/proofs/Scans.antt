@@ -1,13 +1,13 @@
 -- What the scan of `rollup` is answered: the points that the accepted updates above it leave. And
 -- the items that are asked: each is one that a line may be, and the scan is the first worker's.
-use Rattle.std.proofs.Common.{ℕ, zero, suc, ◌≡◌, ◌⊎◌, inl, inr, ◌+◌, ◌-◌, ◌*◌, ◌/◌, ◌%◌, ◌≤◌, ◌<◌, ◌^◌, Bool, true, false, not, cond, IsTrue, All, List, [], ◌∷◌, ◌++◌, length, map, take, drop, get_or, Option, Some, None, refl, sym, ap, ap₂, ◌∙◌, subst, arith, append_assoc, length-append, drop-cons}
+use Rattle.std.proofs.Common.{ℕ, zero, suc, ◌≡◌, ◌⊎◌, inl, inr, ◌+◌, ◌-◌, ◌*◌, ◌/◌, ◌%◌, ◌≤◌, ◌<◌, Bool, true, false, IsTrue, All, List, [], ◌∷◌, ◌++◌, length, map, take, drop, Some, refl, sym, ap, ◌∙◌, subst, arith, append_assoc, length-append}
 use Rattle.std.specs.Prelude.{replicate}
 use Rattle.std.specs.List.{slice_get, flat_map, onto_first, AllByRecursion}
 use Rattle.std.specs.Option.{option_map}
 use Rattle.std.proofs.Math.Nat.{add-mul-mod_self_right, div-mul-le_self, mod-eq-sub-div-mul, mod-lt, mod_self}
 use Rattle.std.proofs.lemmas.Bool.{false≢true, cases_lt}
-use Rattle.std.proofs.lemmas.List.{append-nil, drop_all, length-drop, length-map}
-use Rattle.std.proofs.lemmas.List.Elements.{All-cons, All-nil}
+use Rattle.std.proofs.lemmas.List.{append-nil, length-drop, length-map, take-append-drop}
+use Rattle.std.proofs.lemmas.List.Elements.{All-cons, All-nil, filter-append}
 use Rattle.std.proofs.lemmas.Option.{same_Some, slice_get-map, slice_get_within, get_or_from_slice_get}
 use mathlib.Core.Logic.{⊎_elim}
 use Rattle.kw_model.specs.Map.{Pairs, IsRising, between}
@@ -40,9 +40,9 @@ use Rattle.kw_work.proofs.QuietBlocks.{get_front, get_behind}
 use Rattle.kw_work.proofs.QuietReplies.{quiet_right}
 use Rattle.kw_work.proofs.WorkerOrders.{keeps_keys}
 use Rattle.kw_app.specs.Asked.{IsFirstWorkers, asked_items, from_table, item_of, scan_items, updates_above, waits_before}
-use Rattle.kw_app.specs.Running.{is_refused}
-use Rattle.kw_app.specs.Tables.{IsScanned, accepted, accepted_all, points_above}
+use Rattle.kw_app.specs.Tables.{AreWhole, accepted, accepted_all, is_update, points_scanned, updates}
 use Rattle.kw_app.proofs.AnswerForms.{answers_at}
+use Rattle.kw_app.proofs.TableLines.{many_first, scanned_is, updates_first}
 
 -- Lines above the first table, and below it.
 
@@ -66,12 +66,6 @@ above_within [] = omega arith
 above_within (roll.Table ∷ is) = omega arith
 above_within (roll.Put k v ∷ is) = let h = above_within is in omega arith
 above_within (roll.Del k ∷ is) = let h = above_within is in omega arith
-
-many_above : (is : List RollItem) → length (take (updates_above is) is) ≡ updates_above is
-many_above [] = refl
-many_above (roll.Table ∷ is) = refl
-many_above (roll.Put k v ∷ is) = ap suc (many_above is)
-many_above (roll.Del k ∷ is) = ap suc (many_above is)
 
 -- no line is left, or a table is the first
 abbrev BeginsWithTable : List RollItem → Type 0
@@ -106,6 +100,22 @@ many_forms [] h = refl
 many_forms (roll.Put k v ∷ is) h = ap suc (many_forms is h.1)
 many_forms (roll.Del k ∷ is) h = ap suc (many_forms is h.1)
 many_forms (roll.Table ∷ is) h = absurd (h.0 refl)
+
+-- of lines each update makes one
+calls_updates : (is : List RollItem) → length (calls (map item_of is)) ≡ length (updates is)
+calls_updates [] = refl
+calls_updates (roll.Put k v ∷ is) = ap suc (calls_updates is)
+calls_updates (roll.Del k ∷ is) = ap suc (calls_updates is)
+calls_updates (roll.Table ∷ is) = calls_updates is
+
+-- and none asks for a range
+forms_range : (is : List RollItem) (j : ℕ) (f : Form) → slice_get (forms (map item_of is)) j ≡ Some f → is_range f ≡ true → ⊥
+forms_range [] j f e t = absurd (cc)
+forms_range (roll.Table ∷ is) j f e t = forms_range is j f e t
+forms_range (roll.Put k v ∷ is) zero f e t = false≢true (ap is_range (same_Some form.Put f e) ∙ t)
+forms_range (roll.Del k ∷ is) zero f e t = false≢true (ap is_range (same_Some form.Del f e) ∙ t)
+forms_range (roll.Put k v ∷ is) (suc j) f e t = forms_range is j f e t
+forms_range (roll.Del k ∷ is) (suc j) f e t = forms_range is j f e t
 
 -- waits make none
 calls-waits : (n : ℕ) (xs : List Item) → calls (replicate n item.Wait ++ xs) ≡ calls xs
@@ -275,15 +285,61 @@ module _ (workers : ℕ) (items rest : List RollItem) (table : drop (updates_abo
       ∙ ap (λ (l : List Bool). quiet_in (map item_of ups) ++ l) (quiet-waits k (all_keys_scan ∷ item.Wait ∷ below)))
 
   scan_call : slice_get (calls (asked_items workers items)) p ≡ Some (call.Scan 0 greatest_key)
-  scan_call = ap (λ (l : List Call). slice_get l p) calls_are ∙ get_behind (calls (map item_of ups)) (call.Scan 0 greatest_key ∷ calls below) p 0 (let a = many_calls ups (updates_stand items) in let b = many_above items in omega arith)
+  scan_call = ap (λ (l : List Call). slice_get l p) calls_are ∙ get_behind (calls (map item_of ups)) (call.Scan 0 greatest_key ∷ calls below) p 0 (let a = many_calls ups (updates_stand items) in let b = many_first items in omega arith)
 
   scan_form : slice_get (forms (asked_items workers items)) p ≡ Some form.List
-  scan_form = ap (λ (l : List Form). slice_get l p) forms_are ∙ get_behind (forms (map item_of ups)) (form.List ∷ forms below) p 0 (let a = many_forms ups (updates_stand items) in let b = many_above items in omega arith)
+  scan_form = ap (λ (l : List Form). slice_get l p) forms_are ∙ get_behind (forms (map item_of ups)) (form.List ∷ forms below) p 0 (let a = many_forms ups (updates_stand items) in let b = many_first items in omega arith)
 
   scan_quiet : slice_get (quiet (asked_items workers items)) p ≡ Some true
   scan_quiet =
       ap (λ (l : List Bool). slice_get l p) quiet_is
-      ∙ get_behind (quiet_in (map item_of ups)) (true ∷ quiet below) p 0 (let a = many_forms ups (updates_stand items) in let b = many_above items in let c = length-map {B = Bool} (forms (map item_of ups)) in omega (arith, c))
+      ∙ get_behind (quiet_in (map item_of ups)) (true ∷ quiet below) p 0 (let a = many_forms ups (updates_stand items) in let b = many_first items in let c = length-map {B = Bool} (forms (map item_of ups)) in omega (arith, c))
+
+  -- no other line asks for a range
+  range_is_scan : (j : ℕ) (f : Form) → slice_get (forms (asked_items workers items)) j ≡ Some f → is_range f ≡ true → j ≡ p
+  range_is_scan j f e t = which (cases_lt j (length above))
+    where
+      above : List Form
+      above = forms (map item_of ups)
+
+      many : length above ≡ p
+      many = many_forms ups (updates_stand items) ∙ many_first items
+
+      here : slice_get (above ++ form.List ∷ forms below) j ≡ Some f
+      here = ap (λ (l : List Form). slice_get l j) (sym forms_are) ∙ e
+
+      behind : (u : ℕ) → j ≡ length above + u → slice_get (form.List ∷ forms below) u ≡ Some f → j ≡ p
+      behind zero at g = omega (arith, at, many)
+      behind (suc u) at g = absurd (forms_range rest u f g t)
+
+      which : (j < length above) ⊎ (length above ≤ j) → j ≡ p
+      which (inl lt) = absurd (forms_range ups j f (sym (get_front above (form.List ∷ forms below) j lt) ∙ here) t)
+      which (inr ge) = behind (j - length above) (omega (arith, ge)) (sym (get_behind above (form.List ∷ forms below) j (j - length above) (omega (arith, ge))) ∙ here)
+
+  -- each update makes a call, and so does the scan
+  many_asked : length (calls (asked_items workers items)) ≡ suc (length (updates items))
+  many_asked =
+      let a = ap length calls_are ∙ length-append (calls (map item_of ups)) (call.Scan 0 greatest_key ∷ calls below) in
+      let b = many_calls ups (updates_stand items) in
+      let c = many_first items in
+      let d = calls_updates rest in
+      let e = ap length (ap updates (sym (take-append-drop p items)) ∙ (filter-append is_update ups (drop p items) ∙ (ap (λ (us : List RollItem). us ++ updates (drop p items)) (updates_first items) ∙ ap (λ (is : List RollItem). ups ++ updates is) table))) ∙ length-append ups (updates rest) in
+      omega (arith, a, b, c, d, e)
+
+-- where a line is a table, the scan is the one line that asks for a range
+pub scan_asked : (workers : ℕ) (items : List RollItem) → updates_above items < length items → slice_get (forms (asked_items workers items)) (updates_above items) ≡ Some form.List
+scan_asked workers items w = go (table_stands items)
+  where
+    go : BeginsWithTable (drop (updates_above items) items) → slice_get (forms (asked_items workers items)) (updates_above items) ≡ Some form.List
+    go (inl none) = absurd (omega (arith, w, length-drop (updates_above items) items, ap length none))
+    go (inr table) = scan_form workers items table.0 table.1
+
+pub scan_alone : (workers : ℕ) (items : List RollItem) → updates_above items < length items → (j : ℕ) (f : Form) → slice_get (forms (asked_items workers items)) j ≡ Some f → is_range f ≡ true → j ≡ updates_above items
+scan_alone workers items w j f e t = go (table_stands items)
+  where
+    go : BeginsWithTable (drop (updates_above items) items) → j ≡ updates_above items
+    go (inl none) = absurd (omega (arith, w, length-drop (updates_above items) items, ap length none))
+    go (inr table) = range_is_scan workers items table.0 table.1 j f e t
 
 -- A run of what is asked: its replies, and an order of its lines in which they are right.
 
@@ -310,12 +366,16 @@ module _ (workers : ℕ) (items : List RollItem) (rs : List Reply) (numbers : Li
       quiet_right (blocks_of 1 asked) rs numbers (long ∙ sym as_many) (subst (λ n. IsOrderOf n numbers) (sym as_many) order) (keeps_keys workers (blocks_of 1 asked) numbers keeps)
       (subst HaveForms (sym (joined-blocks_of 1 asked)) (have_forms 1 asked (asked_are_items workers items each))) (subst (λ cs. IsLegalIn cs rs numbers) (sym lines_are) legal)
 
-  -- the points above the first table are the map of the accepted lines above the scan
-  points_are : (rest : List RollItem) → drop (updates_above items) items ≡ roll.Table ∷ rest → points_above items answers ≡ accepted_above (calls asked) rs (updates_above items)
+  -- the points that the updates above the first table leave
+  abbrev points : Pairs
+  points = accepted_all [] (take (updates_above items) items) (take (updates_above items) answers)
+
+  -- they are the map of the accepted lines above the scan
+  points_are : (rest : List RollItem) → drop (updates_above items) items ≡ roll.Table ∷ rest → points ≡ accepted_above (calls asked) rs (updates_above items)
   points_are rest table =
       let q : ℕ = updates_above items in
       let us : List RollItem = take (updates_above items) items in
-      let n : length us ≡ q = many_above items in
+      let n : length us ≡ q = many_first items in
       let fs : forms asked ≡ forms (map item_of us) ++ form.List ∷ forms (map item_of rest) = forms_are workers items rest table in
       let cs : calls asked ≡ calls (map item_of us) ++ call.Scan 0 greatest_key ∷ calls (map item_of rest) = calls_are workers items rest table in
       let h = updates_went us (updates_stand items) [] (form.List ∷ forms (map item_of rest)) (call.Scan 0 greatest_key ∷ calls (map item_of rest)) rs (λ i f r e g. replied i f r (ap (λ (l : List Form). slice_get l i) fs ∙ e) g) in
@@ -324,7 +384,7 @@ module _ (workers : ℕ) (items : List RollItem) (rs : List Reply) (numbers : Li
       ∙ (h ∙ (ap (λ j. went_all [] (take j (calls (map item_of us) ++ call.Scan 0 greatest_key ∷ calls (map item_of rest))) (take j rs)) n ∙ ap (λ (l : List Call). went_all [] (take q l) (take q rs)) (sym cs))))
 
   -- so the scan was refused, or it was answered by these points
-  scan_answered : (rest : List RollItem) → drop (updates_above items) items ≡ roll.Table ∷ rest → IsScanned (points_above items answers) (drop (updates_above items) answers)
+  scan_answered : (rest : List RollItem) → drop (updates_above items) items ≡ roll.Table ∷ rest → (slice_get answers (updates_above items) ≡ Some answer.Spent) ⊎ (slice_get answers (updates_above items) ≡ Some (answer.Pairs points)) × IsRising points
   scan_answered rest table =
       let q : ℕ = updates_above items in
       let inside = slice_get_within (calls asked) q (call.Scan 0 greatest_key) (scan_call workers items rest table) in
@@ -336,35 +396,33 @@ module _ (workers : ℕ) (items : List RollItem) (rs : List Reply) (numbers : Li
       let is_right : IsRight m l.0.call r.0 = right q l.0 r.0 l.1 r.1 (ap (λ (qs : List Bool). slice_get qs q) (quiet-blocks_of 1 asked) ∙ scan_quiet workers items rest table) in
       let given = right_scan m r.0 (subst (λ (d : Call). IsRight m d r.0) c is_right) (replied q form.List r.0 (scan_form workers items rest table) r.1) in
       let whole : between 0 greatest_key m ≡ m = all_keys (joined (blocks_of 1 asked)) rs q (subst (All IsLine) (sym (joined-blocks_of 1 asked)) (are_lines 1 asked (asked_are_items workers items each))) in
-      let same : m ≡ points_above items answers = ap (λ (cs : List Call). accepted_above cs rs q) lines_are ∙ sym (points_are rest table) in
-      let rises : IsRising (points_above items answers) = subst IsRising same (rises-went_all [] (take q (calls_of (joined (blocks_of 1 asked)))) (take q rs) tt) in
+      let same : m ≡ points = ap (λ (cs : List Call). accepted_above cs rs q) lines_are ∙ sym (points_are rest table) in
+      let rises : IsRising points = subst IsRising same (rises-went_all [] (take q (calls_of (joined (blocks_of 1 asked)))) (take q rs) tt) in
       let at : slice_get answers q ≡ Some (answer_for form.List r.0) = answers_at (forms asked) rs q form.List r.0 (scan_form workers items rest table) r.1 in
-      let first : drop q answers ≡ answer_for form.List r.0 ∷ drop (suc q) answers =
-      drop-cons answers q (answer_for form.List r.0) (slice_get_within answers q (answer_for form.List r.0) at) ∙ ap (λ (a : Answer). a ∷ drop (suc q) answers) (get_or_from_slice_get answers q (answer_for form.List r.0) (answer_for form.List r.0) at) in
-      subst (IsScanned (points_above items answers)) (sym first) (told (points_above items answers) (answer_for form.List r.0) m (drop (suc q) answers) given (whole ∙ same) rises)
+      told (answer_for form.List r.0) m at given (whole ∙ same) rises
     where
-      told : (points : Pairs) (a : Answer) (m : Pairs) (more : List Answer) → (a ≡ answer.Spent) ⊎ (a ≡ answer.Pairs (between 0 greatest_key m)) → between 0 greatest_key m ≡ points → IsRising points → IsScanned points (a ∷ more)
-      told points a m more (inl e) same rises = inl e
-      told points a m more (inr e) same rises = inr (e ∙ ap answer.Pairs same, rises)
+      told : (a : Answer) (m : Pairs) → slice_get answers (updates_above items) ≡ Some a → (a ≡ answer.Spent) ⊎ (a ≡ answer.Pairs (between 0 greatest_key m)) → between 0 greatest_key m ≡ points → IsRising points
+          → (slice_get answers (updates_above items) ≡ Some answer.Spent) ⊎ (slice_get answers (updates_above items) ≡ Some (answer.Pairs points)) × IsRising points
+      told a m at (inl e) same rises = inl (at ∙ ap Some e)
+      told a m at (inr e) same rises = inr (at ∙ ap Some (e ∙ ap answer.Pairs same), rises)
 
-  pub scanned : IsScanned (points_above items answers) (drop (updates_above items) answers)
-  scanned = go (table_stands items)
+  -- where the scan was not refused, the answers are what tables are made of
+  pub are_whole : (slice_get answers (updates_above items) ≡ Some answer.Spent → ⊥) → updates_above items < length items → AreWhole items answers
+  are_whole served w = go (table_stands items)
     where
-      go : BeginsWithTable (drop (updates_above items) items) → IsScanned (points_above items answers) (drop (updates_above items) answers)
-      go (inr table) = scan_answered table.0 table.1
-      go (inl none) =
-          let us : List RollItem = take (updates_above items) items in
-          let all : asked ≡ map item_of us = ap (λ (is : List RollItem). map item_of us ++ from_table workers (updates_above items) is) none ∙ append-nil (map item_of us) in
-          let n : length (calls asked) ≡ updates_above items = ap (λ (xs : List Item). length (calls xs)) all ∙ (many_calls us (updates_stand items) ∙ many_above items) in
-          subst (IsScanned (points_above items answers)) (sym (drop_all (updates_above items) answers (omega (arith, many_answers, n)))) tt
-
-  -- there is an answer to each update above the first table
-  pub enough : updates_above items ≤ length answers
-  enough =
-      let us : List RollItem = take (updates_above items) items in
-      let e = ap length (calls-append (map item_of us) (from_table workers (updates_above items) (drop (updates_above items) items))) in
-      let f = length-append (calls (map item_of us)) (calls (from_table workers (updates_above items) (drop (updates_above items) items))) in
-      omega (arith, many_answers, e, f, many_calls us (updates_stand items), many_above items)
+      go : BeginsWithTable (drop (updates_above items) items) → AreWhole items answers
+      go (inl none) = absurd (omega (arith, w, length-drop (updates_above items) items, ap length none))
+      go (inr table) = by (scan_answered table.0 table.1)
+        where
+          by : (slice_get answers (updates_above items) ≡ Some answer.Spent) ⊎ (slice_get answers (updates_above items) ≡ Some (answer.Pairs points)) × IsRising points → AreWhole items answers
+          by (inl e) = absurd (served e)
+          by (inr g) =
+              let is : points_scanned items answers ≡ points = scanned_is items answers (omega (arith, slice_get_within answers (updates_above items) (answer.Pairs points) g.0)) in
+              record {
+                many = many_answers ∙ many_asked workers items table.0 table.1;
+                scan = g.0 ∙ ap (λ (ps : Pairs). Some (answer.Pairs ps)) (sym is);
+                rising = subst IsRising (sym is) g.1;
+              }
 
 -- How many items are asked, and who scans.
 
@@ -387,7 +445,7 @@ asked_few workers items some =
     let a = length-append (map item_of (take q items)) (from_table workers q (drop q items)) in
     let b = length-map {B = Item} (take q items) item_of in
     let c = from_table_few workers q (drop q items) some in
-    let d = many_above items in
+    let d = many_first items in
     let e = length-drop q items in
     let f = above_within items in
     omega (arith, a, b, c, d, e, f)
@@ -458,5 +516,5 @@ first_workers workers items some i l e t = go (table_stands items)
         absurd (no_range (take q items) is_item.0 l.call l.form (ap (λ (xs : List Item). slice_get xs is_item.0) (sym all) ∙ is_item.2) t)
     go (inr table) =
         let at = scan_place (take q items) table.0 (waits_before workers (q + 1)) is_item.0 l.call l.form (ap (λ (xs : List Item). slice_get xs is_item.0) (sym (asked_is workers items table.0 table.1)) ∙ is_item.2) t in
-        let n : l.number ≡ q + 1 + waits_before workers (q + 1) + 1 = let a = is_item.1 in let b = at.place in let d = many_above items in omega arith in
+        let n : l.number ≡ q + 1 + waits_before workers (q + 1) + 1 = let a = is_item.1 in let b = at.place in let d = many_first items in omega arith in
         ap (λ (c : Call). dealt_by c l.number % workers) at.call ∙ (ap (λ x. x % workers) n ∙ number_is (q + 1) workers some)

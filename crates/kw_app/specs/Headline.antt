@@ -1,6 +1,7 @@
 -- What the answers of a run are worth: they are those of an ordered map of one thread that the
 -- lines' calls ask one after the other.
-use Rattle.std.specs.Prelude.{ℕ, ◌≡◌, ◌<◌, ◌≤◌, ◌⊎◌, Option, None, true, false, not, IsTrue, All, List, [], length, slice_get, Some}
+use Rattle.std.specs.Prelude.{ℕ, ◌≡◌, ◌≢◌, ◌<◌, ◌≤◌, ◌⊎◌, Option, None, true, false, not, IsTrue, All, List, [], length, slice_get, Some}
+use Rattle.kw_words.specs.declared.sizes.TheConstants.{SPENT}
 use Rattle.kw_model.specs.declared.call.Call.TheVariants.{Scan}
 use Rattle.kw_model.specs.declared.call.Reply.{Reply}
 use Rattle.kw_model.specs.declared.call.Reply.TheVariants as reply
@@ -102,6 +103,18 @@ pub record AreRefusals (items : List Item) (printed : List Answer) : Type 0 wher
   -- a line that asks for one key is never refused
   pub spent : (i : ℕ) (f : Form) → slice_get (forms items) i ≡ Some f → slice_get printed i ≡ Some Spent → IsTrue (not (is_get f))
 
+-- another line than line i asks for a range
+pub record IsBesideRange (items : List Item) (i : ℕ) : Type 0 where
+  pub place : ℕ
+  pub apart : place ≢ i
+  pub form : Form
+  pub here : slice_get (forms items) place ≡ Some form
+  pub range : IsTrue (is_range form)
+
+-- a line that asks for a range was refused only beside another one
+abbrev pub AreRefusedBeside : List Item → List Answer → Type 0
+AreRefusedBeside items printed = (i : ℕ) (f : Form) → slice_get (forms items) i ≡ Some f → IsTrue (is_range f) → slice_get printed i ≡ Some Spent → IsBesideRange items i
+
 -- what is printed for these items, by a run which has this list of events
 pub record Headline (o : Opening) (E : List Event) (items : List Item) (printed : List Answer) : Type 0 where
   -- it is what one thread would print in some order of the lines that keeps what came before what
@@ -112,3 +125,5 @@ pub record Headline (o : Opening) (E : List Event) (items : List Item) (printed 
   pub quiet : UpdatesServed items printed → QuietAnswered items printed
   -- refusals stand only where they may
   pub refusals : AreRefusals items printed
+  -- versions are drawn for ranges alone, so the first line that asks for one is not refused
+  pub ranges : o.clock < SPENT → AreRefusedBeside items printed

@@ -16,7 +16,7 @@ pub record IsRolledOf (width workers rows : ℕ) (items : List RollItem) (printe
   pub answered : IsAnswered workers rows (asked_items workers items) answers front
   pub scan : IsFirstWorkers workers (asked_items workers items)
   pub text_is : printed ≡ tables width items answers
-  -- an update was refused, or the scan was
+  -- an update was refused
   pub ending_is : end ≡ refusal_ending (some_refused answers)
 
 -- the text is that of the tables among the lines of these bytes

@@ -1,27 +1,26 @@
 //! The tables of `rollup`, made of the answers to what was asked.
 //!
 //! The scan's pairs are the points above the first table, and each update below it that was not
-//! refused changes them, in line order. Where the scan was refused, since the clock was spent, each
-//! table says so.
-ghost use Rattle.std.specs.Prelude.{◌≡◌, ◌+◌, ◌++◌, ◌<◌, ◌≤◌, ◌^◌, length, drop, IfOk, OnOk};
-ghost use Rattle.std.specs.List.{count_by, flat_map};
+//! refused changes them, in line order. The scan is never refused: no other call draws a version
+//! before it.
+ghost use Rattle.std.specs.Prelude.{◌≡◌, ◌+◌, ◌++◌, ◌<◌, ◌≤◌, ◌^◌, length, suc, true, if◌then◌else◌, IfOk, OnOk};
+ghost use Rattle.std.specs.List.{count_by};
 ghost use Rattle.kw_rollup.specs.Buckets.{buckets};
 ghost use Rattle.kw_rollup.specs.Texts.{table_text};
 ghost use Rattle.kw_app.specs.Asked.{updates_above};
 ghost use Rattle.kw_app.specs.Running.{is_refused};
-ghost use Rattle.kw_app.specs.Tables.{IsScanned, accepted, changed, points_above, refused_text, refused_with, tables, tables_from};
+ghost use Rattle.kw_app.specs.Rolled.{StandsBelow};
+ghost use Rattle.kw_app.specs.Tables.{AreWhole, accepted, changed, is_update, tables, updates};
 
 use crate::asked::updates_above;
 use kw_line::answer::Answer;
-use kw_line::print::push_answer;
-use kw_line::words::LINE_FEED;
 use kw_model::memory::Memory;
 use kw_rollup::item::{MINUTES, RollItem};
 use kw_rollup::rollup::Rollup;
 use std::alloc::Global;
 
-/// All tables of lines that were answered so. The scan was refused, or it was answered by the
-/// points that the accepted updates above the first table leave.
+/// The tables among lines that were answered so. Where a line is a table, the scan was answered by
+/// the points that the accepted updates above the first one leave.
 pub fn tables(
     alloc: Global,
     width: u32,
@@ -30,29 +29,25 @@ pub fn tables(
 ) -> Result<Vec<u8>, Memory>
     requires some { 0 < width }
     requires most { width ≤ MINUTES }
-    requires all { updates_above items.now ≤ length answers.now }
-    requires scan { IsScanned (points_above items.now answers.now)
-        (drop (updates_above items.now) answers.now) }
+    requires whole { updates_above items.now < length items.now → AreWhole items.now answers.now }
     ensures { IfOk result (λ text. text.items ≡ tables width items.now answers.now) }
 {
     let first = updates_above(items);
-    if first == answers.len() {
+    if first == items.len() {
         // no table, and so no scan
         return Ok(Vec::new(alloc));
     }
-    let refused = refused_in(&answers[..first]);
     match &answers[first] {
         Answer::Pairs(pairs) => {
-            let rollup = Rollup::from_pairs(alloc, width, pairs)?;
-            tables_from(
-                alloc,
-                rollup,
-                refused,
-                &items[first..],
-                &answers[first + 1..],
-            )
+            let rolling = Rolling {
+                rollup: Rollup::from_pairs(alloc, width, pairs)?,
+                refused: refused_in(&answers[..first]),
+                next: first + 1,
+                text: Vec::new(alloc),
+            };
+            rolled(rolling, first, items, answers)
         }
-        _ => refused_tables(alloc, &items[first..]),
+        _ => unreachable!(),
     }
 }
 
@@ -71,56 +66,27 @@ fn is_refused(answer: &Answer) -> bool
     matches!(answer, Answer::NoRows | Answer::Spent)
 }
 
-/// What stands in place of the tables among these lines where the scan was refused.
-fn refused_tables(alloc: Global, items: &[RollItem]) -> Result<Vec<u8>, Memory>
-    ensures { IfOk result (λ text. text.items ≡ flat_map refused_text items.now) }
-{
-    let mut text = Vec::new(alloc);
-    for item in items {
-        push_refused(&mut text, *item)?;
-    }
-    Ok(text)
-}
-
-/// Adds at the end what stands in place of a table, where the line is one.
-fn push_refused(text: &mut Vec<u8>, item: RollItem) -> Result<(), Memory>
-    ensures { OnOk result (text.new.items ≡ text.old.items ++ refused_text item) }
-{
-    match item {
-        RollItem::Table => {
-            push_answer(text, &Answer::Spent)?;
-            Ok(text.push(LINE_FEED)?)
-        }
-        _ => Ok(()),
-    }
-}
-
-/// The tables among these lines, where the updates were answered so. Above the first of them are
-/// the points of the rollup, and so many updates were refused.
-fn tables_from(
-    alloc: Global,
-    rollup: Rollup,
-    refused: u64,
+/// The tables of all lines, where those above the first one were gone through.
+fn rolled(
+    rolling: Rolling,
+    first: usize,
     items: &[RollItem],
     answers: &[Answer],
 ) -> Result<Vec<u8>, Memory>
-    requires { refused + length answers.now + 1 < 2 ^ 64 }
+    requires inside { first ≤ length items.now }
+    requires many { length answers.now ≡ suc (length (updates items.now)) }
+    requires stands { StandsBelow rolling.rollup.width items.now answers.now first rolling }
     ensures { IfOk result (λ text. text.items
-        ≡ tables_from rollup.width rollup.pairs refused items.now answers.now) }
+        ≡ tables rolling.rollup.width items.now answers.now) }
 {
-    let mut rolling = Rolling {
-        rollup,
-        refused,
-        next: 0,
-        text: Vec::new(alloc),
-    };
-    for item in items {
+    let mut rolling = rolling;
+    for item in &items[first..] {
         rolling.go(*item, answers)?;
     }
     Ok(rolling.text)
 }
 
-/// The points at a line, what was printed above it, and how many updates above it were refused.
+/// What was printed at the lines so far, and what the lines below go on from.
 #[derive(Drop)]
 struct Rolling {
     rollup: Rollup,
@@ -133,15 +99,14 @@ struct Rolling {
 impl Rolling {
     ghost use Rattle.kw_app.specs.Rolled.{GoesOn};
 
-    /// Prints the line, where it is a table, or makes its update, unless that was refused.
+    /// Goes through a line: prints a table, or makes an update, unless that was refused.
     fn go(&mut self, item: RollItem, answers: &[Answer]) -> Result<(), Memory>
-        requires next { self.old.next ≤ length answers.now }
+        requires next { is_update item ≡ true → self.old.next < length answers.now }
         requires few { self.old.refused + 1 < 2 ^ 64 }
-        ensures goes { OnOk result (GoesOn self.old item answers.now self.new) }
+        ensures goes { OnOk result (GoesOn item answers.now self.old self.new) }
     {
         match item {
             RollItem::Table => self.print(),
-            _ if self.next == answers.len() => Ok(()),
             _ => self.update(item, &answers[self.next]),
         }
     }
@@ -165,7 +130,8 @@ impl Rolling {
         ensures pairs { OnOk result (self.new.rollup.pairs
             ≡ accepted self.old.rollup.pairs item answer.now) }
         ensures width { self.new.rollup.width ≡ self.old.rollup.width }
-        ensures refused { self.new.refused ≡ refused_with self.old.refused answer.now }
+        ensures refused { self.new.refused ≡ self.old.refused
+            + (if is_refused answer.now then 1 else 0) }
         ensures next { self.new.next ≡ self.old.next + 1 }
         ensures text { self.new.text.items ≡ self.old.text.items }
     {

@@ -35,3 +35,5 @@ pub mod NamedRows
 pub mod VisitsOver
 pub mod VisitsAlong
 pub mod ReachHolds
+pub mod ScanArrows
+pub mod Clocks

@@ -9,3 +9,4 @@ pub mod Reach
 pub mod MirrorReads
 pub mod MirrorLosses
 pub mod Causes
+pub mod Clocks

@@ -17,6 +17,7 @@ ghost use Rattle.kw_world.specs.Sizes.{Sizes};
 ghost use Rattle.kw_core.specs.Events.{is_valid, world, local_of, of_seat, event};
 ghost use Rattle.kw_core.specs.Run.{history};
 ghost use Rattle.kw_laws.specs.Causes.{AsksWhereItStands, HaveCauses};
+ghost use Rattle.kw_laws.specs.Clocks.{AreRefusedBehindScans, RestsWithoutScans};
 ghost use Rattle.kw_laws.specs.Laws.{KeepsLaws};
 ghost use Rattle.kw_laws.specs.Live.{AreLive};
 ghost use Rattle.kw_laws.specs.Mirror.{Mirrors};
@@ -73,6 +74,17 @@ pub fn cause_laws()
         is_valid z o events ≡ true → HaveCauses z o events (history z o events).history }
     ensures standing { (z : Sizes) (o : Opening) (events : List Event) → IsOpening z o →
         is_valid z o events ≡ true → AsksWhereItStands z o events }
+{}
+
+/// Versions are drawn for scans alone: where no call of a valid list from an opening is a scan, the
+/// clock is that of the opening. So the scan that loads the clock first finds it there, and a scan
+/// is refused only where another scan began before it ended, or where the clock of the opening was
+/// at its bound.
+pub fn clock_laws()
+    ensures rests { (z : Sizes) (o : Opening) (events : List Event) → IsOpening z o →
+        is_valid z o events ≡ true → RestsWithoutScans z o events (history z o events).history }
+    ensures refused { (z : Sizes) (o : Opening) (events : List Event) → IsOpening z o →
+        is_valid z o events ≡ true → AreRefusedBehindScans o (history z o events).history }
 {}
 
 /// No row is used again while a seat may read it. When a retired row is given free, each visit that
