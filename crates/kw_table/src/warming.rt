@@ -13,7 +13,7 @@ ghost use Rattle.kw_words.specs.declared.sizes.TheConstants.{SEATS, CELLS, CELL_
 use crate::shared::Shared;
 use kw_words::layout::Name;
 use kw_words::link::Link;
-use kw_words::plain::unpack_key;
+use kw_words::plain::{unpack_built, unpack_key};
 use kw_words::sizes::{CELL_COUNT, FROZEN_BIT};
 use kw_words::state::State;
 
@@ -30,9 +30,9 @@ impl Shared {
     /// is done where the table has no such row.
     pub fn warm(&self, row: u32) {
         if self.is_cold(row) {
-            let given = given_in(self.peek(Name::Count(row)));
+            let built = unpack_built(self.peek(Name::Least(row))).min(CELL_COUNT);
             self.peek_least(self.peek(Name::Next(row)));
-            self.peek_cells(row, given);
+            self.peek_cells(row, built);
         }
     }
 
