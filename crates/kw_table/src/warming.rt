@@ -25,9 +25,10 @@ pub const SMALLEST_COLD: u32 = 256;
 const CELLS_A_LINE: u32 = 2;
 
 impl Shared {
-    /// Loads what a walk along the row's list and the step to the next row ask for: a word of each
-    /// cache line in which given cells of the row lie, and the least key of the next row. Nothing
-    /// is done where the table has no such row.
+    /// Loads what a search among the cells with which the row was built and the step to the next
+    /// row ask for: a word of each cache line in which those cells lie, and the least key of the
+    /// next row. A walk begins behind one of them, and meets few of the cells that were given
+    /// since, so these are left to it. Nothing is done where the table has no such row.
     pub fn warm(&self, row: u32) {
         if self.is_cold(row) {
             let built = unpack_built(self.peek(Name::Least(row))).min(CELL_COUNT);
@@ -36,9 +37,10 @@ impl Shared {
         }
     }
 
-    /// The same for a row that a scan comes to from another one. When it steps on to the next row,
-    /// it asks for the least key of the row behind that one, to know where the next row ends. So
-    /// the least key two rows on is loaded too.
+    /// Loads what a scan asks for that comes to the row from another one: a word of each cache line
+    /// in which given cells of the row lie. When it steps on to the next row, it asks for the least
+    /// key of the row behind that one, to know where the next row ends. So the least key two rows
+    /// on is loaded too.
     pub fn warm_next(&self, row: u32) {
         if self.is_cold(row) {
             let given = given_in(self.peek(Name::Count(row)));
