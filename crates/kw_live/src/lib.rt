@@ -32,5 +32,5 @@ pub use entering::{end_scan, enter, enter_anew, leave, stop_scan};
 pub use getting::get;
 pub use putting::{TryPut, try_put};
 pub use reading::{look_at_row, read_list, read_row};
-pub use streaming::{begin_cells, leads_on, next_cell};
+pub use streaming::{leads_on, next_cell};
 pub use walking::{go_by_rows, locate};

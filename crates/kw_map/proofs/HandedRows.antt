@@ -10,6 +10,7 @@ use Rattle.kw_cells.specs.declared.cell.Cell.{Cell}
 use Rattle.kw_cells.specs.Cells.{pairs_of}
 use Rattle.kw_model.specs.Counts.{CountRose}
 use Rattle.kw_model.specs.Map.{Pairs}
+use Rattle.kw_world.specs.Calls.{last_key}
 use Rattle.kw_world.specs.declared.activity.Activity.{Activity}
 use Rattle.kw_world.specs.declared.activity.read.Read.TheVariants as Read
 use Rattle.kw_world.specs.declared.local.Local.{Local}
@@ -22,9 +23,10 @@ use Rattle.kw_follow.specs.declared.cursor.Cursor.{Cursor}
 use Rattle.kw_follow.proofs.OneEvent.{follows_ranges}
 use Rattle.kw_follow.proofs.OwnEvents.{goes_trans}
 use Rattle.kw_follow.proofs.Reaching.{reaches_none}
-use Rattle.kw_live.specs.Streaming.{BeginsCells, EndsRow, ReadsCell, Streams}
+use Rattle.kw_live.specs.Streaming.{EndsRow, ReadsCell, Streams}
 use Rattle.kw_live.specs.Walking.{WalksFurther}
-use Rattle.kw_map.specs.Gather.{IsBelow, StandsAsBefore, Takes, TakesPrefix, last_key}
+use Rattle.kw_live.proofs.CellStream.{stream_begins}
+use Rattle.kw_map.specs.Gather.{IsBelow, StandsAsBefore, Takes, TakesPrefix, last_key as last_taken}
 use Rattle.kw_map.specs.Handing.{HandsOn, IsSettled, more_of, next_low, pair_with}
 use Rattle.kw_map.specs.declared.gather.Stop.{Stop}
 use Rattle.kw_map.proofs.HandedCells.{none_shown, pairs_on, settled_begins, settled_on}
@@ -47,14 +49,14 @@ on_ok (Ok x) f p = f p
 on_ok (Err e) f p = tt
 
 -- the pair that a cell adds is below the keys that are not settled then
-more_below : (before : Option ℕ) (low version : ℕ) (c : Cell) → IsBelow before low → IsBelow (last_key before (more_of low version c)) (next_low low version c)
+more_below : (before : Option ℕ) (low version : ℕ) (c : Cell) → IsBelow before low → IsBelow (last_taken before (more_of low version c)) (next_low low version c)
 more_below before low version c below = which (nat_le low c.key && nat_le c.version version) refl
   where
-    with_value : low ≤ c.key → (value : Option ℕ) → IsBelow (last_key before (pair_with c.key value)) (suc c.key)
+    with_value : low ≤ c.key → (value : Option ℕ) → IsBelow (last_taken before (pair_with c.key value)) (suc c.key)
     with_value above None = IsBelow-le before low (suc c.key) (omega (arith, above)) below
     with_value above (Some value) = λ x e. let it : c.key ≡ x = cc in omega arith
 
-    which : (n : Bool) → nat_le low c.key && nat_le c.version version ≡ n → IsBelow (last_key before (if n then pair_with c.key c.value else [])) (if n then suc c.key else low)
+    which : (n : Bool) → nat_le low c.key && nat_le c.version version ≡ n → IsBelow (last_taken before (if n then pair_with c.key c.value else [])) (if n then suc c.key else low)
     which false n = below
     which true n = with_value (grind (arith, nat_tests)) c.value
 
@@ -108,7 +110,7 @@ taken_on g old mid new pairs low version c (Err e) (Err f) h all kept stays stop
 -- Along the list.
 
 -- what stays while the cells of a row are handed on
-pub record IsHandingOn {S : Type 0} (g : GathererWords S) (s : Shared) (o : Pass) (l : Local) (upto : ℕ) (old : S) (p : Pass) (k : Local) (w : Cursor) (low : ℕ) (ended : Result Unit Stop) (new : S) : Type 0 where
+pub record IsHandingOn {S : Type 0} (g : GathererWords S) (s : Shared) (o : Pass) (l : Local) (old : S) (p : Pass) (k : Local) (w : Cursor) (low : ℕ) (ended : Result Unit Stop) (new : S) : Type 0 where
   pub cells : List Cell
   pub same : k ≡ l
   pub goes : GoesTo s o p
@@ -116,36 +118,37 @@ pub record IsHandingOn {S : Type 0} (g : GathererWords S) (s : Shared) (o : Pass
   pub held : held p ≡ held o
   pub streams : Streams s p k w cells
   pub settled : IsSettled cells l.want l.version low
-  pub took : HasTaken g old (pairs_of cells l.want upto l.version) low ended new
+  pub took : HasTaken g old (pairs_of cells l.want (last_key l.call) l.version) low ended new
 
 -- at first no cell was read
-pub handed_begins : {S : Type 0} (g : GathererWords S) (s : Shared) (p q : Pass) (l : Local) (upto : ℕ) (into : S) (w : Cursor) (low : ℕ) → BeginsCells s p l q w → low ≡ l.want → IsBelow (g.last into) l.want → IsHandingOn g s p l upto into q l w low (Ok tt) into
-handed_begins g s p q l upto into w low begun wanted above = record {
+pub handed_begins : {S : Type 0} (g : GathererWords S) (s : Shared) (p : Pass) (l : Local) (into : S) (w : Cursor) (low : ℕ) → Follows s p l → l.activity ≡ Activity.Read Read.Start → l.gathered ≡ [] → with_cursor l.activity w l ≡ l → low ≡ l.want → IsBelow (g.last into) l.want → IsHandingOn g s p l into p l w low (Ok tt) into
+handed_begins g s p l into w low f at none own wanted above = record {
   cells = [];
   same = refl;
-  goes = begun.goes;
-  calls = begun.calls;
-  held = begun.held;
-  streams = begun.streams;
-  settled = subst (IsSettled [] l.want l.version) (sym wanted) (settled_begins l.want upto l.version);
+  goes = (reaches_none f).goes;
+  calls = refl;
+  held = refl;
+  streams = stream_begins f at none own;
+  settled = subst (IsSettled [] l.want l.version) (sym wanted) (settled_begins l.want (last_key l.call) l.version);
   took = record {
     below = subst (IsBelow (g.last into)) (sym wanted) above;
-    all = subst (λ (ps : Pairs). Takes g.last g.stands into ps into) (sym (none_shown l.want upto l.version)) (takes_nothing g.last g.stands into);
+    all = subst (λ (ps : Pairs). Takes g.last g.stands into ps into) (sym (none_shown l.want (last_key l.call) l.version)) (takes_nothing g.last g.stands into);
     prefix = tt;
     stopped = tt;
     never_falls = omega arith;
   };
 }
 
-module _ {S : Type 0} (g : GathererWords S) {s : Shared} {o p q : Pass} {l k n : Local} {upto : ℕ} {old mid : S} {w : Cursor} {low : ℕ} {ended : Result Unit Stop} (i : IsHandingOn g s o l upto old p k w low ended mid) where
+module _ {S : Type 0} (g : GathererWords S) {s : Shared} {o p q : Pass} {l k n : Local} {old mid : S} {w : Cursor} {low : ℕ} {ended : Result Unit Stop} (i : IsHandingOn g s o l old p k w low ended mid) where
   -- a cell more was read, and its pair handed on
-  pub handed_on : (new : S) (c : Cell) (x : Cursor) (next version : ℕ) (result : Result Unit Stop) → (n ≡ k) × ReadsCell s p k upto w i.cells q c x → version ≡ l.version → next ≡ next_low low version c
+  pub handed_on : (new : S) (c : Cell) (x : Cursor) (next version : ℕ) (result : Result Unit Stop) → (n ≡ k) × ReadsCell s p k w i.cells q c x → version ≡ l.version → next ≡ next_low low version c
       → OnOk result (Takes g.last g.stands mid (more_of low version c) new) → OnErr result (StandsAsBefore g.last g.stands mid new) → OnErr ended (is_ok result ≡ false)
       → OnOk ended (OnErr result (CountRose (g.stops mid) (g.stops new))) → OnErr ended (g.stops new ≡ g.stops mid) → g.stops mid ≤ g.stops new
-      → IsHandingOn g s o l upto old q n x next result new
+      → IsHandingOn g s o l old q n x next result new
   handed_on new c x next version result (stays, read) drawn lower all kept ends stopped still never =
+      let within : c.key ≤ last_key l.call = subst (λ (m : Local). c.key ≤ last_key m.call) i.same read.upto in
       let at : next ≡ next_low low l.version c = lower ∙ ap (λ v. next_low low v c) drawn in
-      let longer : pairs_of (i.cells ++ c ∷ []) l.want upto l.version ≡ pairs_of i.cells l.want upto l.version ++ more_of low l.version c = pairs_on c i.cells l.want upto l.version low read.behind read.upto i.settled in
+      let longer : pairs_of (i.cells ++ c ∷ []) l.want (last_key l.call) l.version ≡ pairs_of i.cells l.want (last_key l.call) l.version ++ more_of low l.version c = pairs_on c i.cells l.want (last_key l.call) l.version low read.behind within i.settled in
       record {
         cells = i.cells ++ c ∷ [];
         same = stays ∙ i.same;
@@ -154,28 +157,28 @@ module _ {S : Type 0} (g : GathererWords S) {s : Shared} {o p q : Pass} {l k n :
         held = read.held ∙ i.held;
         streams = subst (λ (m : Local). Streams s q m x (i.cells ++ c ∷ [])) (sym stays) read.streams;
         settled = subst (λ m. IsSettled (i.cells ++ c ∷ []) l.want l.version m) (sym at) (settled_on c i.cells l.want l.version low read.behind i.settled);
-        took = subst (λ m. HasTaken g old (pairs_of (i.cells ++ c ∷ []) l.want upto l.version) m result new) (sym at)
+        took = subst (λ m. HasTaken g old (pairs_of (i.cells ++ c ∷ []) l.want (last_key l.call) l.version) m result new) (sym at)
             (subst (λ (ps : Pairs). HasTaken g old ps (next_low low l.version c) result new) (sym longer)
-            (taken_on g old mid new (pairs_of i.cells l.want upto l.version) low l.version c ended result i.took (subst (λ v. OnOk result (Takes g.last g.stands mid (more_of low v c) new)) drawn all) kept ends stopped still never));
+            (taken_on g old mid new (pairs_of i.cells l.want (last_key l.call) l.version) low l.version c ended result i.took (subst (λ v. OnOk result (Takes g.last g.stands mid (more_of low v c) new)) drawn all) kept ends stopped still never));
       }
 
   -- the row was read, and the scan walked to the next one
-  pub handed_ends : {r : Pass} {m : Local} → EndsRow s p k upto i.cells q n → WalksFurther s q n r m → IsBelow (g.last old) l.want → HandsOn g.last g.stands g.stops o l old r m mid ended
+  pub handed_ends : {r : Pass} {m : Local} → EndsRow s p k i.cells q n → WalksFurther s q n r m → IsBelow (g.last old) l.want → HandsOn g.last g.stands g.stops o l old r m mid ended
   handed_ends {r} {m} ends on above =
       let wanted : k.want ≡ l.want = ap (λ (x : Local). x.want) i.same in
-      let pairs_same : pairs_of i.cells k.want upto k.version ≡ pairs_of i.cells l.want upto l.version = ap (λ (x : Local). pairs_of i.cells x.want upto x.version) i.same in
+      let pairs_same : pairs_of i.cells k.want (last_key k.call) k.version ≡ pairs_of i.cells l.want (last_key l.call) l.version = ap (λ (x : Local). pairs_of i.cells x.want (last_key x.call) x.version) i.same in
       let rises : l.want ≤ m.want = omega (arith, wanted, ends.goes_on.rises, on.walks.want) in
-      let under : All (λ pair. pair.0 < m.want) (pairs_of i.cells l.want upto l.version) =
-      subst (λ (ps : Pairs). All (λ pair. pair.0 < m.want) ps) pairs_same (subst (λ v. All (λ pair. pair.0 < v) (pairs_of i.cells k.want upto k.version)) (sym on.walks.want) ends.goes_on.above) in
+      let under : All (λ pair. pair.0 < m.want) (pairs_of i.cells l.want (last_key l.call) l.version) =
+      subst (λ (ps : Pairs). All (λ pair. pair.0 < m.want) ps) pairs_same (subst (λ v. All (λ pair. pair.0 < v) (pairs_of i.cells k.want (last_key k.call) k.version)) (sym on.walks.want) ends.goes_on.above) in
       record {
         calls = on.calls ∙ (ends.calls ∙ i.calls);
         call = on.walks.call ∙ (ends.call ∙ ap (λ (x : Local). x.call) i.same);
         version = on.walks.version ∙ (ends.version ∙ ap (λ (x : Local). x.version) i.same);
         rises = rises;
-        pairs = pairs_of i.cells l.want upto l.version;
-        held = on.held ∙ (ends.held ∙ (ap (λ (ps : Pairs). ps ++ pairs_of i.cells k.want upto k.version) i.held ∙ ap (λ (ps : Pairs). held o ++ ps) pairs_same));
+        pairs = pairs_of i.cells l.want (last_key l.call) l.version;
+        held = on.held ∙ (ends.held ∙ (ap (λ (ps : Pairs). ps ++ pairs_of i.cells k.want (last_key k.call) k.version) i.held ∙ ap (λ (ps : Pairs). held o ++ ps) pairs_same));
         all = i.took.all;
-        below = on_ok ended (λ t. subst (λ (x : Option ℕ). IsBelow x m.want) (sym t.last_is) (last_below (g.last old) (pairs_of i.cells l.want upto l.version) m.want (IsBelow-le (g.last old) l.want m.want rises above) under)) i.took.all;
+        below = on_ok ended (λ t. subst (λ (x : Option ℕ). IsBelow x m.want) (sym t.last_is) (last_below (g.last old) (pairs_of i.cells l.want (last_key l.call) l.version) m.want (IsBelow-le (g.last old) l.want m.want rises above) under)) i.took.all;
         prefix = i.took.prefix;
         stopped = i.took.stopped;
         never_falls = i.took.never_falls;

@@ -1,12 +1,13 @@
 //! The rows of a scan whose pairs are handed on cell by cell.
 //!
-//! A row that leads on to a next one in the range is read without writing its cells down: each pair
-//! is handed on when the first cell of its key that the scan's version may show is read, for the
-//! cells of a key come by falling version. The last row of a scan, and one at whose entries puts
-//! were met, is read as `scanning` says.
+//! A row whose keys are all in the range is read without writing its cells down: each pair is
+//! handed on when the first cell of its key that the scan's version may show is read, for the cells
+//! of a key come by falling version. The first row of a scan and its last one, and one at whose
+//! entries puts were met, are read as `scanning` says.
 ghost use Rattle.std.specs.Prelude.{◌≡◌, ℕ, ◌≤◌, ◌<◌, [], OnOk, OnErr, is_ok, false, Some};
 ghost use Rattle.kw_words.specs.Plain.{IsValue};
 ghost use Rattle.kw_model.specs.Counts.{CountRose};
+ghost use Rattle.kw_world.specs.Calls.{last_key};
 ghost use Rattle.kw_live.specs.Streaming.{LeadsOn};
 ghost use Rattle.kw_follow.specs.Following.{Follows, GoesTo};
 ghost use Rattle.kw_map.specs.Gather.{IsBelow, StandsAsBefore, Takes};
@@ -14,7 +15,8 @@ ghost use Rattle.kw_map.specs.Handing.{HandsOn, more_of, next_low};
 
 use crate::gather::{Gather, Stop};
 use kw_cells::cell::Cell;
-use kw_live::{begin_cells, go_by_rows, leads_on, look_at_row, next_cell};
+use kw_follow::Cursor;
+use kw_live::{go_by_rows, leads_on, look_at_row, next_cell};
 use kw_model::call::Call;
 use kw_table::{Pass, Shared};
 use kw_world::activity::Activity;
@@ -44,13 +46,14 @@ pub(crate) fn hand_rows<G: Gather>(
     ensures activity { local.new.activity ≡ Activity.Read Read.Start }
     ensures hands { HandsOn G.last G.stands G.stops pass.old local.old into.old pass.new local.new into.new result }
 {
+    let first = first_key(local.call);
     let mut ended = Ok(());
     loop {
         look_at_row(shared, pass, local);
-        if ended.is_err() || !leads_on(local, upto) {
+        if ended.is_err() || !leads_on(local, first, upto) {
             return ended;
         }
-        ended = hand_row(shared, pass, local, upto, into);
+        ended = hand_row(shared, pass, local, into);
     }
 }
 
@@ -63,28 +66,25 @@ fn hand_row<G: Gather>(
     shared: &Shared,
     pass: &mut Pass,
     local: &mut Local,
-    upto: u32,
     into: &mut G,
 ) -> Result<(), Stop>
     requires follows { Follows shared.now pass.old local.old }
     requires stage { local.old.activity ≡ Activity.Read Read.Start }
-    requires scan { (from : ℕ) × (local.old.call ≡ Some (Call.Scan from upto)) }
-    requires leads { LeadsOn upto local.old }
+    requires leads { LeadsOn local.old }
     requires none { local.old.gathered ≡ [] }
     requires above { IsBelow (G.last into.old) local.old.want }
     ensures goes { GoesTo shared.now pass.old pass.new }
     ensures follows { Follows shared.now pass.new local.new }
     ensures activity { local.new.activity ≡ Activity.Look (Look.Entry 0) }
     ensures rises { local.old.want < local.new.want }
-    ensures within { local.new.want ≤ upto }
+    ensures within { local.new.want ≤ last_key local.old.call }
     ensures hands { HandsOn G.last G.stands G.stops pass.old local.old into.old pass.new local.new into.new result }
 {
-    let first = first_key(local.call);
     let version = local.version;
     let mut low = u64::from(local.want);
     let mut ended = Ok(());
-    let mut cursor = begin_cells(shared, pass, local, first);
-    while let Some((cell, next)) = next_cell(shared, pass, local, cursor, first, upto) {
+    let mut cursor = Cursor::of(local);
+    while let Some((cell, next)) = next_cell(shared, pass, local, cursor) {
         cursor = next;
         ended = hand_cell(into, &mut low, version, cell, ended);
     }

@@ -3,7 +3,7 @@ use Rattle.kw_map.proofs.HandedRows.{handed_begins, handed_ends, handed_on}
 use Rattle.kw_map.proofs.handing.hand_row.Goals as goal
 
 pub loop-cell-init : goal.loop-cell-init
-loop-cell-init g c = handed_begins _ _ _ _ _ _ _ c.begin_cells-cursor.result c.from-low.result c.begin_cells-cursor.ensures c.from-low.ensures c.requires.above
+loop-cell-init g c = handed_begins _ _ _ _ _ c.of-cursor.result c.from-low.result c.requires.follows c.requires.stage c.requires.none c.of-cursor.ensures c.from-low.ensures c.requires.above
 
 pub hand_cell-ended-requires-clause-value : goal.hand_cell-ended-requires-clause-value
 hand_cell-ended-requires-clause-value g c =

@@ -1,6 +1,8 @@
-use Rattle.std.proofs.Common.{◌≡◌, false, true, refl, sym, ap, ◌∙◌, subst, arith}
+use Rattle.std.proofs.Common.{◌≡◌, ◌≤◌, Some, false, true, refl, sym, ap, ◌∙◌, subst, arith}
 use Rattle.kw_follow.proofs.OwnEvents.{goes_trans}
 use Rattle.kw_table.proofs.Prefixes.{prefix_self}
+use Rattle.kw_model.specs.declared.call.Call.TheVariants as Call
+use Rattle.kw_world.specs.Calls.{first_key, last_key}
 use Rattle.kw_live.specs.Reading.{is_looking}
 use Rattle.kw_map.specs.Gather.{IsBelow}
 use Rattle.kw_map.proofs.ReadRows.{hands_behind, hands_nothing, hands_still, unless_err}
@@ -31,8 +33,10 @@ returns-then-is_err-clause-hands g c =
     let r = c.look_at_row.ensures in
     hands_still _ _ _ _ _ _ _ _ _ _ i.hands r.on.calls r.on.held r.looks
 
-pub hand_row-ended-requires-clause-scan : goal.hand_row-ended-requires-clause-scan
-hand_row-ended-requires-clause-scan g c = (c.requires.scan.0, c.look_at_row.ensures.looks.call ∙ c.loop-local.invariant.hands.call ∙ c.requires.scan.1)
+pub leads_on-requires : goal.leads_on-requires
+leads_on-requires g c =
+    let scan = c.look_at_row.ensures.looks.call ∙ c.loop-local.invariant.hands.call ∙ c.requires.scan.1 in
+    scan ∙ ap (λ first. Some (Call.Scan first c.args.upto)) (sym (c.first_key-first.ensures ∙ ap first_key c.requires.scan.1))
 
 pub hand_row-ended-requires-clause-above : goal.hand_row-ended-requires-clause-above
 hand_row-ended-requires-clause-above g c =
@@ -40,7 +44,10 @@ hand_row-ended-requires-clause-above g c =
     (unless_err c.loop-local.ended (sym c.is_err.ensures.value ∙ c.if-is_err.false) c.loop-local.invariant.hands.below)
 
 pub loop-local-smaller : goal.loop-local-smaller
-loop-local-smaller g c = omega (arith, c.look_at_row.ensures.looks.want, c.hand_row-ended.ensures.rises, c.hand_row-ended.ensures.within)
+loop-local-smaller g c =
+    let scan = c.look_at_row.ensures.looks.call ∙ c.loop-local.invariant.hands.call ∙ c.requires.scan.1 in
+    let within = subst (λ call. c.hand_row-ended.new.local.want ≤ last_key call) scan c.hand_row-ended.ensures.within in
+    omega (arith, c.look_at_row.ensures.looks.want, c.hand_row-ended.ensures.rises, within)
 
 pub loop-local-preserved : goal.loop-local-preserved
 loop-local-preserved g c =
