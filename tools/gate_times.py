@@ -10,14 +10,17 @@ of the crates that take most, and of all others together.
 
 While the gate runs, this looks at the processes below it some times a second, and adds up the
 processor seconds of each check by its crate and by what it is for: the proof of the crate, that of
-its tests, the check that the wrong bodies begin with (and the one that shows afterwards that
-nothing was spoilt), or a wrong body. A check that lives between two looks alone is missed, so the
-sums are a little low; the last line says how much of the gate's whole time they cover.
+its tests, the wrong bodies, or a check of the unchanged crate on which these build, where the
+toolchain makes one before them. (An older build of it has the first wrong body of a crate checked
+from nothing in its place, and counts the check that shows afterwards that nothing was spoilt with
+the wrong bodies.) A check that lives between two looks alone is missed, so the sums are a little
+low; the last line says how much of the gate's whole time they cover.
 
-A run from nothing measures each crate. The result is written to tools/gate_shares only then, or by
---partial, which keeps the old line of each crate whose proof was kept from an earlier run. The
-launcher reads that file to say how much of a build is left. The status is that of the command, and
-0 beside a gate that is under way."""
+A run from nothing measures each crate, and each run of an older build of the toolchain is one; a
+newer build may take a proof from an earlier run. The result is written to tools/gate_shares only
+where each crate was proved, or by --partial, which keeps the old line of each crate that was not.
+The launcher reads that file to say how much of a build is left. The status is that of the command,
+and 0 beside a gate that is under way."""
 
 import argparse
 import os
@@ -34,8 +37,8 @@ SHARES, CRATES = ROOT / "tools" / "gate_shares", ROOT / "crates.txt"
 PAGE = ROOT / "docs" / "WORKING.md"
 HEAD = """\
 # Processor seconds that the gate takes from nothing, by crate: its proof, that of its tests, the
-# check before its wrong bodies, the wrong bodies, and how many these are. Written by
-# tools/gate_times.py; the launcher reads the first two columns.
+# check before its wrong bodies if there is one, the wrong bodies, and how many these are. Written
+# by tools/gate_times.py; the launcher reads the first two columns.
 """
 PROOF, TESTS, BEFORE, BODIES = KINDS = ("proof", "tests", "check before", "wrong bodies")
 TICKS = os.sysconf("SC_CLK_TCK")
@@ -118,7 +121,7 @@ def check_of(pid):
     if len(words) < 2 or os.path.basename(words[0]) != "rattle" or words[1] not in ("check", "build"):
         return None
     crate, over = after(words, "--crate-name"), after(words, "--incremental")
-    is_copy = re.search(r"/rt-edit-\d+-", folder_of(pid))
+    is_copy = "/rt-edit-" in folder_of(pid)
     if over.endswith("/seed"):
         return crate, BEFORE
     if is_copy or over:

@@ -4,29 +4,29 @@
 #
 #   tools/measure.sh
 #       proves and builds the programs where that is not done, and measures
-#   tools/measure.sh --rounds 3 --calls 200000
-#       with fewer rounds and calls
+#   tools/measure.sh --rounds 1 --calls 20000 --bytes 1000000
+#       with fewer rounds, calls of a kind and bytes of lines; no map is filled by fewer calls than
+#       700,000, so some figures are then missing
 #   tools/measure.sh --kiwi C --bench C --to F
 #       other commands in the place of the programs, and another folder for what is written
 #
-# Stop all else first; it takes about half an hour. In each round every program runs once, ours and
+# Stop all else first; a round takes one to two minutes. In each every program runs once, ours and
 # those of plain Rust in turn, so that what the machine does besides meets all of them; the figures
 # are medians over the rounds. It needs the commands rt, rustc and python3. tools/plot_measures.py
 # then writes the data (measures.csv), the pictures where matplotlib is there, and the tables.
 set -euo pipefail
 top=$(cd "$(dirname "$(readlink -f "$0")")/.." && pwd)
-rounds=7 calls=1000000 row_calls=8000 bytes=16777216 kiwi= bench= to=$top/docs/figures
+rounds=5 calls=1000000 bytes=16777216 kiwi= bench= to=$top/docs/figures
 while [ $# -gt 0 ]; do
   case "$1" in
     --rounds) rounds=$2 ;;
     --calls) calls=$2 ;;
-    --row-calls) row_calls=$2 ;;
     --bytes) bytes=$2 ;;
     --kiwi) kiwi=$2 ;;
     --bench) bench=$2 ;;
     --to) to=$2 ;;
     *)
-      sed -n '2,11p' "$0" | sed 's/^# \{0,1\}//' >&2
+      sed -n '2,12p' "$0" | sed 's/^# \{0,1\}//' >&2
       exit 2
       ;;
   esac
@@ -61,7 +61,8 @@ fi
   echo "toolchain: $(rt version </dev/null 2>/dev/null || echo unknown)"
   echo "compared with: $(rustc --version)"
   echo "rounds: $rounds"
-  echo "calls: $calls"
+  echo "calls of a kind: $calls"
+  echo "bytes of lines: $bytes"
 } >"$room/about"
 
 # The memory that ./kiwi asks for, for all programs alike.
@@ -88,11 +89,9 @@ timed() {
 for ((round = 1; round <= rounds; round++)); do
   echo "measure: round $round of $rounds" >&2
   # shellcheck disable=SC2086
-  $bench "$row_calls" >"$room/row.kiwi.$round"
-  "$room/native_row" "$row_calls" >"$room/row.native.$round"
-  # shellcheck disable=SC2086
-  $bench "$calls" >"$room/map.kiwi.$round"
-  "$room/std_maps" calls "$calls" >"$room/map.std.$round"
+  $bench "$calls" >"$room/kiwi.$round"
+  "$room/native_row" "$calls" >"$room/native.$round"
+  "$room/std_maps" calls "$calls" >"$room/std.$round"
   for percent in 0 1 10; do
     timed "$round" std "$percent" "$room/replay_base"
     # shellcheck disable=SC2086

@@ -1,6 +1,7 @@
-//! The figures of `kw_bench` on a map of one row, for native code over the same words: what the
-//! machine itself takes for the loads, stores and exchanges that the events of the map's calls
-//! make, with nothing kept of what was met, nothing checked and nothing helped.
+//! The figures of `kw_bench` on one row, for native code over the same words: what the machine
+//! itself takes for the loads, stores and exchanges that the events of the map's calls make, with
+//! nothing kept of what was met, nothing checked and nothing helped. A walk along a row that was
+//! built begins where the map's does: a search in the built cells finds the place.
 //!
 //! One file, which stands on Rust's standard library alone; no gate runs it. `tools/measure.sh`
 //! builds it, and runs it in turn with `kw_bench N`: the calls, the keys, their orders and the
@@ -19,12 +20,18 @@ use std::time::{Duration, Instant};
 
 const SEATS: usize = 8;
 const CELLS: usize = 64;
+/// How many cells of a row are filled when it is built.
+const BUILT: usize = 32;
+/// What the number of built cells is multiplied by in the word of a least key.
+const BUILT_UNIT: u64 = 1 << 32;
 
-/// Whose the keys of a row's cells are.
+/// Whose the keys of a row's cells are, and whether the row was built: one that is half built has
+/// cells of even keys, and others of the odd keys between them.
 #[derive(Clone, Copy)]
 enum Keys {
     Different,
     One,
+    HalfBuilt,
 }
 
 impl Keys {
@@ -32,14 +39,41 @@ impl Keys {
         match self {
             Keys::Different => number as u64,
             Keys::One => 0,
+            Keys::HalfBuilt if number < BUILT => 2 * number as u64,
+            Keys::HalfBuilt => gap_key(number - BUILT),
         }
     }
+
+    /// With how many cells a row is built.
+    fn built(self) -> usize {
+        match self {
+            Keys::Different | Keys::One => 0,
+            Keys::HalfBuilt => BUILT,
+        }
+    }
+
+    /// A key that none of the row is above, where it has so many cells.
+    fn greatest(self, cells: usize) -> u64 {
+        match self {
+            Keys::Different | Keys::One => cells as u64,
+            Keys::HalfBuilt => 2 * BUILT as u64 - 1,
+        }
+    }
+
     fn words(self) -> &'static str {
         match self {
             Keys::Different => "different keys",
             Keys::One => "one key",
+            Keys::HalfBuilt => "half built",
         }
     }
+}
+
+/// The odd key with this number: first one in every second gap between even keys, then one in each
+/// other gap.
+fn gap_key(number: usize) -> u64 {
+    let gap = 2 * number % BUILT + 2 * number / BUILT;
+    2 * gap as u64 + 1
 }
 
 /// A put's words in its row. A link is 0 at the end of the list, and else a cell's place and one.
@@ -51,9 +85,9 @@ struct Cell {
     next: AtomicU64,
 }
 
-/// The words of a row: its state, how many cells it gave, its least key, the links to the next row
-/// and to the first cell of its list by key and falling version, an entry for each seat, and the
-/// cells.
+/// The words of a row: its state, how many cells it gave, its least key with how many cells it was
+/// built with, the links to the next row and to the first cell of its list by key and falling
+/// version, an entry for each seat, and the cells.
 struct Row {
     state: AtomicU64,
     count: AtomicU64,
@@ -106,24 +140,37 @@ impl Rowless {
     }
 }
 
-/// The words of a map of one row.
+/// The words of a map: those of the row that is asked, and of the one behind it, to which only the
+/// link of a built row leads.
 struct Map {
     rowless: Rowless,
     row: Row,
+    behind: Row,
 }
 
 impl Map {
-    fn new() -> Box<Map> {
+    fn new(keys: Keys) -> Box<Map> {
         Box::new(Map {
             rowless: Rowless::new(),
-            row: Row::new(),
+            row: Row::new(keys),
+            behind: Row::new(Keys::Different),
         })
+    }
+
+    /// The walk to the row, where it was guessed: with how many cells it was built.
+    fn find(&self) -> usize {
+        black_box(self.row.state.load(SeqCst));
+        let least = self.row.least.load(SeqCst);
+        if self.row.next.load(SeqCst) != 0 {
+            black_box(self.behind.least.load(SeqCst));
+        }
+        (least / BUILT_UNIT) as usize
     }
 
     fn get(&self, seat: usize, key: u64) -> Option<u64> {
         self.rowless.enter(seat);
-        self.row.find();
-        let found = self.row.get(key);
+        let built = self.find();
+        let found = self.row.get(built, key);
         self.rowless.leave(seat);
         found
     }
@@ -131,38 +178,59 @@ impl Map {
     fn scan(&self, seat: usize, from: u64, to: u64, pairs: &mut Vec<(u64, u64)>) {
         self.rowless.enter(seat);
         let version = self.rowless.draw(seat);
-        self.row.find();
-        self.row.scan(from, to, version, pairs);
+        let built = self.find();
+        self.row.scan(built, from, to, version, pairs);
         self.rowless.scans[seat].0.store(0, SeqCst);
         self.rowless.leave(seat);
     }
 
     fn put(&self, seat: usize, key: u64, value: u64) {
         self.rowless.enter(seat);
-        self.row.find();
-        self.row.put(seat, &self.rowless.clock.0, key, value);
+        let built = self.find();
+        self.row.put(seat, built, &self.rowless.clock.0, key, value);
         self.rowless.leave(seat);
     }
 }
 
 impl Row {
-    fn new() -> Row {
+    /// A row with the cells that it is built with, linked one behind the other.
+    fn new(keys: Keys) -> Row {
+        let built = keys.built();
+        let link = |number: usize| AtomicU64::new(if number < built { number as u64 + 1 } else { 0 });
+        let cell = |number: usize| Cell {
+            key: AtomicU64::new(keys.of_cell(number)),
+            value: AtomicU64::new(1),
+            version: AtomicU64::new(1),
+            next: link(number + 1),
+        };
         Row {
             state: AtomicU64::new(2),
-            count: AtomicU64::new(0),
-            least: AtomicU64::new(0),
-            next: AtomicU64::new(0),
-            first: AtomicU64::new(0),
+            count: AtomicU64::new(built as u64),
+            least: AtomicU64::new(built as u64 * BUILT_UNIT),
+            next: AtomicU64::new(u64::from(built > 0)),
+            first: link(0),
             entries: array::from_fn(|_| AtomicU64::new(0)),
-            cells: array::from_fn(|_| Cell::default()),
+            cells: array::from_fn(|number| if number < built { cell(number) } else { Cell::default() }),
         }
     }
 
-    /// The walk to this row, where it was guessed.
-    fn find(&self) {
-        black_box(self.state.load(SeqCst));
-        black_box(self.least.load(SeqCst));
-        black_box(self.next.load(SeqCst));
+    /// The link at which a walk to a key begins: behind the last built cell whose key is below it,
+    /// which a search finds; or the first one. The key of that cell is loaded again, as by the map,
+    /// which checks what its search has told.
+    fn begin(&self, built: usize, key: u64) -> &AtomicU64 {
+        let (mut low, mut high) = (0, built);
+        while low < high {
+            let middle = low + (high - low) / 2;
+            if self.cells[middle].key.load(SeqCst) < key {
+                low = middle + 1;
+            } else {
+                high = middle;
+            }
+        }
+        match low.checked_sub(1).map(|number| &self.cells[number]) {
+            Some(cell) if cell.key.load(SeqCst) < key => &cell.next,
+            _ => &self.first,
+        }
     }
 
     fn is_quiet(&self) -> bool {
@@ -170,12 +238,12 @@ impl Row {
     }
 
     /// The value of the newest cell of a key, where no put is under way.
-    fn get(&self, key: u64) -> Option<u64> {
+    fn get(&self, built: usize, key: u64) -> Option<u64> {
         if !self.is_quiet() {
             return None;
         }
         let (mut newest, mut found) = (0, None);
-        let mut link = &self.first;
+        let mut link = self.begin(built, key);
         loop {
             let Some(place) = link.load(SeqCst).checked_sub(1) else {
                 return found;
@@ -197,12 +265,12 @@ impl Row {
     }
 
     /// Adds the newest pair of each key of a range, of those up to the version.
-    fn scan(&self, from: u64, to: u64, upto: u64, pairs: &mut Vec<(u64, u64)>) {
+    fn scan(&self, built: usize, from: u64, to: u64, upto: u64, pairs: &mut Vec<(u64, u64)>) {
         if !self.is_quiet() {
             return;
         }
         let mut last = None;
-        let mut link = &self.first;
+        let mut link = self.begin(built, from);
         while let Some(place) = link.load(SeqCst).checked_sub(1) {
             let cell = &self.cells[place as usize];
             let key = cell.key.load(SeqCst);
@@ -223,8 +291,8 @@ impl Row {
     }
 
     /// The link at which a cell of this key and version goes in, and where that link leads.
-    fn place_for(&self, key: u64, version: u64) -> (&AtomicU64, u64) {
-        let mut link = &self.first;
+    fn place_for(&self, built: usize, key: u64, version: u64) -> (&AtomicU64, u64) {
+        let mut link = self.begin(built, key);
         loop {
             let held = link.load(SeqCst);
             let Some(place) = held.checked_sub(1) else {
@@ -239,7 +307,7 @@ impl Row {
         }
     }
 
-    fn put(&self, seat: usize, clock: &AtomicU64, key: u64, value: u64) {
+    fn put(&self, seat: usize, built: usize, clock: &AtomicU64, key: u64, value: u64) {
         black_box(self.count.load(SeqCst));
         let place = self.count.fetch_add(1, SeqCst);
         let cell = &self.cells[place as usize];
@@ -252,7 +320,7 @@ impl Row {
         let stamped = pending + 1 + (version << 15);
         let _ = entry.compare_exchange(pending, stamped, SeqCst, SeqCst);
         cell.version.store(version, SeqCst);
-        let (link, held) = self.place_for(key, version);
+        let (link, held) = self.place_for(built, key, version);
         cell.next.store(held, SeqCst);
         let _ = link.compare_exchange(held, place + 1, SeqCst, SeqCst);
         entry.store(0, SeqCst);
@@ -261,8 +329,8 @@ impl Row {
 
 /// A map whose row has this load.
 fn filled(cells: usize, keys: Keys) -> Box<Map> {
-    let map = Map::new();
-    for number in 0..cells {
+    let map = Map::new(keys);
+    for number in keys.built()..cells {
         map.put(0, keys.of_cell(number), number as u64 + 1);
     }
     map
@@ -295,7 +363,7 @@ fn print_reads(name: &str, cells: usize, keys: Keys, calls: usize, ask: impl Fn(
     let [one, two, four] = [1, 2, 4].map(|count| time_threads(count, &ask).as_nanos().max(1));
     let calls = calls.max(1) as u128;
     println!(
-        "{name:<5}{cells:>6}  {:<15}{:>6}{:>6}{:>6}{:>8}{:>8}",
+        "{name:<5}{cells:>6}  {:<15} {:>5} {:>5} {:>5} {:>7} {:>7}",
         keys.words(),
         one / calls,
         two / calls,
@@ -316,26 +384,35 @@ fn print_load(cells: usize, keys: Keys, calls: usize) {
         let mut pairs = Vec::with_capacity(CELLS);
         for _ in 0..calls {
             pairs.clear();
-            map.scan(seat, 0, u64::from(u32::MAX), &mut pairs);
+            map.scan(seat, 0, keys.greatest(cells), &mut pairs);
             black_box(&pairs);
         }
     });
-    let maps = calls / cells;
+    print_puts(cells, keys, calls);
+}
+
+/// What a put takes into a row that fills, if any cells are left with which it was not built.
+fn print_puts(cells: usize, keys: Keys, calls: usize) {
+    let puts = cells - keys.built();
+    if puts == 0 {
+        return;
+    }
+    let maps = calls / puts;
     let mut took = Duration::ZERO;
     for _ in 0..maps {
-        let map = Map::new();
+        let map = Map::new(keys);
         let start = Instant::now();
-        for number in 0..cells {
+        for number in keys.built()..cells {
             map.put(0, keys.of_cell(number), number as u64);
         }
         took += start.elapsed();
         black_box(&map);
     }
     println!(
-        "{:<5}{cells:>6}  {:<15}{:>6}",
+        "{:<5}{cells:>6}  {:<15} {:>5}",
         "put",
         keys.words(),
-        took.as_nanos() / (maps * cells).max(1) as u128
+        took.as_nanos() / (maps * puts).max(1) as u128
     );
 }
 
@@ -345,9 +422,13 @@ fn main() {
         return;
     };
     println!("nanoseconds a call, by one thread and by each of two and of four; and how many calls two and four make where one makes 100");
-    println!("{:<5}{:>6}  {:<15}{:>6}{:>6}{:>6}{:>8}{:>8}", "call", "cells", "keys", "one", "two", "four", "by two", "by four");
+    println!("{:<5}{:>6}  {:<15} {:>5} {:>5} {:>5} {:>7} {:>7}", "call", "cells", "keys", "one", "two", "four", "by two", "by four");
     for quarters in 1..=4 {
-        print_load(CELLS / 4 * quarters, Keys::Different, calls);
-        print_load(CELLS / 4 * quarters, Keys::One, calls);
+        let cells = CELLS / 4 * quarters;
+        print_load(cells, Keys::Different, calls);
+        print_load(cells, Keys::One, calls);
+        if cells >= BUILT {
+            print_load(cells, Keys::HalfBuilt, calls);
+        }
     }
 }

@@ -24,20 +24,27 @@ FIGURES = TOP / "docs" / "figures"
 PAGES = (TOP / "docs" / "PERFORMANCE.md", TOP / "README.md")
 COLUMNS = ("table", "map", "what", "of", "round", "figure")
 THREADS = (1, 2, 4)
-# The keys that a map holds whose rows were filled by rising keys: 32 for each of so many rows.
-FILLED = {1_024: 32_768, 4_096: 131_072, 16_384: 524_288}
+# How many cells a row has, and with how many it is built.
+CELLS, BUILT = 64, 32
+# The keys that a map holds whose rows were filled by rising keys, for so many rows.
+FILLED = {rows: rows * BUILT for rows in (1_024, 4_096, 16_384)}
+# What begins a line on a map of many rows, by the program that prints it and by the map.
+PREFIXES = {"kiwi": {"kiwi": ""}, "native": {}, "std": {"std": "alone +", "Mutex": "Mutex +", "RwLock": "RwLock +"}}
+# The two kinds of rows that are timed, as the programs name them and as a table of the data does.
+ROWS = {"different keys": "row", "half built": "built"}
 CALLS = {"get": "get", "put": "put", "mixed": "half of each"}
 ORDERS = ("rising", "falling", "random")
 INPUTS = {"0": "half puts, half gets", "1": "1 in 100 a sum of 1,000 keys", "10": "1 in 10 a sum of 1,000 keys"}
 NAMES = {"kiwi": "KiWi", "std": "std's map", "Mutex": "std's map, Mutex", "RwLock": "std's map, RwLock", "native": "native code"}
-COLOURS = {"kiwi": "#0b7a5c", "std": "#777777", "Mutex": "#c2571a", "RwLock": "#2f5fb3", "native": "#777777"}
+# Colours that are told apart by all eyes; marks and lines tell them too.
+COLOURS = {"kiwi": "#0072b2", "std": "#555555", "Mutex": "#e69f00", "RwLock": "#cc79a7", "native": "#555555"}
 MARKS = {"kiwi": "o", "std": "s", "Mutex": "^", "RwLock": "v", "native": "s"}
 
 
 def row_figures(text):
-    """The nanoseconds of calls of one thread on one row of different keys."""
-    for what, cells, nanoseconds in re.findall(r"^(get|scan|put) +(\d+)  different keys +(\d+)", text, re.MULTILINE):
-        yield "row", what, cells, nanoseconds
+    """The nanoseconds of calls of one thread on one row of different keys, by its cells."""
+    for what, cells, keys, nanoseconds in re.findall(rf"^(get|scan|put) +(\d+)  ({'|'.join(ROWS)}) +(\d+)", text, re.MULTILINE):
+        yield ROWS[keys], what, cells, nanoseconds
 
 
 def map_figures(text, prefix):
@@ -59,17 +66,13 @@ def map_figures(text, prefix):
 def figures_of(room):
     """A line of the data for each figure that the programs printed."""
     for path in sorted(room.iterdir()):
-        kind, program, number = [*path.name.split("."), "", ""][:3]
-        if kind == "row":
-            found = ((program, *it) for it in row_figures(path.read_text()))
-        elif kind == "map":
-            maps = {"kiwi": {"kiwi": ""}, "std": {"std": "alone +", "Mutex": "Mutex +", "RwLock": "RwLock +"}}[program]
-            text = path.read_text()
-            found = ((name, *it) for name, prefix in maps.items() for it in map_figures(text, prefix))
-        else:
+        program, _, number = path.name.partition(".")
+        if program not in PREFIXES:
             continue
-        for name, table, what, of, figure in found:
-            yield table, name, what, of, number, figure
+        text = path.read_text()
+        found = [(program, *it) for it in row_figures(text)]
+        found += [(name, *it) for name, prefix in PREFIXES[program].items() for it in map_figures(text, prefix)]
+        yield from ((table, name, what, of, number, figure) for name, table, what, of, figure in found)
     for line in (room / "replay").read_text().splitlines():
         number, program, percent, milliseconds = line.split()
         of_std = program == "std"
@@ -96,6 +99,14 @@ class Data:
         """The median as it stands in a table."""
         found = self.median(*key)
         return "–" if found is None else f"{found:,.0f}"
+
+    def counts(self, table):
+        """Of how many there are figures in a table: of its cells, where it is of rows."""
+        return sorted({key[3] for key in self.figures if key[0] == table})
+
+    def about_of(self, word):
+        """What is said of the run under this word."""
+        return next((line.partition(": ")[2] for line in self.about if line.startswith(f"{word}: ")), "unknown")
 
     def ratio(self, one, other, factor=1.0):
         """How many times the second figure the first is, in two digits that tell; none where one
@@ -133,10 +144,20 @@ def about_table(data):
 
 
 def row_table(data):
-    cells = sorted({key[3] for key in data.figures if key[0] == "row"})
-    whats = ("get", "scan", "put")
-    head = ["cells", *(f"{what}{' native' * native}" for what in whats for native in (False, True))]
-    yield from rows_of(head, ([str(it), *(data.shown("row", name, what, it) for what in whats for name in ("kiwi", "native"))] for it in cells))
+    head = ["cells of the row", *(word for what in ("get", "scan", "put") for word in (what, "native", "times"))]
+    rows = [(table, it) for table in ROWS.values() for it in data.counts(table)]
+    return rows_of(head, ([cells_words(*row), *row_cells(data, *row)] for row in rows))
+
+
+def cells_words(table, cells):
+    return str(cells) if table == "row" else f"{cells}, all built" if cells == BUILT else f"{cells}, {BUILT} of them built"
+
+
+def row_cells(data, table, cells):
+    """Of each call ours, the native one, and how many times that ours is."""
+    for what in ("get", "scan", "put"):
+        keys = [(table, name, what, cells) for name in ("kiwi", "native")]
+        yield from (*(data.shown(*key) for key in keys), data.ratio(*keys))
 
 
 def calls_table(data):
@@ -175,13 +196,18 @@ def replay_rows(data):
 
 
 def ratios_table(data):
-    """The five ratios of README.md."""
+    """The five ratios of README.md, and of what they are."""
     mixed = ("calls", "kiwi", "mixed", 4)
     replay = ("replay", "std", "0", 1)
-    return rows_of(
-        ("what ([PERFORMANCE](docs/PERFORMANCE.md) has the figures)", "times"),
+    yield f"Taken {data.about_of('date')}, of build {data.about_of('build')}; [PERFORMANCE](docs/PERFORMANCE.md) has the figures."
+    yield ""
+    yield from rows_of(
+        ("what", "times"),
         (
-            ("a get of a row of 64 cells takes so many times what native code takes for the same loads", data.ratio(("row", "kiwi", "get", 64), ("row", "native", "get", 64))),
+            (
+                f"a get of a row of {CELLS} cells, {BUILT} of which it was built with, takes so many times what native code takes for the same loads",
+                data.ratio(("built", "kiwi", "get", CELLS), ("built", "native", "get", CELLS)),
+            ),
             ("a put by one thread takes so many times one into std's ordered map", data.ratio(("calls", "kiwi", "put", 1), ("calls", "std", "put", 1))),
             ("four threads that put and get make so many times the calls of one", data.ratio(("calls", "kiwi", "mixed", 1), mixed, 4)),
             ("they make so many times the calls of four on std's map behind a `RwLock`", data.ratio(("calls", "RwLock", "mixed", 4), mixed)),
@@ -201,7 +227,7 @@ def place(page, tables):
     page.write_text(text)
 
 
-def draw_line(axes, data, keys, xs, name, scale=lambda x, figure: figure, style="-"):
+def draw_line(axes, data, keys, xs, name, scale=lambda x, figure: figure, **look):
     """Draws medians over xs as a line, and at each a bar from the least round to the greatest."""
     points = [(x, sorted(scale(x, it) for it in data.of(*key))) for x, key in zip(xs, keys) if data.of(*key)]
     if not points:
@@ -209,7 +235,8 @@ def draw_line(axes, data, keys, xs, name, scale=lambda x, figure: figure, style=
     medians = [median(found) for _, found in points]
     below = [middle - found[0] for (_, found), middle in zip(points, medians)]
     above = [found[-1] - middle for (_, found), middle in zip(points, medians)]
-    axes.errorbar([x for x, _ in points], medians, [below, above], label=NAMES[name], color=COLOURS[name], marker=MARKS[name], linestyle=style, capsize=3, elinewidth=1)
+    look = {"label": NAMES[name], "linestyle": "-", "zorder": 3 if name == "kiwi" else 2, **look}
+    axes.errorbar([x for x, _ in points], medians, [below, above], color=COLOURS[name], marker=MARKS[name], capsize=3, elinewidth=1, **look)
 
 
 def finish(axes, title, x_label, ticks=()):
@@ -218,47 +245,58 @@ def finish(axes, title, x_label, ticks=()):
     axes.grid(axis="y", color="#dddddd")
     axes.set_axisbelow(True)
     axes.spines[["top", "right"]].set_visible(False)
+    axes.margins(x=0.1)
     if ticks:
         axes.set_xticks(ticks, [f"{it // 1024} Ki" if it > 9999 else str(it) for it in ticks])
 
 
 def plot_row(panels, data):
-    cells = sorted({key[3] for key in data.figures if key[0] == "row"})
     for axes, what in zip(panels, ("get", "scan", "put")):
-        for name in ("native", "kiwi"):
-            draw_line(axes, data, [("row", name, what, it) for it in cells], cells, name)
-        finish(axes, what, "cells in the row", cells)
+        for table, words, look in (("row", "", {}), ("built", f", {BUILT} cells built", {"linestyle": ":", "markerfacecolor": "white"})):
+            cells = data.counts(table)
+            for name in ("kiwi", "native"):
+                draw_line(axes, data, [(table, name, what, it) for it in cells], cells, name, label=NAMES[name] + words, **look)
+        finish(axes, what, "cells in the row", data.counts("row"))
     panels[0].set_ylabel("nanoseconds a call, one thread")
 
 
 def plot_calls(panels, data):
     for axes, (what, word) in zip(panels, CALLS.items()):
-        for name in ("std", "Mutex", "RwLock", "kiwi"):
+        for name in ("kiwi", "RwLock", "Mutex", "std"):
             draw_line(axes, data, [("calls", name, what, it) for it in THREADS], THREADS, name, lambda threads, ns: 1000 * threads / ns)
         finish(axes, word, "threads", THREADS)
     panels[0].set_ylabel("million calls a second, all threads")
 
 
 def plot_sums(panels, data):
-    names = ("kiwi", "Mutex", "RwLock")
-    for axes, parts, title in zip(panels, (("alone", "beside"), ("put",)), ("a sum: alone (pale), beside puts", "a put of one of three threads")):
-        width = 0.8 / len(parts)
-        for at, what in enumerate(parts):
-            places = [number + (at - (len(parts) - 1) / 2) * width for number in range(len(names))]
-            rounds = [sorted(data.of("sums", name, what, 1)) or [0] for name in names]
-            middles = [median(it) / 1000 for it in rounds]
-            bars = [[middle - it[0] / 1000 for middle, it in zip(middles, rounds)], [it[-1] / 1000 - middle for middle, it in zip(middles, rounds)]]
-            colours = [COLOURS[name] for name in names]
-            axes.bar(places, middles, width, yerr=bars, capsize=3, color=colours, alpha=0.45 if what == "alone" else 1.0)
-        finish(axes, title, "")
-        axes.set_xticks(range(len(names)), [NAMES[name].replace(", ", ",\n") for name in names])
-    panels[0].set_ylabel("microseconds")
+    grey = "#999999"
+    draw_bars(panels[0], data, {"alone": ("alone", "white"), "beside": ("beside others: a sum beside three threads that put, a put beside sums", grey)})
+    finish(panels[0], "a sum of 1,000 keys", "")
+    panels[0].set_ylabel("microseconds a sum")
+    draw_bars(panels[1], data, {"put": (None, grey)})
+    finish(panels[1], "a put", "")
+    panels[1].set_ylabel("microseconds a put")
+    for axes in panels:
+        axes.set_xticks(range(3), [NAMES[name].replace(", ", ",\n") for name in ("kiwi", "Mutex", "RwLock")])
+
+
+def draw_bars(axes, data, parts):
+    """Draws the medians of each part for each map that threads share, with a bar over its
+    rounds."""
+    width = 0.8 / len(parts)
+    for at, (what, (label, colour)) in enumerate(parts.items()):
+        found = [(number, sorted(it / 1000 for it in data.of("sums", name, what, 1))) for number, name in enumerate(("kiwi", "Mutex", "RwLock"))]
+        found = [(number, rounds) for number, rounds in found if rounds]
+        places = [number + (at - (len(parts) - 1) / 2) * width for number, _ in found]
+        middles = [median(rounds) for _, rounds in found]
+        spans = [[middle - rounds[0] for middle, (_, rounds) in zip(middles, found)], [rounds[-1] - middle for middle, (_, rounds) in zip(middles, found)]]
+        axes.bar(places, middles, width, yerr=spans, capsize=3, label=label, color=colour, edgecolor="black", linewidth=0.8)
 
 
 def plot_fill(panels, data):
     keys = [*FILLED.values()]
     for axes, order in zip(panels, ORDERS):
-        for name in ("std", "kiwi"):
+        for name in ("kiwi", "std"):
             draw_line(axes, data, [("fill", name, order, it) for it in keys], keys, name)
         axes.set_xscale("log")
         finish(axes, f"{order} keys", "keys in the map", keys)
@@ -270,16 +308,18 @@ def plot_replay(panels, data):
     for axes, (percent, word) in zip(panels, INPUTS.items()):
         base = data.median("replay", "std", percent, 1)
         if base:
-            axes.axhline(base / 1000, color=COLOURS["std"], linestyle="--", label="one thread on std's map")
-        draw_line(axes, data, [("replay", "kiwi", percent, it) for it in THREADS], THREADS, "kiwi", lambda _, ms: ms / 1000)
+            axes.axhline(base / 1000, color=COLOURS["std"], linestyle="--", linewidth=1)
+        seconds = lambda _, milliseconds: milliseconds / 1000
+        draw_line(axes, data, [("replay", "kiwi", percent, it) for it in THREADS], THREADS, "kiwi", seconds)
+        draw_line(axes, data, [("replay", "std", percent, 1)], THREADS, "std", seconds, label="one thread on std's map", linestyle="--")
         finish(axes, word, "workers", THREADS)
-    panels[0].set_ylabel("seconds for 16 MiB of lines")
+    panels[0].set_ylabel("seconds a run")
 
 
 # Each picture: what draws it, how many panels it has, whether these share an axis, and what is said
 # in its place where it is not shown.
 PLOTS = {
-    "row": (plot_row, 3, False, "a get, a scan and a put of a row, by cells, beside native code"),
+    "row": (plot_row, 3, False, "a get, a scan and a put of a row, by cells, built or not, beside native code"),
     "calls": (plot_calls, 3, False, "calls a second by threads, beside std's map behind locks"),
     "sums": (plot_sums, 2, False, "a sum alone and beside puts, and a put beside sums"),
     "fill": (plot_fill, 3, True, "a put as the map fills, beside std's map"),
@@ -303,9 +343,8 @@ def draw(data, folder):
         plot(panels, data)
         for axes in panels:
             axes.set_ylim(bottom=0)
-        if name != "sums":
-            handles, labels = panels[0].get_legend_handles_labels()
-            figure.legend(handles, labels, loc="upper center", bbox_to_anchor=(0.5, 0), ncols=len(labels), frameon=False)
+        shown = {label: handle for axes in panels for handle, label in zip(*axes.get_legend_handles_labels())}
+        figure.legend(shown.values(), shown.keys(), loc="upper center", bbox_to_anchor=(0.5, 0), ncols=len(shown), frameon=False)
         figure.savefig(folder / f"{name}.svg", bbox_inches="tight", metadata={"Date": None})
         pyplot.close(figure)
 

@@ -6,7 +6,8 @@
 //!
 //!     rustc -O --edition 2021 -o /tmp/std_maps tools/std_maps.rs
 //!     std_maps calls N
-//!         N calls of each kind; the keys, their orders and the columns are those of `kw_bench N`
+//!         N calls of each kind, and a tenth as many sums; the keys, their orders and the columns
+//!         are those of `kw_bench N`
 //!     std_maps input PERCENT > FILE
 //!         16 MiB of lines over 65,536 keys: so many in 100 sums of 1,000 keys, the others puts
 //!         and gets
@@ -21,6 +22,8 @@ use std::{env, thread};
 
 const KEYS: u32 = 65_536;
 const SUMMED: u32 = 1_000;
+/// A sum takes as long as many puts, so one is made where so many puts are.
+const PUTS_A_SUM: u32 = 10;
 const INPUT_BYTES: usize = 16 << 20;
 
 type Plain = BTreeMap<u32, u64>;
@@ -115,8 +118,8 @@ fn print_shared<M: Map + Copy + Send>(name: &str, map: M, calls: u32) {
     for (word, is_put) in KINDS {
         let [one, two, four] = [1, 2, 4].map(|threads| shared(map, is_put, threads, calls));
         let all = u128::from(calls);
-        print!("{name:<7}{word:<7}{:>6}{:>6}{:>6}", one / all, two * 2 / all, four * 4 / all);
-        println!("{:>8}{:>8}", one * 100 / two, one * 100 / four);
+        print!("{name:<7}{word:<7} {:>6} {:>6} {:>6}", one / all, two * 2 / all, four * 4 / all);
+        println!(" {:>7} {:>7}", one * 100 / two, one * 100 / four);
     }
 }
 
@@ -160,26 +163,27 @@ fn print_fill<M: Map>(name: &str, word: &str, mut map: M, key: fn(u32) -> u32, c
         let last = put(start, keys);
         (begun, took) = (keys, took + last);
         let ns = last.checked_div(u128::from(calls.min(keys).saturating_sub(start)));
-        print!("{:>7}", ns.map_or("-".to_string(), |ns| ns.to_string()));
+        print!(" {:>6}", ns.map_or("-".to_string(), |ns| ns.to_string()));
     }
     took += put(begun, calls);
-    println!("{:>7}{calls:>9}", took / u128::from(calls));
+    println!(" {:>6} {calls:>8}", took / u128::from(calls));
 }
 
 fn calls(calls: u32) {
-    println!("{:<7}{:<7}{:>6}{:>6}{:>6}{:>8}{:>8}", "map", "call", "one", "two", "four", "by two", "by four");
+    println!("{:<7}{:<7} {:>6} {:>6} {:>6} {:>7} {:>7}", "map", "call", "one", "two", "four", "by two", "by four");
     let mut alone: Plain = (0..KEYS).map(|number| (scattered(number), u64::from(number))).collect();
     for (word, is_put) in KINDS {
         let one = timed(|| call_from(&mut alone, is_put, 0, calls));
-        println!("{:<7}{word:<7}{:>6}", "alone", one / u128::from(calls));
+        println!("{:<7}{word:<7} {:>6}", "alone", one / u128::from(calls));
     }
+    let sums = (calls / PUTS_A_SUM).max(1);
     let (mutex, rwlock) = (&Mutex::new(alone.clone()), &RwLock::new(alone.clone()));
     print_shared("Mutex", mutex, calls);
     print_shared("RwLock", rwlock, calls);
-    println!("alone  sum of {SUMMED} keys: {} ns alone", timed(|| sum_keys(&mut alone, calls)) / u128::from(calls));
-    print_sums("Mutex", mutex, calls);
-    print_sums("RwLock", rwlock, calls);
-    println!("{:<7}{:<8}{:>7}{:>7}{:>7}{:>7}{:>9}", "map", "keys", "1024", "4096", "16384", "all", "pairs");
+    println!("alone  sum of {SUMMED} keys: {} ns alone", timed(|| sum_keys(&mut alone, sums)) / u128::from(sums));
+    print_sums("Mutex", mutex, sums);
+    print_sums("RwLock", rwlock, sums);
+    println!("{:<7}{:<8} {:>6} {:>6} {:>6} {:>6} {:>8}", "map", "keys", "1024", "4096", "16384", "all", "pairs");
     for (word, key) in [("rising", (|number| number) as fn(u32) -> u32), ("falling", |number| u32::MAX - number), ("random", mixed)] {
         print_fill("alone", word, Plain::new(), key, calls);
         print_fill("Mutex", word, &Mutex::new(Plain::new()), key, calls);

@@ -2,7 +2,7 @@
 ghost use Rattle.std.specs.Prelude.{All};
 ghost use Rattle.kw_map.specs.Kiwi.{IsIdle};
 
-use crate::load::Load;
+use crate::load::{Load, even_key};
 use kw_map::Pass;
 use kw_map::gather_numbers::SumGather;
 use kw_map::kiwi::Kiwi;
@@ -16,7 +16,7 @@ use std::thread::Threads;
 pub enum Reading {
     /// Gets, of one cell's key after another's.
     Gets,
-    /// Scans of all keys.
+    /// Scans of all keys of the row.
     Scans,
 }
 
@@ -31,13 +31,26 @@ pub struct Task {
     pub calls: u32,
 }
 
-/// Puts a value for each cell of an empty row.
+/// Has the row of an empty map built, where the load is one of a built row: even keys are put until
+/// the row is full and is split, evenly.
+pub fn build_row<R: Wait>(rt: &R, kiwi: &Kiwi, pass: Pass, load: Load) -> Pass
+    requires { IsIdle kiwi.now pass }
+    ensures { IsIdle kiwi.now result }
+{
+    let mut pass = pass;
+    for number in 0..load.split_keys() {
+        let _ = kiwi.put(rt, &mut pass, even_key(number), 1);
+    }
+    pass
+}
+
+/// Puts a value for each cell of the row with which it was not built.
 pub fn put_cells<R: Wait>(rt: &R, kiwi: &Kiwi, pass: Pass, load: Load) -> Pass
     requires { IsIdle kiwi.now pass }
     ensures { IsIdle kiwi.now result }
 {
     let mut pass = pass;
-    for number in 0..load.cells {
+    for number in load.built()..load.cells {
         // A put may be refused; the call is made all the same.
         let _ = kiwi.put(rt, &mut pass, load.keys.of_cell(number), 1);
     }
@@ -85,14 +98,14 @@ fn get_keys(kiwi: &Kiwi, pass: Pass, load: Load, calls: u32) -> Pass
     pass
 }
 
-// So many scans of all keys.
+// So many scans of all keys of the row.
 fn scan_keys(kiwi: &Kiwi, pass: Pass, load: Load, calls: u32) -> Pass
     requires { IsIdle kiwi.now pass }
     ensures { IsIdle kiwi.now result }
 {
     let mut pass = pass;
     for _ in 0..calls {
-        let _ = kiwi.scan(&mut pass, 0, load.cells, &mut SumGather::new());
+        let _ = kiwi.scan(&mut pass, 0, load.greatest_key(), &mut SumGather::new());
     }
     pass
 }

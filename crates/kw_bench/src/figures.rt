@@ -16,7 +16,7 @@ pub fn given_calls(rt: &HostRuntime) -> io::Result<Option<u32>> {
 /// Says how the program is used.
 pub fn print_usage(rt: &HostRuntime) -> io::Result<()> {
     println!(rt;
-        "kw_bench N: makes N calls of each kind on maps of one row and of many, reads and prints N lines, asks indexes N keys, prints what each took"
+        "kw_bench N: makes N calls of each kind on one row and on maps of many, reads and prints N lines, asks indexes N keys, prints what each took"
     )
 }
 
@@ -26,7 +26,7 @@ pub fn print_heads(rt: &HostRuntime) -> io::Result<()> {
         "nanoseconds a call, by one thread and by each of two and of four; and how many calls two and four make where one makes 100"
     )?;
     println!(rt;
-        "{:<5}{:>6}  {:<15}{:>6}{:>6}{:>6}{:>8}{:>8}",
+        "{:<5}{:>6}  {:<15} {:>5} {:>5} {:>5} {:>7} {:>7}",
         "call", "cells", "keys", "one", "two", "four", "by two", "by four"
     )
 }
@@ -37,7 +37,7 @@ pub fn print_reads(rt: &HostRuntime, name: &str, load: Load, figure: ReadFigure)
     let by_two = figure.one.saturating_mul(200) / figure.two.max(1);
     let by_four = figure.one.saturating_mul(400) / figure.four.max(1);
     println!(rt;
-        "{name:<5}{:>6}  {:<15}{:>6}{:>6}{:>6}{by_two:>8}{by_four:>8}",
+        "{name:<5}{:>6}  {:<15} {:>5} {:>5} {:>5} {by_two:>7} {by_four:>7}",
         load.cells,
         load.keys.words(),
         figure.one / calls,
@@ -49,7 +49,7 @@ pub fn print_reads(rt: &HostRuntime, name: &str, load: Load, figure: ReadFigure)
 /// Prints what a put into a row took that fills: a line below the heads, for one thread.
 pub fn print_puts(rt: &HostRuntime, load: Load, figure: PutFigure) -> io::Result<()> {
     println!(rt;
-        "{:<5}{:>6}  {:<15}{:>6}",
+        "{:<5}{:>6}  {:<15} {:>5}",
         "put",
         load.cells,
         load.keys.words(),

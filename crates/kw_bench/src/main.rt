@@ -1,15 +1,16 @@
 //! How fast the map's calls are, by one thread, two and four on one map, how fast lines are read
 //! and answers printed, and how fast an index is.
 //!
-//! With a number N the program makes N calls of each kind on maps of one row, for rows of a quarter
-//! of their cells to all, of different keys and of one key. It prints a table of what a call took,
-//! in nanoseconds, and of those that read what it took each of two threads and of four that made N
-//! at once, and how many calls they made in the time in which one made a hundred.
+//! With a number N the program makes N calls of each kind on one row of a map, for rows of a
+//! quarter of their cells to all, of different keys and of one key, and for rows that were built
+//! with half of their cells. It prints a table of what a call took, in nanoseconds, and of those
+//! that read what it took each of two threads and of four that made N at once, and how many calls
+//! they made in the time in which one made a hundred.
 //!
 //! Then it does the same on a map of many rows, whose full rows are replaced meanwhile: N puts, N
-//! gets, and N of both in turn, which threads share; and N sums of a thousand keys, alone and while
-//! three other threads put. It fills such a map by rising, falling and random keys, N at most,
-//! until a put is refused, and prints what a put took as more and more rows were in use.
+//! gets, and N of both in turn, which threads share; and a tenth as many sums of a thousand keys,
+//! alone and while three other threads put. It fills such a map by rising, falling and random keys,
+//! N at most, until a put is refused, and prints what a put took as more and more rows were in use.
 //!
 //! Then it reads an input of N lines, or of as many as an input may have, and prints an answer to
 //! each, with no map. At last it asks an index of few entries, one of some and one of many for N
@@ -43,7 +44,7 @@ use crate::index_timing::time_guesses;
 use crate::lines::time_lines;
 use crate::load::{Keys, Load};
 use crate::map_figures::{print_fill, print_fill_heads, print_map, print_sums};
-use crate::map_load::Order;
+use crate::map_load::{Order, PUTS_A_SUM};
 use crate::map_timing::time_map;
 use crate::sum_timing::time_sums;
 use crate::timing::{time_puts, time_reads};
@@ -69,6 +70,7 @@ fn run<T: Threads + Wait + Sync>(rt: &HostRuntime, threads: &T) -> io::Result<()
     for quarters in 1..=4 {
         time_load(rt, threads, Keys::Different, quarters, calls)?;
         time_load(rt, threads, Keys::One, quarters, calls)?;
+        time_load(rt, threads, Keys::HalfBuilt, quarters, calls)?;
     }
     time_many_rows(rt, threads, calls)?;
     print_lines(rt, time_lines(rt, calls)?)?;
@@ -77,7 +79,8 @@ fn run<T: Threads + Wait + Sync>(rt: &HostRuntime, threads: &T) -> io::Result<()
     print_guesses(rt, time_guesses(rt, threads, 16_384, calls)?)
 }
 
-// Takes the figures of a row of so many quarters of its cells, and prints a line for each.
+// Takes the figures of a row of so many quarters of its cells, and prints a line for each. No row
+// has fewer cells than it was built with, and one that has no more is given none.
 fn time_load<T: Threads + Wait + Sync>(
     rt: &HostRuntime,
     threads: &T,
@@ -89,6 +92,9 @@ fn time_load<T: Threads + Wait + Sync>(
         cells: (CELL_COUNT / 4).saturating_mul(quarters),
         keys,
     };
+    if load.cells < load.built() {
+        return Ok(());
+    }
     let gets = Task {
         load,
         reading: Reading::Gets,
@@ -101,6 +107,9 @@ fn time_load<T: Threads + Wait + Sync>(
     };
     print_reads(rt, "get", load, time_reads(rt, threads, gets)?)?;
     print_reads(rt, "scan", load, time_reads(rt, threads, scans)?)?;
+    if load.cells == load.built() {
+        return Ok(());
+    }
     print_puts(rt, load, time_puts(rt, threads, load, calls)?)
 }
 
@@ -111,7 +120,7 @@ fn time_many_rows<T: Threads + Wait + Sync>(
     calls: u32,
 ) -> io::Result<()> {
     print_map(rt, time_map(rt, threads, calls)?)?;
-    print_sums(rt, time_sums(rt, threads, calls)?)?;
+    print_sums(rt, time_sums(rt, threads, calls / PUTS_A_SUM)?)?;
     print_fill_heads(rt)?;
     print_fill(rt, time_fill(rt, threads, Order::Rising, calls)?)?;
     print_fill(rt, time_fill(rt, threads, Order::Falling, calls)?)?;

@@ -17,7 +17,7 @@ pub fn print_map(rt: &HostRuntime, figure: MapFigure) -> io::Result<()> {
         one.calls
     )?;
     println!(rt;
-        "{:<7}{:>8}{:>8}{:>8}{:>8}{:>8}",
+        "{:<7} {:>7} {:>7} {:>7} {:>7} {:>7}",
         "call", "one", "two", "four", "by two", "by four"
     )?;
     print_kind(rt, "put", one.calls, [one.puts, two.puts, four.puts])?;
@@ -33,7 +33,7 @@ fn print_kind(rt: &HostRuntime, name: &str, calls: u32, took: [u128; 3]) -> io::
     let by_two = one.saturating_mul(100) / two.max(1);
     let by_four = one.saturating_mul(100) / four.max(1);
     println!(rt;
-        "{name:<7}{:>8}{:>8}{:>8}{by_two:>8}{by_four:>8}",
+        "{name:<7} {:>7} {:>7} {:>7} {by_two:>7} {by_four:>7}",
         one / calls,
         two.saturating_mul(2) / calls,
         four.saturating_mul(4) / calls
@@ -59,7 +59,7 @@ pub fn print_fill_heads(rt: &HostRuntime) -> io::Result<()> {
         "nanoseconds a put while a map of {ROWS} rows fills: as 1024, 4096 and 16384 rows' worth of keys are in, and of all puts"
     )?;
     println!(rt;
-        "{:<8}{:>7}{:>7}{:>7}{:>7}{:>9}  {}",
+        "{:<8} {:>6} {:>6} {:>6} {:>6} {:>8}  {}",
         "keys", "1024", "4096", "16384", "all", "pairs", "bytes a pair of a full map"
     )
 }
@@ -72,7 +72,7 @@ pub fn print_fill(rt: &HostRuntime, figure: FillFigure) -> io::Result<()> {
     print_stretch(rt, figure.some)?;
     print_stretch(rt, figure.many)?;
     let keys = figure.filled.keys;
-    print!(rt; "{:>7}{keys:>9}  ", figure.took / u128::from(keys.max(1)))?;
+    print!(rt; " {:>6} {keys:>8}  ", figure.took / u128::from(keys.max(1)))?;
     if !figure.filled.refused {
         return println!(rt; "-");
     }
@@ -83,7 +83,7 @@ pub fn print_fill(rt: &HostRuntime, figure: FillFigure) -> io::Result<()> {
 // Prints what a put took in a stretch, or that there was none.
 fn print_stretch(rt: &HostRuntime, stretch: Stretch) -> io::Result<()> {
     if stretch.puts == 0 {
-        return print!(rt; "{:>7}", "-");
+        return print!(rt; " {:>6}", "-");
     }
-    print!(rt; "{:>7}", stretch.took / u128::from(stretch.puts))
+    print!(rt; " {:>6}", stretch.took / u128::from(stretch.puts))
 }

@@ -10,6 +10,9 @@ pub const KEYS: u32 = 65_536;
 /// Over how many keys a sum goes.
 pub const SUMMED: u32 = 1_000;
 
+/// A sum takes as long as many puts, so one is made where so many puts are.
+pub const PUTS_A_SUM: u32 = 10;
+
 /// A key below `KEYS` for each number, in a scattered order: `KEYS` numbers that follow each other
 /// have all keys, each once.
 pub fn scattered(number: u32) -> u32 {

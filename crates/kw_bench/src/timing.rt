@@ -3,7 +3,7 @@ ghost use Rattle.std.specs.Prelude.{◌≡◌, ◌<◌, ◌≤◌, ◌+◌, All,
 ghost use Rattle.kw_words.specs.declared.sizes.TheConstants.{MOST_ROWS, SEATS};
 ghost use Rattle.kw_map.specs.Kiwi.{IsIdle};
 
-use crate::asking::{Task, put_cells, read_by_each};
+use crate::asking::{Task, build_row, put_cells, read_by_each};
 use crate::load::Load;
 use kw_map::Pass;
 use kw_map::kiwi::Kiwi;
@@ -72,8 +72,7 @@ pub(crate) fn opened(alloc: Global, rows: u32, threads: u32) -> io::Result<(Kiwi
     }
 }
 
-/// Times calls that read, on maps of one row that hold the task's load, by one thread, by two and
-/// by four.
+/// Times calls that read, on maps with a row of the task's load, by one thread, by two and by four.
 pub fn time_reads<T: Threads + Wait + Sync>(
     rt: &HostRuntime,
     threads: &T,
@@ -96,7 +95,8 @@ fn time_threads<T: Threads + Wait + Sync>(
 ) -> io::Result<u128>
     requires { count < SEATS }
 {
-    let (kiwi, passes, filling) = opened(rt.alloc(), 1, count)?;
+    let (kiwi, passes, filling) = opened(rt.alloc(), task.load.rows(), count)?;
+    let filling = build_row(threads, &kiwi, filling, task.load);
     let _filling = put_cells(threads, &kiwi, filling, task.load);
     let start = Instant::now(rt)?;
     read_by_each(threads, &kiwi, passes, task).map_err(no_memory)?;
@@ -104,23 +104,25 @@ fn time_threads<T: Threads + Wait + Sync>(
 }
 
 /// Times puts into rows that fill, each with this load, until about so many puts are made. What
-/// opening the maps takes is not in the figure.
+/// opening the maps and building the rows takes is not in the figure.
 pub fn time_puts<T: Threads + Wait + Sync>(
     rt: &HostRuntime,
     threads: &T,
     load: Load,
     calls: u32,
 ) -> io::Result<PutFigure> {
-    let maps = calls / load.cells.max(1);
+    let puts = load.cells.saturating_sub(load.built());
+    let maps = calls / puts.max(1);
     let mut one: u128 = 0;
     for _ in 0..maps {
-        let (kiwi, _, filling) = opened(rt.alloc(), 1, 0)?;
+        let (kiwi, _, filling) = opened(rt.alloc(), load.rows(), 0)?;
+        let filling = build_row(threads, &kiwi, filling, load);
         let start = Instant::now(rt)?;
         put_cells(threads, &kiwi, filling, load);
         one = one.saturating_add(start.elapsed(rt)?.as_nanos());
     }
     Ok(PutFigure {
-        calls: maps.saturating_mul(load.cells),
+        calls: maps.saturating_mul(puts),
         one,
     })
 }
