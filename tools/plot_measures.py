@@ -197,23 +197,16 @@ def replay_rows(data):
 
 def ratios_table(data):
     """The five ratios of README.md, and of what they are."""
-    mixed = ("calls", "kiwi", "mixed", 4)
-    replay = ("replay", "std", "0", 1)
-    yield f"Taken {data.about_of('date')}, of build {data.about_of('build')}; [PERFORMANCE](docs/PERFORMANCE.md) has the figures."
+    get, put, mixed = ("built", "kiwi", "get", CELLS), ("calls", "kiwi", "put", 1), ("calls", "kiwi", "mixed", 4)
+    native, alone, locked = ("built", "native", "get", CELLS), ("calls", "std", "put", 1), ("calls", "RwLock", "mixed", 4)
+    replay = [("replay", "std", "0", 1), ("replay", "kiwi", "0", 4)]
+    yield f"Taken {data.about_of('date')}, of build {data.about_of('build')} ([PERFORMANCE](docs/PERFORMANCE.md) has the figures):"
     yield ""
-    yield from rows_of(
-        ("what", "times"),
-        (
-            (
-                f"a get of a row of {CELLS} cells, {BUILT} of which it was built with, takes so many times what native code takes for the same loads",
-                data.ratio(("built", "kiwi", "get", CELLS), ("built", "native", "get", CELLS)),
-            ),
-            ("a put by one thread takes so many times one into std's ordered map", data.ratio(("calls", "kiwi", "put", 1), ("calls", "std", "put", 1))),
-            ("four threads that put and get make so many times the calls of one", data.ratio(("calls", "kiwi", "mixed", 1), mixed, 4)),
-            ("they make so many times the calls of four on std's map behind a `RwLock`", data.ratio(("calls", "RwLock", "mixed", 4), mixed)),
-            ("`replay --workers 4` of puts and gets is so many times as fast as such a program on std's map", data.ratio(replay, ("replay", "kiwi", "0", 4))),
-        ),
-    )
+    yield f"- a get of a row of {CELLS} cells, {BUILT} of which it was built with, takes {data.ratio(get, native)} times what native code takes for its loads;"
+    yield f"- a put by one thread takes {data.ratio(put, alone)} times one into std's ordered map;"
+    yield f"- four threads that put and get make {data.ratio(('calls', 'kiwi', 'mixed', 1), mixed, 4)} times the calls of one;"
+    yield f"- they make {data.ratio(locked, mixed)} times the calls of four on std's map behind a `RwLock`;"
+    yield f"- `replay --workers 4` of puts and gets is {data.ratio(*replay)} times as fast as such a program of one thread on std's map."
 
 
 TABLES = {"about": about_table, "ratios": ratios_table, "row": row_table, "calls": calls_table, "sums": sums_table, "fill": fill_table, "replay": replay_table}
@@ -223,7 +216,7 @@ def place(page, tables):
     """Puts each table between its marks in a page, where the page has them."""
     text = page.read_text()
     for name, table in tables.items():
-        text = re.sub(rf"(<!-- {name}: [^\n]*-->\n).*?(<!-- end -->)", lambda marks, table=table: f"{marks[1]}\n{table}\n\n{marks[2]}", text, flags=re.DOTALL)
+        text = re.sub(rf"(<!-- {name}: [^\n]*-->\n).*?(<!-- end -->)", lambda marks, table=table: f"{marks[1]}{table}\n{marks[2]}", text, flags=re.DOTALL)
     page.write_text(text)
 
 
@@ -300,6 +293,7 @@ def plot_fill(panels, data):
             draw_line(axes, data, [("fill", name, order, it) for it in keys], keys, name)
         axes.set_xscale("log")
         finish(axes, f"{order} keys", "keys in the map", keys)
+        axes.set_xlim(keys[0] / 1.5, keys[-1] * 1.5)
         axes.minorticks_off()
     panels[0].set_ylabel("nanoseconds a put, one thread")
 
