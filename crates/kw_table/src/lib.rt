@@ -34,7 +34,10 @@ pub use kinds::{
 };
 pub use meeting::meet;
 pub use pass::{Pass, View};
-pub use rebalance_kinds::{freeze_pend, load_pass, load_scan, reclaim, store_infant, take_row};
+pub use rebalance_kinds::{
+    add_epoch, decide, engage, freeze_count, freeze_pend, load_pass, load_scan, mark_link,
+    normalise, reclaim, replace, retire, store_infant, take_row,
+};
 pub use rule::Rules;
 pub use shared::Shared;
 pub use steps::make;

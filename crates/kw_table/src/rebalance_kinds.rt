@@ -1,8 +1,9 @@
 //! The kinds of event that come often in a rebalance, each a step of its own.
 //!
 //! They stand by what `kinds` says of its own: what each asks, what it tells, and what the pass has
-//! seen afterwards. First come those by which a full row is frozen and scans are looked for, then
-//! those that find and write new rows. What comes once in a rebalance is made by `make`.
+//! seen afterwards. First come those by which a full row gets its leader and is frozen, and scans are
+//! looked for, then those that find and write new rows, and link them in place of the full one. What
+//! most rebalances do not need is made by `make`.
 ghost use Rattle.kw_table.specs.Passes.{operation, Asks, Makes};
 
 use crate::kinds::step;
@@ -14,6 +15,83 @@ use kw_world::event::Choice;
 use kw_world::operation::{Action, Operation};
 
 // The full row of a rebalance.
+
+/// Makes the full row a leader of as yet none.
+#[inline(always)]
+pub fn engage(shared: &Shared, pass: &mut Pass, word: Name, expected: u64, stored: u64) -> u64
+    requires { Asks shared.now pass.old Choice.Go
+        (operation Kind.Engage word (Action.Exchange expected stored)) }
+    ensures { Makes shared.now pass.old Choice.Go result pass.new }
+{
+    step!(
+        exchange,
+        Engage,
+        Action::Exchange(expected, stored),
+        shared,
+        pass,
+        Choice::Go,
+        word,
+        expected,
+        stored
+    )
+}
+
+/// Marks the link after the full row, by which the row behind it stays there.
+#[inline(always)]
+pub fn mark_link(shared: &Shared, pass: &mut Pass, word: Name, bits: u64) -> u64
+    requires { Asks shared.now pass.old Choice.Go (operation Kind.MarkLink word (Action.Or bits)) }
+    ensures { Makes shared.now pass.old Choice.Go result pass.new }
+{
+    step!(
+        unite,
+        MarkLink,
+        Action::Or(bits),
+        shared,
+        pass,
+        Choice::Go,
+        word,
+        bits
+    )
+}
+
+/// Decides of how many rows the full one is the leader.
+#[inline(always)]
+pub fn decide(shared: &Shared, pass: &mut Pass, word: Name, expected: u64, stored: u64) -> u64
+    requires { Asks shared.now pass.old Choice.Go
+        (operation Kind.Decide word (Action.Exchange expected stored)) }
+    ensures { Makes shared.now pass.old Choice.Go result pass.new }
+{
+    step!(
+        exchange,
+        Decide,
+        Action::Exchange(expected, stored),
+        shared,
+        pass,
+        Choice::Go,
+        word,
+        expected,
+        stored
+    )
+}
+
+/// Freezes the count of the full row, by which it gives no cell any more.
+#[inline(always)]
+pub fn freeze_count(shared: &Shared, pass: &mut Pass, word: Name, bits: u64) -> u64
+    requires { Asks shared.now pass.old Choice.Go
+        (operation Kind.FreezeCount word (Action.Or bits)) }
+    ensures { Makes shared.now pass.old Choice.Go result pass.new }
+{
+    step!(
+        unite,
+        FreezeCount,
+        Action::Or(bits),
+        shared,
+        pass,
+        Choice::Go,
+        word,
+        bits
+    )
+}
 
 /// Freezes an entry of the full row, by which no put gets a version any more.
 #[inline(always)]
@@ -105,6 +183,85 @@ pub fn store_infant(shared: &Shared, pass: &mut Pass, word: Name, stored: u64) -
     step!(
         store,
         StoreInfant,
+        Action::Store(stored),
+        shared,
+        pass,
+        Choice::Go,
+        word,
+        stored
+    )
+}
+
+// The new rows are linked, and the full one goes.
+
+/// Links the new rows in place of the full one.
+#[inline(always)]
+pub fn replace(shared: &Shared, pass: &mut Pass, word: Name, expected: u64, stored: u64) -> u64
+    requires { Asks shared.now pass.old Choice.Go
+        (operation Kind.Replace word (Action.Exchange expected stored)) }
+    ensures { Makes shared.now pass.old Choice.Go result pass.new }
+{
+    step!(
+        exchange,
+        Replace,
+        Action::Exchange(expected, stored),
+        shared,
+        pass,
+        Choice::Go,
+        word,
+        expected,
+        stored
+    )
+}
+
+/// Makes a new row normal.
+#[inline(always)]
+pub fn normalise(shared: &Shared, pass: &mut Pass, word: Name, expected: u64, stored: u64) -> u64
+    requires { Asks shared.now pass.old Choice.Go
+        (operation Kind.Normalise word (Action.Exchange expected stored)) }
+    ensures { Makes shared.now pass.old Choice.Go result pass.new }
+{
+    step!(
+        exchange,
+        Normalise,
+        Action::Exchange(expected, stored),
+        shared,
+        pass,
+        Choice::Go,
+        word,
+        expected,
+        stored
+    )
+}
+
+/// Adds to the epoch: what it found is the number with which the full row is retired.
+#[inline(always)]
+pub fn add_epoch(shared: &Shared, pass: &mut Pass, word: Name, number: u64) -> u64
+    requires { Asks shared.now pass.old Choice.Go (operation Kind.Number word (Action.Add number)) }
+    ensures { Makes shared.now pass.old Choice.Go result pass.new }
+{
+    step!(
+        add,
+        Number,
+        Action::Add(number),
+        shared,
+        pass,
+        Choice::Go,
+        word,
+        number
+    )
+}
+
+/// Stores that the full row is retired.
+#[inline(always)]
+pub fn retire(shared: &Shared, pass: &mut Pass, word: Name, stored: u64) -> u64
+    requires { Asks shared.now pass.old Choice.Go
+        (operation Kind.StoreRetired word (Action.Store stored)) }
+    ensures { Makes shared.now pass.old Choice.Go result pass.new }
+{
+    step!(
+        store,
+        StoreRetired,
         Action::Store(stored),
         shared,
         pass,
