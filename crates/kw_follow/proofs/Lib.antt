@@ -21,3 +21,4 @@ pub mod Advancing
 pub mod RowWriting
 pub mod RowGathering
 pub mod SeekEvents
+pub mod EngageEvents

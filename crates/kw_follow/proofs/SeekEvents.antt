@@ -55,12 +55,6 @@ begins_search {s} {p} x l is at f =
     let here : Follows s p (record l { activity = Activity.Rebalance (Rebalance.Seek Seek.Next) }) = subst (λ (a : Activity). Follows s p (record l { activity = a })) at f in
     subst (λ (k : Local). Follows s p (record k { activity = Activity.Rebalance (Rebalance.Seek Seek.Next) })) (sym is) here
 
--- What is asked of a row that is not gone by.
-
--- the events of a search are those of a rebalance
-pub seek_part : (l : Local) (x : Seek) → l.activity ≡ Activity.Rebalance (Rebalance.Seek x) → part_of Go l ≡ part.Rebalance
-seek_part l x is = ap (λ (a : Activity). part_at a Go l) is
-
 -- the number of a pass's seat has a state of an infant
 pub seat_fits : (p : Pass) (n : ℕ) → n ≡ (view p).number → n < MOST_SEATS
 seat_fits p n is = omega (arith, is, seat_within p, p.known.opens.few_seats)

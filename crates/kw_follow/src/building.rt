@@ -1,28 +1,39 @@
 //! The events of a rebalance.
 //!
-//! Those that freeze the full row and gather the cells that were not reached in its list
-//! (`gathering`) have a step of their own each, and so have those that take a free row (`seeking`).
-//! What is left, as the exchange of the link, is put together in `going`; the cells in the list are
-//! gathered as `row_gathering` says, rows are asked for their state as `seeking` does, and new ones
-//! written as `row_writing` does.
+//! Those by which the full row gets its leader (`engaging`), that freeze it and gather the cells that
+//! were not reached in its list (`gathering`), that take a free row (`seeking`), and that link the
+//! new rows in place of the full one (`replacing`) have a step of their own each. What most
+//! rebalances do not need, as giving rows back, is put together in `going`; the cells in the list
+//! are gathered as `row_gathering` says, rows are asked for their state as `seeking` does, and new
+//! ones written as `row_writing` does.
+ghost use Rattle.std.specs.Prelude.{◌<◌};
 ghost use Rattle.kw_follow.specs.Following.{Follows};
 ghost use Rattle.kw_follow.specs.Moving.{Moves, WentOn};
 ghost use Rattle.kw_follow.specs.Within.{IsWithinCall};
 
+use crate::engaging::{
+    ask_clock, ask_epoch, ask_state, decide_count, freeze_row_count, lead_row, mark_row_link,
+};
 use crate::gathering::{freeze_entry, load_left_key, load_left_value, look_at_entry, look_at_scan};
-use crate::going::event;
-use crate::seeking::{free_row, look_at_pass, take_free_row};
+use crate::going::{event, go};
+use crate::replacing::{
+    draw_number, link_new_rows, load_least_before, load_link_before, load_state_before,
+    make_normal, retire_row,
+};
+use crate::seeking::{free_row, load_first_state, look_at_pass, take_free_row};
 use kw_table::{Pass, Shared};
 use kw_world::activity::Activity;
 use kw_world::activity::rebalance::Rebalance;
+use kw_world::activity::rebalance::engage::Engage;
 use kw_world::activity::rebalance::freeze::Freeze;
 use kw_world::activity::rebalance::gather::Gather;
+use kw_world::activity::rebalance::replace::Replace;
 use kw_world::activity::rebalance::seek::Seek;
 use kw_world::event::{Choice, StepDone};
 use kw_world::local::Local;
 
-// The next event, by what the local does next: one that freezes or gathers the full row or takes a
-// free one, or any other one.
+// The next event, by what the local does next: one that most rebalances have, but for those at the
+// row that replaces, or any other one.
 #[inline(always)]
 fn build_event(shared: &Shared, pass: &mut Pass, local: &mut Local) -> StepDone
     requires follows { Follows shared.now pass.old local.old }
@@ -30,6 +41,19 @@ fn build_event(shared: &Shared, pass: &mut Pass, local: &mut Local) -> StepDone
     ensures { Moves shared.now pass.old local.old Choice.Go pass.new local.new result }
 {
     match local.activity {
+        Activity::Rebalance(Rebalance::Engage(Engage::Clock)) => ask_clock(shared, pass, local),
+        Activity::Rebalance(Rebalance::Engage(Engage::Epoch)) => ask_epoch(shared, pass, local),
+        Activity::Rebalance(Rebalance::Engage(Engage::State)) => ask_state(shared, pass, local),
+        Activity::Rebalance(Rebalance::Engage(Engage::Lead)) => lead_row(shared, pass, local),
+        Activity::Rebalance(Rebalance::Engage(Engage::MarkLink(count))) => mark_row_link(
+            shared, pass, local, count,
+        ),
+        Activity::Rebalance(Rebalance::Engage(Engage::Decide(count))) => decide_count(
+            shared, pass, local, count,
+        ),
+        Activity::Rebalance(Rebalance::Freeze(Freeze::Count)) => freeze_row_count(
+            shared, pass, local,
+        ),
         Activity::Rebalance(Rebalance::Freeze(Freeze::Look(entry))) => look_at_entry(
             shared, pass, local, entry,
         ),
@@ -50,13 +74,28 @@ fn build_event(shared: &Shared, pass: &mut Pass, local: &mut Local) -> StepDone
         ),
         Activity::Rebalance(Rebalance::Seek(Seek::Reclaim)) => free_row(shared, pass, local),
         Activity::Rebalance(Rebalance::Seek(Seek::Take)) => take_free_row(shared, pass, local),
+        Activity::Rebalance(Rebalance::Replace(Replace::GuessedLeast)) => load_least_before(
+            shared, pass, local,
+        ),
+        Activity::Rebalance(Rebalance::Replace(Replace::Next)) => load_link_before(
+            shared, pass, local,
+        ),
+        Activity::Rebalance(Rebalance::Replace(Replace::Exchange)) => link_new_rows(
+            shared, pass, local,
+        ),
+        Activity::Rebalance(Rebalance::Replace(Replace::Normalise)) => make_normal(
+            shared, pass, local,
+        ),
+        Activity::Rebalance(Rebalance::Replace(Replace::Number)) => draw_number(
+            shared, pass, local,
+        ),
+        Activity::Rebalance(Rebalance::Replace(Replace::Retire)) => retire_row(shared, pass, local),
         _ => event(shared, pass, local, Choice::Go),
     }
 }
 
-/// Makes the next event in the middle of a call, as `go` does with the choice `Go`. Those of a
-/// rebalance that freeze the full row, gather the cells that were not reached in its list and take
-/// free rows are made by steps of their own. Takes no memory.
+/// Makes the next event in the middle of a call, as `go` does with the choice `Go`. Those that most
+/// rebalances have are made by steps of their own. Takes no memory.
 #[inline(always)]
 pub fn go_build(shared: &Shared, pass: &mut Pass, local: &mut Local)
     requires follows { Follows shared.now pass.old local.old }
@@ -64,4 +103,39 @@ pub fn go_build(shared: &Shared, pass: &mut Pass, local: &mut Local)
     ensures { WentOn shared.now pass.old local.old Choice.Go pass.new local.new }
 {
     build_event(shared, pass, local);
+}
+
+// The next event with the choice to guess a row of the table: the search for free rows, or the walk
+// to the row before the full one, begins there.
+#[inline(always)]
+fn guess_event(shared: &Shared, pass: &mut Pass, local: &mut Local, row: u32) -> StepDone
+    requires follows { Follows shared.now pass.old local.old }
+    requires within { IsWithinCall local.old.activity }
+    requires in_range { row < shared.now.opening.rows }
+    ensures { Moves shared.now pass.old local.old (Choice.Guess row) pass.new local.new result }
+{
+    match local.activity {
+        Activity::Rebalance(Rebalance::Seek(Seek::First)) => load_first_state(
+            shared, pass, local, row,
+        ),
+        Activity::Rebalance(Rebalance::Replace(Replace::Start)) => load_state_before(
+            shared, pass, local, row,
+        ),
+        _ => event(shared, pass, local, Choice::Guess(row)),
+    }
+}
+
+/// Makes the next event in the middle of a call, as `go` does with the choice `Guess(row)`. Where a
+/// rebalance begins its search for free rows, or its walk to the row before the full one, at a row
+/// of the table, that is a step of its own. Takes no memory.
+#[inline(always)]
+pub fn go_build_guess(shared: &Shared, pass: &mut Pass, local: &mut Local, row: u32)
+    requires follows { Follows shared.now pass.old local.old }
+    requires within { IsWithinCall local.old.activity }
+    ensures { WentOn shared.now pass.old local.old (Choice.Guess row) pass.new local.new }
+{
+    if row >= shared.rows() {
+        return go(shared, pass, local, Choice::Guess(row));
+    }
+    guess_event(shared, pass, local, row);
 }

@@ -8,8 +8,8 @@
 //! guessed row, `go_draw` those by which a scan gets its version, `go_put` those of a put at its
 //! row, `Cursor` those of a reader along the list of its row and of a put that goes by cells there,
 //! `go_remembered` those at the cells that a reader remembers and did not reach there, and
-//! `go_build` those of a rebalance that freeze the full row and take free ones: each by its own
-//! step of the table. A rebalance gathers the full row by `reach_next` and `gather_cell`, asks rows
+//! `go_build` and `go_build_guess` those that most rebalances have: each by its own step of the
+//! table. A rebalance gathers the full row by `reach_next` and `gather_cell`, asks rows
 //! by a `Search`, and writes a new row by `write_row`, many events at once. A get that sees
 //! nothing on its way leaves its local at rest and goes by a `Way`, which `end_resting` ends.
 //!
@@ -23,10 +23,12 @@ mod along;
 mod building;
 mod cursor;
 mod drawing;
+mod engaging;
 mod gathering;
 mod going;
 mod putting;
 mod reading;
+mod replacing;
 mod row_gathering;
 mod row_writing;
 mod seeking;
@@ -36,12 +38,13 @@ pub use along::{
     go_along, go_guess, go_guessed_least, load_entry, load_row_least, load_row_link, see_entry,
     see_row_least, see_row_link,
 };
-pub use building::go_build;
+pub use building::{go_build, go_build_guess};
 pub use cursor::Cursor;
 pub use drawing::go_draw;
 pub use going::{begin, clear, end, go};
 pub use putting::{go_put, see_insert_key, see_insert_link};
 pub use reading::{go_remembered, go_to_left_over};
+pub use replacing::go_anew;
 pub use row_gathering::{gather_cell, reach_next};
 pub use row_writing::write_row;
 pub use seeking::{Search, is_in_use};

@@ -7,8 +7,6 @@
 //! for. What is asked of a row that is not gone by has steps of its own, as in `gathering`;
 //! `building` asks for them.
 ghost use Rattle.std.specs.Prelude.{◌≡◌, ◌<◌};
-ghost use Rattle.kw_world.specs.Parts.{part_of};
-ghost use Rattle.kw_world.specs.declared.part.Part.{Part};
 ghost use Rattle.kw_world.specs.Sane.{HasRoom, IsLocal};
 ghost use Rattle.kw_world.specs.Sizes.{product};
 ghost use Rattle.kw_world.specs.Step.{next_of};
@@ -19,6 +17,7 @@ ghost use Rattle.kw_follow.specs.Following.{Follows};
 ghost use Rattle.kw_follow.specs.Moving.{FollowsAt, Moves};
 ghost use Rattle.kw_follow.specs.Searches.{behind, is_in_use, seeking_at, with_search};
 
+use crate::engaging::rebalance_on;
 use kw_step_rebal::resume::rebalance_resume;
 use kw_table::{Pass, Shared, load_pass, load_state, reclaim, take_row};
 use kw_words::layout::Name;
@@ -101,16 +100,22 @@ pub fn is_in_use(found: u64) -> bool
     }
 }
 
-// What follows from an event of the search, by what the seat was told.
+// Loads the state of a row of the table, with which a search begins that is to begin there.
 #[inline(always)]
-fn seek_on(shared: &Shared, local: &mut Local, told: u64) -> StepDone
-    requires ranges { IsLocal product local.old }
-    requires room { HasRoom product local.old }
-    requires part { part_of Choice.Go local.old ≡ Part.Rebalance }
-    ensures { outcome local.new result ≡ next_of product shared.now.opening.rows Choice.Go local.old
-        told }
+pub(crate) fn load_first_state(
+    shared: &Shared,
+    pass: &mut Pass,
+    local: &mut Local,
+    row: u32,
+) -> StepDone
+    requires at { FollowsAt shared.now pass.old local.old
+        (Activity.Rebalance (Rebalance.Seek Seek.First)) }
+    requires in_range { row < shared.now.opening.rows }
+    ensures { Moves shared.now pass.old local.old (Choice.Guess row) pass.new local.new result }
 {
-    rebalance_resume(local, shared.rows(), Choice::Go, told)
+    let choice = Choice::Guess(row);
+    let told = load_state(shared, pass, choice, Name::State(row));
+    rebalance_on(shared, local, choice, told)
 }
 
 // Loads the pass of a seat, while the row at hand was found retired.
@@ -126,7 +131,7 @@ pub(crate) fn look_at_pass(
     ensures { Moves shared.now pass.old local.old Choice.Go pass.new local.new result }
 {
     let told = load_pass(shared, pass, Name::Pass(seat));
-    seek_on(shared, local, told)
+    rebalance_on(shared, local, Choice::Go, told)
 }
 
 // Exchanges the retired row at hand, to which no pass can come any more, for a free one.
@@ -140,7 +145,7 @@ pub(crate) fn free_row(shared: &Shared, pass: &mut Pass, local: &mut Local) -> S
     let retired = State::Retired(local.rebalance.number).pack();
     let free = State::Free.pack();
     let told = reclaim(shared, pass, state, retired, free);
-    seek_on(shared, local, told)
+    rebalance_on(shared, local, Choice::Go, told)
 }
 
 // Exchanges the free row at hand for an infant of this seat.
@@ -154,5 +159,5 @@ pub(crate) fn take_free_row(shared: &Shared, pass: &mut Pass, local: &mut Local)
     let free = State::Free.pack();
     let infant = State::Infant(pass.number()).pack();
     let told = take_row(shared, pass, state, free, infant);
-    seek_on(shared, local, told)
+    rebalance_on(shared, local, Choice::Go, told)
 }

@@ -15,7 +15,7 @@ ghost use Rattle.kw_follow.specs.Reaching.{Advances, Reaches};
 ghost use Rattle.kw_live.specs.Sights.{SawClock};
 ghost use Rattle.kw_live.specs.Stages.{HasEntered};
 
-use kw_follow::{begin, clear, end, go, go_along, go_draw};
+use kw_follow::{begin, clear, end, go, go_along, go_anew, go_draw};
 use kw_model::call::{Call, Reply};
 use kw_table::{Pass, Shared};
 use kw_world::activity::Activity;
@@ -60,8 +60,8 @@ pub fn enter_anew(shared: &Shared, pass: &mut Pass, local: &mut Local)
     ensures starts { local.new.activity ≡ Activity.Walk Walk.Start }
     ensures call { local.new.call ≡ local.old.call }
 {
-    go(shared, pass, local, Choice::Go);
-    go(shared, pass, local, Choice::Go); // its epoch
+    go_anew(shared, pass, local);
+    go_anew(shared, pass, local); // its epoch
     go_along(shared, pass, local);
 }
 

@@ -5,7 +5,7 @@ use Rattle.kw_world.specs.declared.activity.rebalance.seek.Seek.TheVariants as S
 use Rattle.kw_follow.proofs.Moving.{moves}
 use Rattle.kw_follow.proofs.OneEvent.{follows_ranges, follows_room}
 use Rattle.kw_follow.proofs.PutEvents.{asks_exchanged}
-use Rattle.kw_follow.proofs.SeekEvents.{seek_part}
+use Rattle.kw_follow.proofs.EngageEvents.{balance_part}
 use Rattle.kw_follow.proofs.seeking.free_row.Goals as goal
 
 pub pack-retired-requires : goal.pack-retired-requires
@@ -14,14 +14,14 @@ pack-retired-requires c = (follows_ranges _ _ _ c.requires.follows).rebalance.nu
 pub reclaim-told-requires : goal.reclaim-told-requires
 reclaim-told-requires c = asks_exchanged _ _ c.args.local.now (Activity.Rebalance (Rebalance.Seek Seek.Reclaim)) _ _ _ _ _ _ _ c.requires.follows c.requires.activity tt refl c.pack-retired.ensures.value c.pack-free.ensures.value refl
 
-pub seek_on-requires-clause-ranges : goal.seek_on-requires-clause-ranges
-seek_on-requires-clause-ranges c = follows_ranges _ _ _ c.requires.follows
+pub rebalance_on-requires-clause-ranges : goal.rebalance_on-requires-clause-ranges
+rebalance_on-requires-clause-ranges c = follows_ranges _ _ _ c.requires.follows
 
-pub seek_on-requires-clause-room : goal.seek_on-requires-clause-room
-seek_on-requires-clause-room c = follows_room _ _ _ c.requires.follows
+pub rebalance_on-requires-clause-room : goal.rebalance_on-requires-clause-room
+rebalance_on-requires-clause-room c = follows_room _ _ _ c.requires.follows
 
-pub seek_on-requires-clause-part : goal.seek_on-requires-clause-part
-seek_on-requires-clause-part c = seek_part c.args.local.now Seek.Reclaim c.requires.activity
+pub rebalance_on-requires-clause-part : goal.rebalance_on-requires-clause-part
+rebalance_on-requires-clause-part c = balance_part c.args.local.now (Rebalance.Seek Seek.Reclaim) c.requires.activity
 
 pub returns : goal.returns
-returns c = moves c.reclaim-told.ensures c.seek_on.ensures
+returns c = moves c.reclaim-told.ensures c.rebalance_on.ensures

@@ -4,20 +4,20 @@ use Rattle.kw_world.specs.declared.activity.rebalance.seek.Seek.TheVariants as S
 use Rattle.kw_follow.proofs.Moving.{moves}
 use Rattle.kw_follow.proofs.OneEvent.{follows_ranges, follows_room}
 use Rattle.kw_follow.proofs.PutEvents.{asks_at}
-use Rattle.kw_follow.proofs.SeekEvents.{seek_part}
+use Rattle.kw_follow.proofs.EngageEvents.{balance_part}
 use Rattle.kw_follow.proofs.seeking.look_at_pass.Goals as goal
 
 pub load_pass-told-requires : goal.load_pass-told-requires
 load_pass-told-requires c = asks_at _ _ c.args.local.now (Activity.Rebalance (Rebalance.Seek (Seek.Pass c.args.seat))) c.requires.follows c.requires.activity tt
 
-pub seek_on-requires-clause-ranges : goal.seek_on-requires-clause-ranges
-seek_on-requires-clause-ranges c = follows_ranges _ _ _ c.requires.follows
+pub rebalance_on-requires-clause-ranges : goal.rebalance_on-requires-clause-ranges
+rebalance_on-requires-clause-ranges c = follows_ranges _ _ _ c.requires.follows
 
-pub seek_on-requires-clause-room : goal.seek_on-requires-clause-room
-seek_on-requires-clause-room c = follows_room _ _ _ c.requires.follows
+pub rebalance_on-requires-clause-room : goal.rebalance_on-requires-clause-room
+rebalance_on-requires-clause-room c = follows_room _ _ _ c.requires.follows
 
-pub seek_on-requires-clause-part : goal.seek_on-requires-clause-part
-seek_on-requires-clause-part c = seek_part c.args.local.now (Seek.Pass c.args.seat) c.requires.activity
+pub rebalance_on-requires-clause-part : goal.rebalance_on-requires-clause-part
+rebalance_on-requires-clause-part c = balance_part c.args.local.now (Rebalance.Seek (Seek.Pass c.args.seat)) c.requires.activity
 
 pub returns : goal.returns
-returns c = moves c.load_pass-told.ensures c.seek_on.ensures
+returns c = moves c.load_pass-told.ensures c.rebalance_on.ensures

@@ -7,7 +7,8 @@ use Rattle.kw_world.specs.declared.activity.rebalance.seek.Seek.TheVariants as S
 use Rattle.kw_follow.proofs.Moving.{moves}
 use Rattle.kw_follow.proofs.OneEvent.{follows_ranges, follows_room}
 use Rattle.kw_follow.proofs.PutEvents.{asks_exchanged}
-use Rattle.kw_follow.proofs.SeekEvents.{seat_fits, seek_part}
+use Rattle.kw_follow.proofs.SeekEvents.{seat_fits}
+use Rattle.kw_follow.proofs.EngageEvents.{balance_part}
 use Rattle.kw_follow.proofs.seeking.take_free_row.Goals as goal
 
 pub pack-infant-requires : goal.pack-infant-requires
@@ -16,14 +17,14 @@ pack-infant-requires c = seat_fits c.args.pass.now _ c.number.ensures
 pub take_row-told-requires : goal.take_row-told-requires
 take_row-told-requires c = asks_exchanged _ _ c.args.local.now (Activity.Rebalance (Rebalance.Seek Seek.Take)) _ _ _ _ _ _ _ c.requires.follows c.requires.activity tt refl c.pack-free.ensures.value (c.pack-infant.ensures.value ∙ ap (λ n. state_word (Infant n)) c.number.ensures) refl
 
-pub seek_on-requires-clause-ranges : goal.seek_on-requires-clause-ranges
-seek_on-requires-clause-ranges c = follows_ranges _ _ _ c.requires.follows
+pub rebalance_on-requires-clause-ranges : goal.rebalance_on-requires-clause-ranges
+rebalance_on-requires-clause-ranges c = follows_ranges _ _ _ c.requires.follows
 
-pub seek_on-requires-clause-room : goal.seek_on-requires-clause-room
-seek_on-requires-clause-room c = follows_room _ _ _ c.requires.follows
+pub rebalance_on-requires-clause-room : goal.rebalance_on-requires-clause-room
+rebalance_on-requires-clause-room c = follows_room _ _ _ c.requires.follows
 
-pub seek_on-requires-clause-part : goal.seek_on-requires-clause-part
-seek_on-requires-clause-part c = seek_part c.args.local.now Seek.Take c.requires.activity
+pub rebalance_on-requires-clause-part : goal.rebalance_on-requires-clause-part
+rebalance_on-requires-clause-part c = balance_part c.args.local.now (Rebalance.Seek Seek.Take) c.requires.activity
 
 pub returns : goal.returns
-returns c = moves c.take_row-told.ensures c.seek_on.ensures
+returns c = moves c.take_row-told.ensures c.rebalance_on.ensures

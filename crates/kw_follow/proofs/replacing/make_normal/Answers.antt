@@ -1,0 +1,31 @@
+use Rattle.std.proofs.Common.{◌∙◌, ap, refl}
+use Rattle.kw_words.specs.declared.layout.Name.TheVariants.{State}
+use Rattle.kw_words.specs.declared.state.State.TheVariants.{Infant}
+use Rattle.kw_words.specs.State.{state_word}
+use Rattle.kw_follow.proofs.SeekEvents.{seat_fits}
+use Rattle.kw_world.specs.declared.activity.Activity.TheVariants as Activity
+use Rattle.kw_world.specs.declared.activity.rebalance.Rebalance.TheVariants as Rebalance
+use Rattle.kw_world.specs.declared.activity.rebalance.replace.Replace.TheVariants as Replace
+use Rattle.kw_follow.proofs.PutEvents.{asks_exchanged}
+use Rattle.kw_follow.proofs.OneEvent.{follows_ranges, follows_room}
+use Rattle.kw_follow.proofs.EngageEvents.{balance_part}
+use Rattle.kw_follow.proofs.Moving.{moves}
+use Rattle.kw_follow.proofs.replacing.make_normal.Goals as goal
+
+pub pack-own-requires : goal.pack-own-requires
+pack-own-requires c = seat_fits c.args.pass.now _ c.number.ensures
+
+pub normalise-told-requires : goal.normalise-told-requires
+normalise-told-requires c = asks_exchanged _ _ c.args.local.now (Activity.Rebalance (Rebalance.Replace Replace.Normalise)) _ _ _ _ _ _ _ c.requires.follows c.requires.activity tt (ap State c.infant.ensures) (c.pack-own.ensures.value ∙ ap (λ n. state_word (Infant n)) c.number.ensures) c.pack-normal.ensures.value refl
+
+pub rebalance_on-requires-clause-ranges : goal.rebalance_on-requires-clause-ranges
+rebalance_on-requires-clause-ranges c = follows_ranges _ _ _ c.requires.follows
+
+pub rebalance_on-requires-clause-room : goal.rebalance_on-requires-clause-room
+rebalance_on-requires-clause-room c = follows_room _ _ _ c.requires.follows
+
+pub rebalance_on-requires-clause-part : goal.rebalance_on-requires-clause-part
+rebalance_on-requires-clause-part c = balance_part c.args.local.now (Rebalance.Replace Replace.Normalise) c.requires.activity
+
+pub returns : goal.returns
+returns c = moves c.normalise-told.ensures c.rebalance_on.ensures
