@@ -15,7 +15,7 @@ ghost use Rattle.kw_live_rebal.specs.Rebalancing.{HasEnded, stands_after};
 use crate::guessing::guess;
 use crate::publishing::tell_index;
 use crate::stretches::{gather_row, seek_row, write_new_row};
-use kw_follow::{go, go_build};
+use kw_follow::{go, go_build, go_build_guess};
 use kw_index::hints::Hints;
 use kw_index::index::Index;
 use kw_table::{Pass, Shared};
@@ -144,8 +144,8 @@ fn asks_on(activity: &Activity) -> bool
     }
 }
 
-// Makes the next event with this choice. Where that is `Go`, the frequent events are made by steps
-// of their own.
+// Makes the next event with this choice. Those that most rebalances have are made by steps of their
+// own.
 #[inline(always)]
 fn go_on(shared: &Shared, pass: &mut Pass, local: &mut Local, choice: Choice)
     requires follows { Follows shared.now pass.old local.old }
@@ -154,6 +154,7 @@ fn go_on(shared: &Shared, pass: &mut Pass, local: &mut Local, choice: Choice)
 {
     match choice {
         Choice::Go => go_build(shared, pass, local),
+        Choice::Guess(row) => go_build_guess(shared, pass, local, row),
         _ => go(shared, pass, local, choice),
     }
 }
@@ -190,7 +191,7 @@ fn finish<R: Wait>(
             return;
         }
         tell_index(index, hints, local);
-        go(shared, pass, local, Choice::Go);
+        go_build(shared, pass, local);
     }
     unreachable!()
 }
