@@ -260,7 +260,8 @@ def main():
     options.add_argument("command", nargs=argparse.REMAINDER, help="the command that is measured")
     options = options.parse_args()
     if options.show:
-        print("\n".join(table(stored())))
+        lines = stored()
+        print("\n".join(table(lines)) if lines else "gate_times: no run was measured yet")
         return 0
     begin = time.monotonic()
     if options.beside:
