@@ -201,11 +201,10 @@ def ratios_table(data):
     native, alone, locked = ("built", "native", "get", CELLS), ("calls", "std", "put", 1), ("calls", "RwLock", "mixed", 4)
     replay = [("replay", "std", "0", 1), ("replay", "kiwi", "0", 4)]
     yield f"Taken {data.about_of('date')}, of build {data.about_of('build')} ([PERFORMANCE](docs/PERFORMANCE.md) has the figures):"
-    yield ""
     yield f"- a get of a row of {CELLS} cells, {BUILT} of which it was built with, takes {data.ratio(get, native)} times what native code takes for its loads;"
     yield f"- a put by one thread takes {data.ratio(put, alone)} times one into std's ordered map;"
-    yield f"- four threads that put and get make {data.ratio(('calls', 'kiwi', 'mixed', 1), mixed, 4)} times the calls of one;"
-    yield f"- they make {data.ratio(locked, mixed)} times the calls of four on std's map behind a `RwLock`;"
+    of_one, of_locked = data.ratio(("calls", "kiwi", "mixed", 1), mixed, 4), data.ratio(locked, mixed)
+    yield f"- four threads that put and get make {of_one} times the calls of one, and {of_locked} times those of four on std's map in a lock;"
     yield f"- `replay --workers 4` of puts and gets is {data.ratio(*replay)} times as fast as such a program of one thread on std's map."
 
 
