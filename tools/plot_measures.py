@@ -204,7 +204,7 @@ def ratios_table(data):
     yield f"- a get of a row of {CELLS} cells, {BUILT} of which it was built with, takes {data.ratio(get, native)} times what native code takes for its loads;"
     yield f"- a put by one thread takes {data.ratio(put, alone)} times one into std's ordered map;"
     of_one, of_locked = data.ratio(("calls", "kiwi", "mixed", 1), mixed, 4), data.ratio(locked, mixed)
-    yield f"- four threads that put and get make {of_one} times the calls of one, and {of_locked} times those of four on std's map in a lock;"
+    yield f"- four threads that put and get make {of_one} times the calls of one, {of_locked} times those of four on std's map in a `RwLock`;"
     yield f"- `replay --workers 4` of puts and gets is {data.ratio(*replay)} times as fast as such a program of one thread on std's map."
 
 
