@@ -1,9 +1,9 @@
 //! The kinds of event that come often in a rebalance, each a step of its own.
 //!
 //! They stand by what `kinds` says of its own: what each asks, what it tells, and what the pass has
-//! seen afterwards. First come those by which a full row gets its leader and is frozen, and scans are
-//! looked for, then those that find and write new rows, and link them in place of the full one. What
-//! most rebalances do not need is made by `make`.
+//! seen afterwards. First come those by which a full row gets its leader and is frozen, and scans
+//! are looked for, then those that find and write new rows, and link them in place of the full one.
+//! What most rebalances do not need is made by `make`.
 ghost use Rattle.kw_table.specs.Passes.{operation, Asks, Makes};
 
 use crate::kinds::step;
