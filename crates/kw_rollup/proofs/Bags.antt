@@ -1,6 +1,6 @@
 -- Lists of values whose order does not matter: which bucket is that of such a list, and how a value
 -- comes in and goes out.
-use Rattle.std.proofs.Common.{ℕ, ◌≡◌, ◌-◌, cond, ◌==◌, List, [], ◌∷◌, length, sum, Option, Some, None, refl, sym, ap, subst, ◌∙◌, arith}
+use Rattle.std.proofs.Common.{ℕ, ◌≡◌, cond, ◌==◌, List, [], ◌∷◌, length, Option, Some, None, refl, sym, ap, subst, ◌∙◌, arith}
 use Rattle.std.specs.List.{sum_by}
 use Rattle.std.proofs.lemmas.List.{nil_from_length}
 use Rattle.std.proofs.lemmas.List.Sums.{sum_by-cons}
@@ -24,8 +24,7 @@ pub bucket_same : (vs ws : List ℕ) (k : Bucket) → IsSameBag vs ws → IsBuck
 bucket_same vs ws k s h = record {
   count = h.count ∙ same_length vs ws s;
   sum = h.sum ∙ s.sums (λ x. x);
-  times = λ v. h.times v ∙ s.sums (λ x. cond (x == v) 1 0);
-  some = h.some;
+  values = record { times = λ v. h.values.times v ∙ s.sums (λ x. cond (x == v) 1 0); some = h.values.some };
 }
 
 pub kept_same : (vs ws : List ℕ) (o : Option Bucket) → IsSameBag vs ws → IsKeptFor vs o → IsKeptFor ws o

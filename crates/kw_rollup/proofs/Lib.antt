@@ -7,3 +7,4 @@ pub mod Lines
 pub mod Ends
 pub mod Pairs
 pub mod Printed
+pub mod Taken

@@ -1,5 +1,5 @@
 -- What a rollup is seen as, and what ties the buckets that it keeps to its points.
-use Rattle.std.specs.Prelude.{ℕ, ◌≡◌, ◌≢◌, ◌-◌, ◌%◌, ◌<◌, ◌≤◌, ◌^◌, ◌==◌, List, [], ◌∷◌, length, sum, count_by, Option, Some, None, unwrap_or}
+use Rattle.std.specs.Prelude.{ℕ, ◌≡◌, ◌≢◌, ◌+◌, ◌-◌, ◌%◌, ◌<◌, ◌≤◌, ◌^◌, ◌==◌, List, [], ◌∷◌, length, sum, count_by, Option, Some, None, unwrap_or}
 use Rattle.std.specs.List.{filter}
 use Rattle.std.specs.Ordering.{nat_cmp}
 use Rattle.std.specs.BTreeMap.{BTreeMap, get}
@@ -7,6 +7,7 @@ use Rattle.kw_model.specs.Map.{Pairs, IsRising, put, without}
 use Rattle.kw_model.specs.Values.{values}
 use Rattle.kw_rollup.specs.Buckets.{minute_of}
 use Rattle.kw_rollup.specs.declared.bucket.Bucket.{Bucket}
+use Rattle.kw_rollup.specs.declared.values.Values.{Values}
 use Rattle.kw_rollup.specs.declared.item.TheConstants.{MINUTES}
 
 -- a rollup as its callers see it: how many minutes a bucket has, and the points by strictly rising
@@ -23,12 +24,16 @@ first_of width key = key - minute_of key % width
 abbrev pub values_at : ℕ → ℕ → Pairs → List ℕ
 values_at width b pairs = values (filter (λ p. first_of width p.0 == b) pairs)
 
+-- the values kept are these, in any order: each is listed and counted as often as it is among them
+pub record AreValues (vs : List ℕ) (kept : Values) : Type 0 where
+  pub times : (v : ℕ) → count_by (λ x. x == v) kept.listed.items + unwrap_or (get nat_cmp kept.counted v) 0 ≡ count_by (λ x. x == v) vs
+  pub some : (v : ℕ) → get nat_cmp kept.counted v ≢ Some 0
+
 -- the bucket is that of points with these values, in any order
 pub record IsBucketOf (vs : List ℕ) (bucket : Bucket) : Type 0 where
   pub count : bucket.count ≡ length vs
   pub sum : bucket.sum ≡ sum vs
-  pub times : (v : ℕ) → unwrap_or (get nat_cmp bucket.values v) 0 ≡ count_by (λ x. x == v) vs
-  pub some : (v : ℕ) → get nat_cmp bucket.values v ≢ Some 0
+  pub values : AreValues vs bucket.values
 
 -- what is kept for points with these values: a bucket where there are any
 abbrev pub IsKeptFor : List ℕ → Option Bucket → Type 0
