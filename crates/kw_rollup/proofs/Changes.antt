@@ -1,7 +1,7 @@
 -- What is kept after a change, and that a bucket's points are few.
 use Rattle.std.proofs.Common.{ℕ, suc, Bool, true, false, ◌≡◌, ◌≢◌, ◌<◌, ◌≤◌, ◌+◌, ◌-◌, ◌*◌, ◌^◌, cond, eqb, ltb, not, ◌==◌, List, [], ◌∷◌, length, sum, Option, Some, None, Result, Ok, Err, OnOk, OnErr, max, refl, sym, ap, ◌∙◌, inl, inr, subst, arith}
 use Rattle.std.proofs.lemmas.Bool.{cases_eq, eq-eqb, ne_eqb, eqb-true, false≢true}
-use Rattle.std.specs.List.{filter}
+use Rattle.std.specs.List.{filter, sum_by}
 use Rattle.std.specs.Ordering.{nat_cmp}
 use Rattle.std.specs.BTreeMap.{BTreeMap, get, insert_entry, is_at}
 use Rattle.std.specs.Map.{lookup, remove_entry}
@@ -12,8 +12,8 @@ use Rattle.kw_model.specs.Map.{Pairs, RisesFrom, IsRising, value_of, put, withou
 use Rattle.kw_model.specs.Values.{values}
 use Rattle.kw_model.proofs.Pairs.{rises-put, rises-without, value-put, value-without, same_from_values}
 use Rattle.kw_rollup.specs.declared.bucket.Bucket.{Bucket}
-use Rattle.kw_rollup.specs.Kept.{first_of, values_at, IsKeptFor, IsKept, IsSmall, AreInRange, restored}
-use Rattle.kw_rollup.proofs.Bags.{kept_same, kept_along}
+use Rattle.kw_rollup.specs.Kept.{first_of, values_at, IsKeptFor, IsKept, IsSmall, AreInRange, restored, with_old}
+use Rattle.kw_rollup.proofs.Bags.{IsSameBag, kept_same, kept_along, small_same}
 use Rattle.kw_rollup.proofs.Points.{bag-put_new, bag-put_over, bag-without, filter-put_other, filter-without_other}
 
 -- the test for the keys of a bucket
@@ -95,23 +95,9 @@ others-put width k v b m old new h o ne =
     let apart : in_bucket width b k ≡ false = ne_eqb (first_of width k) b (λ e. ne (sym e)) in
     kept_along _ _ _ _ (ap values (sym (filter-put_other (in_bucket width b) k v m apart))) (sym (o.others b ne)) (h.each b)
 
--- a put of a key that had no value
-pub kept-put_new : (width k v : ℕ) (m : Pairs) (old new : BTreeMap ℕ Bucket) → k < 2 ^ 32 → v < 2 ^ 64 → IsKept width m old → value_of k m ≡ None → KeepsOthers (first_of width k) old new → IsKeptFor (v ∷ values_at width (first_of width k) m) (get nat_cmp new (first_of width k)) → IsKept width (put k v m) new
-kept-put_new width k v m old new kl vl h n o here = record {
-  some = h.some;
-  most = h.most;
-  rising = rises-put 0 k v m (omega arith) h.rising;
-  in_range = range-put k v m kl vl h.in_range;
-  each = λ b. elim (cases_eq b (first_of width k)) [
-    | inl e ↦ (let P : ℕ → Type 0 = λ c. IsKeptFor (values_at width c (put k v m)) (get nat_cmp new c) in
-        subst P (sym e) (kept_same _ _ (get nat_cmp new (first_of width k)) (bag-put_new (in_bucket width (first_of width k)) k v m (own width k) n) here))
-    | inr ne ↦ others-put width k v b m old new h o ne
-  ];
-}
-
--- a put of a key that had a value, which was then taken out of the bucket
-pub kept-put_over : (width k v was : ℕ) (m : Pairs) (old new : BTreeMap ℕ Bucket) → k < 2 ^ 32 → v < 2 ^ 64 → IsKept width m old → KeepsOthers (first_of width k) old new → IsKeptFor (values_at width (first_of width k) (put k v m)) (get nat_cmp new (first_of width k)) → IsKept width (put k v m) new
-kept-put_over width k v was m old new kl vl h o here = record {
+-- a put, whose bucket has the points' values again
+kept-put : (width k v : ℕ) (m : Pairs) (old new : BTreeMap ℕ Bucket) → k < 2 ^ 32 → v < 2 ^ 64 → IsKept width m old → KeepsOthers (first_of width k) old new → IsKeptFor (values_at width (first_of width k) (put k v m)) (get nat_cmp new (first_of width k)) → IsKept width (put k v m) new
+kept-put width k v m old new kl vl h o here = record {
   some = h.some;
   most = h.most;
   rising = rises-put 0 k v m (omega arith) h.rising;
@@ -121,10 +107,6 @@ kept-put_over width k v was m old new kl vl h o here = record {
     | inr ne ↦ others-put width k v b m old new h o ne
   ];
 }
-
--- in between, the bucket has the old value beside its points
-pub between-put : (width k v was : ℕ) (m : Pairs) (o : Option Bucket) → IsRising m → value_of k m ≡ Some was → IsKeptFor (v ∷ values_at width (first_of width k) m) o → IsKeptFor (was ∷ values_at width (first_of width k) (put k v m)) o
-between-put width k v was m o r s h = kept_same _ _ o (bag-put_over (in_bucket width (first_of width k)) k v was m (own width k) r s) h
 
 -- a delete of a key that had a value
 pub before-delete : (width k was : ℕ) (m : Pairs) (o : Option Bucket) → IsRising m → value_of k m ≡ Some was → IsKeptFor (values_at width (first_of width k) m) o → IsKeptFor (was ∷ values_at width (first_of width k) (without k m)) o
@@ -203,29 +185,42 @@ deleted width k first was m m' old new h e s gone took others =
     let Q : Pairs → Type 0 = λ n. IsKept width n new in
     subst Q (sym (gone ∙ remove_is k 0 m h.rising)) (kept-without width k m old new h (record { others = here.1 }) (here.0 (values_at width (first_of width k) (without k m)) before))
 
--- a put of a new key
-pub put_new : (width k v first : ℕ) (m m' : Pairs) (old new : BTreeMap ℕ Bucket) → k < 2 ^ 32 → v < 2 ^ 64 → IsKept width m old → first ≡ first_of width k → None ≡ lookup (is_at (nat_cmp k)) m → m' ≡ insert_entry nat_cmp m k v → ((vs : List ℕ) → IsKeptFor vs (get nat_cmp old first) → IsKeptFor (v ∷ vs) (get nat_cmp new first)) → ((b : ℕ) → b ≢ first → get nat_cmp new b ≡ get nat_cmp old b) → IsKept width m' new
-put_new width k v first m m' old new kl vl h e s made came others =
-    let P : ℕ → Type 0 = λ b. ((vs : List ℕ) → IsKeptFor vs (get nat_cmp old b) → IsKeptFor (v ∷ vs) (get nat_cmp new b)) × ((c : ℕ) → c ≢ b → get nat_cmp new c ≡ get nat_cmp old c) in
+-- the values of a bucket are the one that a key had, if any, and those of the other keys
+old_among : (width k : ℕ) (was : Option ℕ) (m : Pairs) → IsRising m → value_of k m ≡ was → IsSameBag (values_at width (first_of width k) m) (with_old was (values_at width (first_of width k) (without k m)))
+old_among width k None m r s = record { sums = λ f. ap (λ (n : Pairs). sum_by f (values_at width (first_of width k) n)) (sym (without_none k m s)) }
+old_among width k (Some o) m r s = bag-without (in_bucket width (first_of width k)) k o m (own width k) r s
+
+-- after a put they are the new one and those of the other keys
+new_among : (width k v : ℕ) (was : Option ℕ) (m : Pairs) → IsRising m → value_of k m ≡ was → IsSameBag (v ∷ values_at width (first_of width k) (without k m)) (values_at width (first_of width k) (put k v m))
+new_among width k v None m r s =
+    let P : Pairs → Type 0 = λ n. IsSameBag (v ∷ values_at width (first_of width k) n) (values_at width (first_of width k) (put k v m)) in
+    subst P (sym (without_none k m s)) (bag-put_new (in_bucket width (first_of width k)) k v m (own width k) s)
+new_among width k v (Some o) m r s =
+    let over = bag-put_over (in_bucket width (first_of width k)) k v o m (own width k) r s in
+    let gone = bag-without (in_bucket width (first_of width k)) k o m (own width k) r s in
+    let all = values_at width (first_of width k) m in
+    let left = values_at width (first_of width k) (without k m) in
+    let made = values_at width (first_of width k) (put k v m) in
+    record { sums = λ f. omega (arith, over.sums f, gone.sums f, sum_by-cons f v all, sum_by-cons f o made, sum_by-cons f o left, sum_by-cons f v left) }
+
+-- before a put, the bucket has the value that the key had, if any
+pub can_put : (width k first : ℕ) (was : Option ℕ) (m : Pairs) (kept : BTreeMap ℕ Bucket) → IsKept width m kept → first ≡ first_of width k → was ≡ lookup (is_at (nat_cmp k)) m → (vs : List ℕ) × IsSmall (with_old was vs) × IsKeptFor (with_old was vs) (get nat_cmp kept first)
+can_put width k first was m kept h e s =
+    let left = values_at width (first_of width k) (without k m) in
+    let same = old_among width k was m h.rising (sym (lookup_is k m) ∙ sym s) in
+    let P : ℕ → Type 0 = λ b. IsKeptFor (with_old was left) (get nat_cmp kept b) in
+    (left, small_same _ _ same (small_at width (first_of width k) m kept h), subst P (sym e) (kept_same _ _ (get nat_cmp kept (first_of width k)) same (h.each (first_of width k))))
+
+-- after it, all is kept
+pub put_made : (width k v first : ℕ) (was : Option ℕ) (m m' : Pairs) (old new : BTreeMap ℕ Bucket) → k < 2 ^ 32 → v < 2 ^ 64 → IsKept width m old → first ≡ first_of width k → was ≡ lookup (is_at (nat_cmp k)) m → m' ≡ insert_entry nat_cmp m k v → ((vs : List ℕ) → IsKeptFor (with_old was vs) (get nat_cmp old first) → IsKeptFor (v ∷ vs) (get nat_cmp new first)) → ((b : ℕ) → b ≢ first → get nat_cmp new b ≡ get nat_cmp old b) → IsKept width m' new
+put_made width k v first was m m' old new kl vl h e s made came others =
+    let P : ℕ → Type 0 = λ b. ((vs : List ℕ) → IsKeptFor (with_old was vs) (get nat_cmp old b) → IsKeptFor (v ∷ vs) (get nat_cmp new b)) × ((c : ℕ) → c ≢ b → get nat_cmp new c ≡ get nat_cmp old c) in
     let here = subst P e (came, others) in
-    let none : value_of k m ≡ None = sym (lookup_is k m) ∙ sym s in
+    let value = sym (lookup_is k m) ∙ sym s in
+    let before = kept_same _ _ (get nat_cmp old (first_of width k)) (old_among width k was m h.rising value) (h.each (first_of width k)) in
+    let after = kept_same _ _ (get nat_cmp new (first_of width k)) (new_among width k v was m h.rising value) (here.0 (values_at width (first_of width k) (without k m)) before) in
     let Q : Pairs → Type 0 = λ n. IsKept width n new in
-    subst Q (sym (made ∙ insert_is k v m)) (kept-put_new width k v m old new kl vl h none (record { others = here.1 }) (here.0 (values_at width (first_of width k) m) (h.each (first_of width k))))
-
--- a put of a key that had a value: in between the bucket has the old value too, and then it is
--- taken out
-pub can_replace : (width k v first was : ℕ) (m : Pairs) (old new : BTreeMap ℕ Bucket) → IsKept width m old → first ≡ first_of width k → Some was ≡ lookup (is_at (nat_cmp k)) m → ((vs : List ℕ) → IsKeptFor vs (get nat_cmp old first) → IsKeptFor (v ∷ vs) (get nat_cmp new first)) → IsKeptFor (was ∷ values_at width (first_of width k) (put k v m)) (get nat_cmp new first)
-can_replace width k v first was m old new h e s came =
-    let P : ℕ → Type 0 = λ b. IsKeptFor (values_at width b m) (get nat_cmp old first) in
-    between-put width k v was m (get nat_cmp new first) h.rising (found_value k was m s) (came (values_at width (first_of width k) m) (subst P e (h.each first)))
-
-pub put_over : (width k v first was : ℕ) (m m' : Pairs) (old mid new : BTreeMap ℕ Bucket) → k < 2 ^ 32 → v < 2 ^ 64 → IsKept width m old → first ≡ first_of width k → Some was ≡ lookup (is_at (nat_cmp k)) m → m' ≡ insert_entry nat_cmp m k v → ((vs : List ℕ) → IsKeptFor vs (get nat_cmp old first) → IsKeptFor (v ∷ vs) (get nat_cmp mid first)) → ((b : ℕ) → b ≢ first → get nat_cmp mid b ≡ get nat_cmp old b) → ((vs : List ℕ) → IsKeptFor (was ∷ vs) (get nat_cmp mid first) → IsKeptFor vs (get nat_cmp new first)) → ((b : ℕ) → b ≢ first → get nat_cmp new b ≡ get nat_cmp mid b) → IsKept width m' new
-put_over width k v first was m m' old mid new kl vl h e s made came others took others' =
-    let after = took (values_at width (first_of width k) (put k v m)) (can_replace width k v first was m old mid h e s came) in
-    let P : ℕ → Type 0 = λ b. IsKeptFor (values_at width (first_of width k) (put k v m)) (get nat_cmp new b) in
-    let rest : KeepsOthers (first_of width k) old new = record { others = λ b ne. let far : b ≢ first = λ f. ne (f ∙ e) in others' b far ∙ others b far } in
-    let Q : Pairs → Type 0 = λ n. IsKept width n new in
-    subst Q (sym (made ∙ insert_is k v m)) (kept-put_over width k v was m old new kl vl h rest (subst P e after))
+    subst Q (sym (made ∙ insert_is k v m)) (kept-put width k v m old new kl vl h (record { others = here.1 }) after)
 
 -- a put that is undone
 pub undone : (width k v first : ℕ) (was : Option ℕ) (m m' m'' : Pairs) (old new : BTreeMap ℕ Bucket) → IsKept width m old → first ≡ first_of width k → was ≡ lookup (is_at (nat_cmp k)) m → m' ≡ insert_entry nat_cmp m k v → m'' ≡ restored k was m' → m'' ≡ m

@@ -35,6 +35,11 @@ pub record IsBucketOf (vs : List ℕ) (bucket : Bucket) : Type 0 where
   pub sum : bucket.sum ≡ sum vs
   pub values : AreValues vs bucket.values
 
+-- these values and, where one is given, the value that goes
+abbrev pub with_old : Option ℕ → List ℕ → List ℕ
+with_old None vs = vs
+with_old (Some old) vs = old ∷ vs
+
 -- what is kept for points with these values: a bucket where there are any
 abbrev pub IsKeptFor : List ℕ → Option Bucket → Type 0
 IsKeptFor vs None = vs ≡ []

@@ -4,7 +4,7 @@
 //! themselves, each as often as points have it.
 ghost use Rattle.std.specs.Prelude.{◌≡◌, ◌<◌, ◌^◌, ◌∷◌, [], ℕ, List, IfOk, OnOk, OnErr, length, MatchOption, IsTrue, ◌↔◌};
 ghost use Rattle.kw_rollup.specs.Buckets.{series_of, minute_of, summary_of};
-ghost use Rattle.kw_rollup.specs.Kept.{IsBucketOf};
+ghost use Rattle.kw_rollup.specs.Kept.{IsBucketOf, with_old};
 
 use crate::item::MINUTES;
 use crate::summary::Summary;
@@ -34,7 +34,7 @@ impl Bucket {
     }
 
     /// Adds a point with this value. Without memory for a new value the points stay as they were.
-    pub fn add(&mut self, value: u64) -> Result<(), Memory>
+    fn add(&mut self, value: u64) -> Result<(), Memory>
         requires few { self.old.count < 2 ^ 31 }
         requires small { self.old.sum < 2 ^ 127 }
         requires sound { (vs : List ℕ) × IsBucketOf vs self.old }
@@ -55,6 +55,22 @@ impl Bucket {
         self.values.take(value);
         self.count -= 1;
         self.sum -= u128::from(value);
+    }
+
+    /// Adds a point with this value in place of one with the old value, where that is given. Without
+    /// memory for a new value the points stay as they were.
+    pub fn put(&mut self, old: Option<u64>, value: u64) -> Result<(), Memory>
+        requires few { self.old.count < 2 ^ 31 }
+        requires small { self.old.sum < 2 ^ 127 }
+        requires sound { (vs : List ℕ) × IsBucketOf (with_old old vs) self.old }
+        ensures ok { OnOk result ((vs : List ℕ) → IsBucketOf (with_old old vs) self.old → IsBucketOf (value ∷ vs) self.new) }
+        ensures err { OnErr result ((vs : List ℕ) → IsBucketOf vs self.old → IsBucketOf vs self.new) }
+    {
+        self.add(value)?;
+        if let Some(old) = old {
+            self.take(old);
+        }
+        Ok(())
     }
 
     /// Whether there are no points.

@@ -9,7 +9,7 @@ ghost use Rattle.std.specs.Ordering.{nat_cmp};
 ghost use Rattle.kw_model.specs.Map.{IsRising, put, without};
 ghost use Rattle.kw_rollup.specs.Buckets.{buckets};
 ghost use Rattle.kw_rollup.specs.Texts.{table_text};
-ghost use Rattle.kw_rollup.specs.Kept.{IsKeptFor, IsSmall, first_of, restored};
+ghost use Rattle.kw_rollup.specs.Kept.{IsKeptFor, IsSmall, first_of, restored, with_old};
 
 use crate::bucket::Bucket;
 use crate::item::MINUTES;
@@ -80,13 +80,8 @@ impl Rollup {
     {
         let first = first_key(self.width, key);
         let old = self.points.insert(key, value)?;
-        match add_point(self.alloc, &mut self.buckets, first, value) {
-            Ok(()) => {
-                if let Some(old) = old {
-                    take_point(&mut self.buckets, first, old);
-                }
-                Ok(())
-            }
+        match put_point(self.alloc, &mut self.buckets, first, old, value) {
+            Ok(()) => Ok(()),
             Err(error) => {
                 restore(&mut self.points, key, old);
                 Err(error)
@@ -126,23 +121,24 @@ fn first_key(width: u32, key: u32) -> u32
     key - key % MINUTES % width
 }
 
-/// Adds a point with this value to the bucket that begins at this key. Without memory for it the
-/// points of each bucket stay as they were.
-fn add_point(
+/// Adds a point with this value to the bucket that begins at this key, in place of one with the old
+/// value, where that is given. Without memory for it the points of each bucket stay as they were.
+fn put_point(
     alloc: Global,
     buckets: &mut BTreeMap<u32, Bucket>,
     first: u32,
+    old: Option<u64>,
     value: u64,
 ) -> Result<(), Memory>
-    requires { (vs : List ℕ) × IsSmall vs × IsKeptFor vs (get nat_cmp buckets.old first) }
-    ensures ok { OnOk result ((vs : List ℕ) → IsKeptFor vs (get nat_cmp buckets.old first)
+    requires { (vs : List ℕ) × IsSmall (with_old old vs) × IsKeptFor (with_old old vs) (get nat_cmp buckets.old first) }
+    ensures ok { OnOk result ((vs : List ℕ) → IsKeptFor (with_old old vs) (get nat_cmp buckets.old first)
         → IsKeptFor (value ∷ vs) (get nat_cmp buckets.new first)) }
     ensures err { OnErr result ((vs : List ℕ) → IsKeptFor vs (get nat_cmp buckets.old first)
         → IsKeptFor vs (get nat_cmp buckets.new first)) }
     ensures others { (b : ℕ) → b ≢ first → get nat_cmp buckets.new b ≡ get nat_cmp buckets.old b }
 {
     match buckets.get_mut(&first) {
-        Some(bucket) => bucket.add(value),
+        Some(bucket) => bucket.put(old, value),
         None => {
             buckets.insert(first, Bucket::of_one(alloc, value)?)?;
             Ok(())
