@@ -104,6 +104,56 @@ fn begins_with_pairs_and_says_how_many_were_refused(rt: HostRuntime) -> Result<(
     Ok(())
 }
 
+/// Expects this text of the table of these points.
+fn expect_table(rt: &impl Abort, rollup: &Rollup, want: &[u8]) -> Result<(), Fail> {
+    assert_eq!(rt; rollup.print(0)?.as_slice(), want);
+    Ok(())
+}
+
+// the values from 500 down to 201, of which the first 128 are listed: the least, 201, is in the
+// tree, and the greatest, 500, in the list; then values of the list and of the tree go
+#[test]
+fn finds_the_ends_of_more_values_than_are_listed(rt: HostRuntime) -> Result<(), Fail> {
+    let mut rollup = Rollup::from_pairs(rt.alloc(), MINUTES, &PairList::new(rt.alloc()))?;
+    for minute in 0..300u32 {
+        rollup.put(minute, 500 - u64::from(minute))?;
+    }
+    expect_table(
+        &rt,
+        &rollup,
+        b"0 0 count 300 sum 105150 least 201 greatest 500\nend 0\n",
+    )?;
+    rollup.del(299);
+    rollup.del(0);
+    expect_table(
+        &rt,
+        &rollup,
+        b"0 0 count 298 sum 104449 least 202 greatest 499\nend 0\n",
+    )?;
+    rollup.put(1, 7)?;
+    expect_table(
+        &rt,
+        &rollup,
+        b"0 0 count 298 sum 103957 least 7 greatest 498\nend 0\n",
+    )?;
+    for minute in 1..128u32 {
+        rollup.put(minute, 400)?;
+    }
+    expect_table(
+        &rt,
+        &rollup,
+        b"0 0 count 298 sum 99877 least 202 greatest 400\nend 0\n",
+    )?;
+    for minute in 128..299u32 {
+        rollup.del(minute);
+    }
+    expect_table(
+        &rt,
+        &rollup,
+        b"0 0 count 127 sum 50800 least 400 greatest 400\nend 0\n",
+    )
+}
+
 #[test]
 fn reads_each_item(rt: HostRuntime) -> Result<(), Fail> {
     let items = roll_parse(
