@@ -7,19 +7,16 @@ use Rattle.kw_words.specs.declared.layout.Name.{Name}
 use Rattle.kw_words.specs.declared.layout.Name.TheVariants.{State}
 use Rattle.kw_world.specs.declared.activity.Activity.{Activity}
 use Rattle.kw_world.specs.declared.activity.rebalance.Rebalance.{Rebalance}
-use Rattle.kw_world.specs.declared.activity.rebalance.Rebalance.TheVariants as Rebalance
 use Rattle.kw_world.specs.declared.activity.rebalance.replace.Replace.TheVariants as Replace
 use Rattle.kw_world.specs.declared.activity.rebalance.seek.Seek.TheVariants as Seek
 use Rattle.kw_world.specs.declared.event.Choice.TheVariants.{Go, Guess}
 use Rattle.kw_world.specs.declared.local.Local.{Local}
 use Rattle.kw_world.specs.declared.operation.Action.TheVariants.{Load}
-use Rattle.kw_world.specs.declared.operation.Operation.{Operation}
 use Rattle.kw_world.specs.declared.part.Part.TheVariants as part
 use Rattle.kw_world.specs.Parts.{part_at, part_of}
 use Rattle.kw_world.specs.Sizes.{product}
 use Rattle.kw_world.specs.Step.{next_of, transition_of}
 use Rattle.kw_world.specs.Table.{transition}
-use Rattle.kw_world.specs.Transition.{Outcome}
 use Rattle.kw_world.specs.WalkTransitions.{offered}
 use Rattle.kw_core.specs.Stages.{IsBusy}
 use Rattle.kw_table.specs.declared.pass.Pass.{Pass}

@@ -11,8 +11,6 @@ use Rattle.kw_world.specs.declared.activity.rebalance.seek.Seek.{Seek}
 use Rattle.kw_world.specs.declared.event.Choice.TheVariants.{Go}
 use Rattle.kw_world.specs.declared.local.Local.{Local}
 use Rattle.kw_world.specs.declared.rebalance.Afterwards.TheVariants.{Refuse}
-use Rattle.kw_world.specs.declared.part.Part.TheVariants as part
-use Rattle.kw_world.specs.Parts.{part_at, part_of}
 use Rattle.kw_world.specs.SeekTransitions.{give_back, seek_seen, to_seek}
 use Rattle.kw_world.specs.Transition.{Outcome, to}
 use Rattle.kw_table.specs.declared.pass.Pass.{Pass}

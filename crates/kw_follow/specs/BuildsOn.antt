@@ -4,7 +4,6 @@ use Rattle.std.specs.Prelude.{ℕ}
 use Rattle.kw_world.specs.declared.activity.Activity.{Activity}
 use Rattle.kw_world.specs.declared.activity.rebalance.Rebalance.TheVariants as Rebalance
 use Rattle.kw_world.specs.declared.activity.rebalance.gather.Gather.{Gather}
-use Rattle.kw_world.specs.declared.activity.rebalance.gather.Gather.TheVariants as Gather
 use Rattle.kw_world.specs.declared.activity.rebalance.replace.Replace.TheVariants as Replace
 use Rattle.kw_world.specs.declared.activity.rebalance.seek.Seek.TheVariants as Seek
 use Rattle.kw_world.specs.declared.activity.rebalance.write.Write.{Write}

@@ -1,7 +1,6 @@
-use Rattle.std.proofs.Common.{◌∙◌, ap, sym, subst}
+use Rattle.std.proofs.Common.{ap, sym, subst}
 use Rattle.kw_world.specs.declared.activity.Activity.{Activity}
 use Rattle.kw_world.specs.declared.activity.rebalance.write.Write.TheVariants as Write
-use Rattle.kw_world.specs.declared.local.Local.{Local}
 use Rattle.kw_world.specs.Transition.{Outcome}
 use Rattle.kw_follow.specs.Following.{Follows}
 use Rattle.kw_follow.proofs.BuildEvents.{kept_rises}

@@ -1,6 +1,3 @@
-use Rattle.std.proofs.Common.{refl}
-use Rattle.kw_world.specs.declared.activity.Activity.{Activity}
-use Rattle.kw_core.specs.Stages.{IsAtReadLink, IsTaking}
 use Rattle.kw_follow.specs.Cursors.{with_cursor}
 use Rattle.kw_follow.proofs.ReadEvents.{asks_list_link, link_taking, reads_word}
 use Rattle.kw_follow.proofs.cursor.Cursor.load_cell_link.Goals as goal
