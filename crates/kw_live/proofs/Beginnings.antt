@@ -1,7 +1,6 @@
 -- How a walk along the list of a row begins, by one event or by none.
 use Rattle.std.proofs.Common.{◌≡◌, ℕ, ◌<◌, ◌≤◌, Bool, true, false, nat_lt, if◌then◌else◌, Option, Some, None, List, arith, refl, sym, ◌∙◌, ap, subst}
 use Rattle.std.proofs.lemmas.Bool.{lt-ltb}
-use Rattle.std.proofs.lemmas.Bool.Decides.{nat_tests}
 use Rattle.kw_words.specs.Plain.{key_of_word}
 use Rattle.kw_words.specs.declared.sizes.TheConstants.{CELLS}
 use Rattle.kw_world.specs.declared.activity.Activity.{Activity}
@@ -16,7 +15,6 @@ use Rattle.kw_world.specs.Calls.{first_key}
 use Rattle.kw_world.specs.ListTransitions.{behind_cell, cell_guess, insert_guessed, insert_started}
 use Rattle.kw_world.specs.ReadTransitions.{list_guessed, list_started}
 use Rattle.kw_world.specs.Sizes.{product}
-use Rattle.kw_world.specs.Step.{next_of}
 use Rattle.kw_world.specs.Transition.{Outcome, outcome, to}
 use Rattle.kw_world.specs.WalkTransitions.{offered}
 use Rattle.kw_table.specs.declared.pass.Pass.{Pass}
@@ -25,7 +23,7 @@ use Rattle.kw_table.specs.Passes.{view, Makes}
 use Rattle.kw_table.specs.Views.{local_in}
 use Rattle.kw_follow.specs.declared.cursor.Cursor.{Cursor}
 use Rattle.kw_follow.specs.Cursors.{with_cursor}
-use Rattle.kw_follow.specs.Following.{Follows, carried, held}
+use Rattle.kw_follow.specs.Following.{Follows, carried}
 use Rattle.kw_follow.proofs.Growing.{keeps}
 use Rattle.kw_follow.specs.Reaching.{Reaches}
 use Rattle.kw_follow.proofs.OneEvent.{Went, follows_ranges, same_activity, went, went_held}
