@@ -249,6 +249,7 @@ module _ {s : Shared} {p q : Pass} {l : Local} {w : Cursor} {link : ℕ} (leads 
               let less = stream_counts in
               let few = before.few in
               let same = keyed_so in
+              let from = ranges.0 in
               let within = ranges.1 in
               let on = gathers.on refl in
               let more = length-with_cell read cells in
@@ -267,6 +268,7 @@ module _ {s : Shared} {p q : Pass} {l : Local} {w : Cursor} {link : ℕ} (leads 
                   within = omega (arith, one, less);
                 };
                 behind = behind;
+                from = omega (arith, same, from);
                 upto = omega (arith, same, within);
                 value = (All-pop IsCopy (cells ++ read ∷ []) cells (Some read) refl (follows_ranges s u _ gathers.follows).copies).1.2;
                 further = omega (arith, one);

@@ -49,6 +49,7 @@ pub record ReadsCell (s : Shared) (p : Pass) (l : Local) (w : Cursor) (cells : L
   pub held : held q ≡ held p
   pub streams : Streams s q l x (cells ++ c ∷ [])
   pub behind : All (λ d. stands_before d c ≡ true) cells
+  pub from : first_key l.call ≤ c.key
   pub upto : c.key ≤ last_key l.call
   pub value : IsValue c.value
   pub further : w.walked < x.walked
