@@ -4,6 +4,7 @@ use Rattle.std.proofs.Common.{◌≡◌, ◌⊎◌, ℕ, ◌<◌, ◌≤◌, Boo
 use Rattle.std.proofs.lemmas.Bool.Decides.{nat_tests}
 use Rattle.std.proofs.lemmas.List.Elements.{All-pop, All-tail}
 use Rattle.kw_words.specs.Plain.{cell_of_link_word, key_of_word, value_of_word, version_of_word}
+use Rattle.kw_words.proofs.PlainWords.{number_of_word-number_word}
 use Rattle.kw_words.specs.declared.layout.Name.TheVariants as name
 use Rattle.kw_words.specs.declared.sizes.TheConstants.{CELLS}
 use Rattle.kw_cells.specs.declared.cell.Cell.{Cell}
@@ -42,7 +43,7 @@ use Rattle.kw_live.specs.Reading.{GoesOn, HasReadAs, ReadsOn, is_reading_list}
 use Rattle.kw_live.specs.Streaming.{EndsRow, LeadsOn, ReadsCell, Streams}
 use Rattle.kw_live.proofs.CursorEvents.{cell_counts, cell_within, link_ended, link_led, value_told, version_told}
 use Rattle.kw_live.proofs.GatheredBefore.{gathered_before}
-use Rattle.kw_live.proofs.ReachedKeys.{reached_within}
+use Rattle.kw_live.proofs.ReachedCells.{reached_version, reached_within}
 use Rattle.kw_live.proofs.ReadEvent.{reads_trans}
 
 -- The end of the row.
@@ -127,6 +128,18 @@ reached_in_range s t u k told goes at word leads =
     let ends = leads.within in
     (omega (arith, keyed, lower, from, begins), omega (arith, keyed, upper, below, ends))
 
+-- and so its version is read as it stands there
+reached_versioned : (s : Shared) (t u : Pass) (k : Local) (told : ℕ) → GoesTo s t u → k.activity ≡ Activity.Read Read.Version → ReadsWord s t k told u → unwrap_or (version_of_word told) 1 ≡ told
+reached_versioned s t u k told goes at word =
+    let x : Saw t u k.activity Go told = word.saw.saw in
+    let here : Saw t u (Activity.Read Read.Version) Go told = record { front = x.front; later = x.later; here = x.here; activity = x.activity ∙ at; tells = x.tells } in
+    let valid = saw_valid s t u k.activity Go told goes x in
+    let m : Local = local_at t x.front in
+    let r : Run = history product (view t).opening x.front in
+    let from = reached_version product r (inv_holds product (view t).opening t.known.opens x.front valid) (view t).number m (saw_local t u k.activity Go told x) (x.activity ∙ at) in
+    let found : told ≡ word_in product r.world (name.Version m.row m.place) = saw_told t u (Activity.Read Read.Version) Go told here _ refl in
+    ap (λ (o : Option ℕ). unwrap_or o 1) (number_of_word-number_word (Some told) (omega (arith, found, from)))
+
 -- The walk.
 
 -- nothing is remembered, so a cell that is reached need not be forgotten
@@ -209,9 +222,12 @@ module _ {s : Shared} {p q : Pass} {l : Local} {w : Cursor} {link : ℕ} (leads 
       pub stream_ranged : Follows s r (with_cursor (Activity.Read Read.Version) y k)
       stream_ranged = in_range.follows
 
-      module _ {t : Pass} {version : ℕ} (z : Cursor) (versioned : z ≡ record y { version = unwrap_or (version_of_word version) 1 }) (third : (n : Local) → Follows s r (with_cursor (Activity.Read Read.Version) y n) → ReadsWord s r (with_cursor (Activity.Read Read.Version) y n) version t) where
+      module _ {t : Pass} {version : ℕ} (z : Cursor) (versioned : z ≡ record y { version = version }) (third : (n : Local) → Follows s r (with_cursor (Activity.Read Read.Version) y n) → ReadsWord s r (with_cursor (Activity.Read Read.Version) y n) version t) where
         told : ReadsOn s r (with_cursor (Activity.Read Read.Version) y k) t (with_cursor (Activity.Read Read.Value) z k)
-        told = version_told k y z versioned in_range.follows (third k in_range.follows)
+        told =
+            let word : ReadsWord s r (with_cursor (Activity.Read Read.Version) y k) version t = third k in_range.follows in
+            let read : z ≡ record y { version = unwrap_or (version_of_word version) 1 } = versioned ∙ ap (λ n. record y { version = n }) (sym (reached_versioned s r t (with_cursor (Activity.Read Read.Version) y k) version word.goes refl word)) in
+            version_told k y z read in_range.follows word
 
         pub stream_versioned : Follows s t (with_cursor (Activity.Read Read.Value) z k)
         stream_versioned = told.follows
@@ -241,7 +257,7 @@ module _ {s : Shared} {p q : Pass} {l : Local} {w : Cursor} {link : ℕ} (leads 
           walked_one = ap (λ (v : Cursor). v.walked) passes ∙ (ap (λ (v : Cursor). v.walked) versioned ∙ (ap (λ (v : Cursor). v.walked) ranged ∙ one_more))
 
           keyed_so : read.key ≡ key
-          keyed_so = ap (λ (c : Cell). c.key) reads ∙ ap (λ (v : Cursor). v.key) (versioned ∙ ap (λ (v : Cursor). record v { version = unwrap_or (version_of_word version) 1 }) ranged)
+          keyed_so = ap (λ (c : Cell). c.key) reads ∙ ap (λ (v : Cursor). v.key) (versioned ∙ ap (λ (v : Cursor). record v { version = version }) ranged)
 
           pub stream_reads : ReadsCell s p l w cells u read last
           stream_reads =

@@ -12,5 +12,5 @@ pub mod AfterList
 pub mod NewestCell
 pub mod Gets
 pub mod GatheredBefore
-pub mod ReachedKeys
+pub mod ReachedCells
 pub mod CellStream

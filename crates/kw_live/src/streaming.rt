@@ -3,8 +3,8 @@
 //! A scan that goes on to a next row needs what it gathered no more: the walk to that row forgets
 //! it. So where nothing is remembered of the entries, and all keys that the row may hold are in the
 //! range, no cell is written down. Whoever reads the row is told one cell after the other, in the
-//! order of the list, and keeps the cursor; and since each cell's key is in the range, none is
-//! compared with its ends. That these are the cells that the scan's seat has gathered, and that the
+//! order of the list, and keeps the cursor. Each cell's key is in the range, so none is compared with
+//! its ends; and each has a version, which is its word, so no word is looked at for none. That these are the cells that the scan's seat has gathered, and that the
 //! pairs which they show are those that the scan then has, is for the clauses to say. The walk to
 //! the next row is `go_by_rows`'s.
 ghost use Rattle.std.specs.Prelude.{◌≡◌, [], List, IsTrue, MatchOption, Some};
@@ -68,7 +68,8 @@ pub fn next_cell(
     let key = unpack_key(word);
     let ranged = there.with_key(key);
     let version = ranged.load_version(shared, pass);
-    let read = ranged.with_version(version);
+    let mut read = ranged;
+    read.version = version;
     let value = read.load_value(shared, pass);
     Some((read.cell(value), read.past()))
 }

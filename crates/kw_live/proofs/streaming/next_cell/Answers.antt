@@ -28,11 +28,11 @@ load_version-version-requires c = (
 pub load_value-value-requires : goal.load_value-value-requires
 load_value-value-requires c = (
   record c.args.local.now { gathered = c.requires.streams.0 },
-  stream_versioned c.requires.leads c.requires.streams.0 c.requires.streams.1 c.load_cell_link-link.ensures c.reach-there.result c.in-Some.cell c.reach-there.ensures (sym c.unpack_cell_link.ensures.value ∙ c.in-Some.is) c.with_key-ranged.result c.unpack_key-key.result c.unpack_key-key.ensures.value c.load_key-word.ensures c.with_key-ranged.ensures c.with_version-read.result c.with_version-read.ensures c.load_version-version.ensures,
+  stream_versioned c.requires.leads c.requires.streams.0 c.requires.streams.1 c.load_cell_link-link.ensures c.reach-there.result c.in-Some.cell c.reach-there.ensures (sym c.unpack_cell_link.ensures.value ∙ c.in-Some.is) c.with_key-ranged.result c.unpack_key-key.result c.unpack_key-key.ensures.value c.load_key-word.ensures c.with_key-ranged.ensures _ refl c.load_version-version.ensures,
 )
 
 pub returns : goal.returns
 returns c = λ cells streams. (
   refl,
-  stream_reads c.requires.leads cells streams c.load_cell_link-link.ensures c.reach-there.result c.in-Some.cell c.reach-there.ensures (sym c.unpack_cell_link.ensures.value ∙ c.in-Some.is) c.with_key-ranged.result c.unpack_key-key.result c.unpack_key-key.ensures.value c.load_key-word.ensures c.with_key-ranged.ensures c.with_version-read.result c.with_version-read.ensures c.load_version-version.ensures c.past.result c.cell.result c.past.ensures c.cell.ensures c.load_value-value.ensures,
+  stream_reads c.requires.leads cells streams c.load_cell_link-link.ensures c.reach-there.result c.in-Some.cell c.reach-there.ensures (sym c.unpack_cell_link.ensures.value ∙ c.in-Some.is) c.with_key-ranged.result c.unpack_key-key.result c.unpack_key-key.ensures.value c.load_key-word.ensures c.with_key-ranged.ensures _ refl c.load_version-version.ensures c.past.result c.cell.result c.past.ensures c.cell.ensures c.load_value-value.ensures,
 )
