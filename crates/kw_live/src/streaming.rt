@@ -3,21 +3,25 @@
 //! A scan that goes on to a next row needs what it gathered no more: the walk to that row forgets
 //! it. So where nothing is remembered of the entries, and all keys that the row may hold are in the
 //! range, no cell is written down. Whoever reads the row is told one cell after the other, in the
-//! order of the list, and keeps the cursor. Each cell's key is in the range, so none is compared with
-//! its ends; and each has a version, which is its word, so no word is looked at for none. That these are the cells that the scan's seat has gathered, and that the
-//! pairs which they show are those that the scan then has, is for the clauses to say. The walk to
-//! the next row is `go_by_rows`'s.
+//! order of the list, and keeps the cursor. Each cell's key is in the range, so none is compared
+//! with its ends; and each has a version, which its word is, so none is looked at for having one.
+//! That these are the cells that the scan's seat has gathered, and that the pairs which they show
+//! are those that the scan then has, is for the clauses to say. The walk to the next row is
+//! `go_by_rows`'s.
 ghost use Rattle.std.specs.Prelude.{◌≡◌, [], List, IsTrue, MatchOption, Some};
 ghost use Rattle.kw_cells.specs.declared.cell.Cell.{Cell as AnyCell};
+ghost use Rattle.kw_world.specs.ReadTransitions.{to_left_over};
+ghost use Rattle.kw_follow.specs.Following.{CarriesOn};
 ghost use Rattle.kw_live.specs.Streaming.{EndsRow, LeadsOn, ReadsCell, Streams};
 
 use kw_cells::cell::Cell;
-use kw_follow::{Cursor, go_to_left_over};
+use kw_follow::Cursor;
 use kw_model::call::Call;
 use kw_table::{Pass, Shared};
 use kw_words::plain::{unpack_cell_link, unpack_key};
 use kw_world::activity::Activity;
 use kw_world::activity::read::Read;
+use kw_world::activity::walk::Walk;
 use kw_world::local::Local;
 
 /// Whether the cells of the row at whose list a scan of these keys stands may be handed on one by
@@ -60,7 +64,7 @@ pub fn next_cell(
     let link = cursor.load_cell_link(shared, pass);
     let Some(cell) = unpack_cell_link(link) else {
         cursor.write(local, Activity::Read(Read::Link));
-        go_to_left_over(local);
+        go_on(local);
         return None;
     };
     let there = cursor.reach(cell);
@@ -72,4 +76,22 @@ pub fn next_cell(
     read.version = version;
     let value = read.load_value(shared, pass);
     Some((read.cell(value), read.past()))
+}
+
+// The row has been read to its end: the scan goes on with the next one.
+#[inline(always)]
+fn go_on(local: &mut Local)
+    requires { LeadsOn local.old }
+    ensures { CarriesOn to_left_over local.old local.new }
+{
+    if let Some(row) = local.next {
+        local.activity = Activity::Walk(Walk::Next);
+        local.has_read = true;
+        local.row = row;
+        local.lower = local.upper;
+        local.built = 0;
+        local.want = local.upper;
+        local.next = None;
+        local.upper = 0;
+    }
 }

@@ -8,7 +8,7 @@ load_cell_link-link-requires c =
     (here.activity, record c.args.local.now { gathered = c.requires.streams.0 }, here.loads, here.follows)
 
 pub returns-in_default : goal.returns-in_default
-returns-in_default c = λ cells streams. stream_ends c.requires.leads cells streams c.load_cell_link-link.ensures _ _ c.write.ensures (sym c.unpack_cell_link.ensures.value ∙ c.in_default.is) c.go_to_left_over.ensures
+returns-in_default c = λ cells streams. stream_ends c.requires.leads cells streams c.load_cell_link-link.ensures _ _ c.write.ensures (sym c.unpack_cell_link.ensures.value ∙ c.in_default.is) c.go_on.ensures
 
 pub reach-there-requires : goal.reach-there-requires
 reach-there-requires c = stream_counts c.requires.leads c.requires.streams.0 c.requires.streams.1 c.load_cell_link-link.ensures _ c.in-Some.cell refl (sym c.unpack_cell_link.ensures.value ∙ c.in-Some.is)
