@@ -57,8 +57,8 @@ impl Bucket {
         self.sum -= u128::from(value);
     }
 
-    /// Adds a point with this value in place of one with the old value, where that is given. Without
-    /// memory for a new value the points stay as they were.
+    /// Adds a point with this value in place of one with the old value, where that is given.
+    /// Without memory for a new value the points stay as they were.
     pub fn put(&mut self, old: Option<u64>, value: u64) -> Result<(), Memory>
         requires few { self.old.count < 2 ^ 31 }
         requires small { self.old.sum < 2 ^ 127 }
