@@ -16,10 +16,7 @@ use crate::engaging::{
 };
 use crate::gathering::{freeze_entry, load_left_key, load_left_value, look_at_entry, look_at_scan};
 use crate::going::{event, go};
-use crate::replacing::{
-    draw_number, link_new_rows, load_least_before, load_link_before, load_state_before,
-    make_normal, retire_row,
-};
+use crate::replacing::{link_new_rows, load_least_before, load_link_before, load_state_before};
 use crate::seeking::{free_row, load_first_state, look_at_pass, take_free_row};
 use kw_table::{Pass, Shared};
 use kw_world::activity::Activity;
@@ -83,13 +80,6 @@ fn build_event(shared: &Shared, pass: &mut Pass, local: &mut Local) -> StepDone
         Activity::Rebalance(Rebalance::Replace(Replace::Exchange)) => link_new_rows(
             shared, pass, local,
         ),
-        Activity::Rebalance(Rebalance::Replace(Replace::Normalise)) => make_normal(
-            shared, pass, local,
-        ),
-        Activity::Rebalance(Rebalance::Replace(Replace::Number)) => draw_number(
-            shared, pass, local,
-        ),
-        Activity::Rebalance(Rebalance::Replace(Replace::Retire)) => retire_row(shared, pass, local),
         _ => event(shared, pass, local, Choice::Go),
     }
 }

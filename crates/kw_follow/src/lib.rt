@@ -7,11 +7,12 @@
 //! those on the way to a row and at its entries, `go_guess` the first one of a way that begins at a
 //! guessed row, `go_draw` those by which a scan gets its version, `go_put` those of a put at its
 //! row, `Cursor` those of a reader along the list of its row and of a put that goes by cells there,
-//! `go_remembered` those at the cells that a reader remembers and did not reach there, and
-//! `go_build` and `go_build_guess` those that most rebalances have: each by its own step of the
-//! table. A rebalance gathers the full row by `reach_next` and `gather_cell`, asks rows
-//! by a `Search`, and writes a new row by `write_row`, many events at once. A get that sees
-//! nothing on its way leaves its local at rest and goes by a `Way`, which `end_resting` ends.
+//! `go_remembered` those at the cells that a reader remembers and did not reach there, `go_build`,
+//! `go_build_guess` and `go_finish` those that most rebalances have, and `go_anew` those by which a
+//! call enters anew: each by its own step of the table. A rebalance gathers the full row by
+//! `reach_next` and `gather_cell`, asks rows by a `Search`, and writes a new row by `write_row`,
+//! many events at once. A get that sees nothing on its way leaves its local at rest and goes by a
+//! `Way`, which `end_resting` ends.
 //!
 //! `specs/Following.antt` says what it is to follow a pass and what it is that a pass went on,
 //! `specs/Calling.antt` how the calls of a pass go on, and `specs/OwnEvents.antt` which events it
@@ -44,7 +45,7 @@ pub use drawing::go_draw;
 pub use going::{begin, clear, end, go};
 pub use putting::{go_put, see_insert_key, see_insert_link};
 pub use reading::{go_remembered, go_to_left_over};
-pub use replacing::go_anew;
+pub use replacing::{go_anew, go_finish};
 pub use row_gathering::{gather_cell, reach_next};
 pub use row_writing::write_row;
 pub use seeking::{Search, is_in_use};

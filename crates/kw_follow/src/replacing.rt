@@ -1,10 +1,11 @@
 //! The events that find the row before the full one, link the new rows in place of the full one,
 //! make them normal and retire it, each by its own step of the table.
 //!
-//! What the local does next says which step it is, as in `putting`; `building` asks for it. The
-//! walk to the row before begins at a guessed row mostly, and ends there; a walk from the first row
-//! is put together in `going`. After it the same call enters anew: it takes the epoch back that it
-//! announced, and loads the epoch, by `go_anew`.
+//! What the local does next says which step it is, as in `putting`; up to the exchange of the link
+//! `building` asks for it, and behind that `go_finish`. The walk to the row before begins at a
+//! guessed row mostly, and ends there; a walk from the first row is put together in `going`. After
+//! it the same call enters anew: it takes the epoch back that it announced, and loads the epoch, by
+//! `go_anew`.
 ghost use Rattle.std.specs.Prelude.{◌≡◌, ◌<◌, Some};
 ghost use Rattle.kw_words.specs.Link.{link_word};
 ghost use Rattle.kw_world.specs.ReplaceTransitions.{first_infant, replaced_link};
@@ -127,7 +128,7 @@ pub(crate) fn link_new_rows(shared: &Shared, pass: &mut Pass, local: &mut Local)
 
 // Exchanges the state of the new row at hand, an infant of this seat, for the normal one.
 #[inline(always)]
-pub(crate) fn make_normal(shared: &Shared, pass: &mut Pass, local: &mut Local) -> StepDone
+fn make_normal(shared: &Shared, pass: &mut Pass, local: &mut Local) -> StepDone
     requires { FollowsAt shared.now pass.old local.old
         (Activity.Rebalance (Rebalance.Replace Replace.Normalise)) }
     ensures { Moves shared.now pass.old local.old Choice.Go pass.new local.new result }
@@ -141,7 +142,7 @@ pub(crate) fn make_normal(shared: &Shared, pass: &mut Pass, local: &mut Local) -
 
 // Adds one to the epoch.
 #[inline(always)]
-pub(crate) fn draw_number(shared: &Shared, pass: &mut Pass, local: &mut Local) -> StepDone
+fn draw_number(shared: &Shared, pass: &mut Pass, local: &mut Local) -> StepDone
     requires { FollowsAt shared.now pass.old local.old
         (Activity.Rebalance (Rebalance.Replace Replace.Number)) }
     ensures { Moves shared.now pass.old local.old Choice.Go pass.new local.new result }
@@ -152,7 +153,7 @@ pub(crate) fn draw_number(shared: &Shared, pass: &mut Pass, local: &mut Local) -
 
 // Stores that the full row is retired with that number.
 #[inline(always)]
-pub(crate) fn retire_row(shared: &Shared, pass: &mut Pass, local: &mut Local) -> StepDone
+fn retire_row(shared: &Shared, pass: &mut Pass, local: &mut Local) -> StepDone
     requires { FollowsAt shared.now pass.old local.old
         (Activity.Rebalance (Rebalance.Replace Replace.Retire)) }
     ensures { Moves shared.now pass.old local.old Choice.Go pass.new local.new result }
@@ -161,6 +162,36 @@ pub(crate) fn retire_row(shared: &Shared, pass: &mut Pass, local: &mut Local) ->
     let retired = State::Retired(local.rebalance.number).pack();
     let told = retire(shared, pass, state, retired);
     rebalance_on(shared, local, Choice::Go, told)
+}
+
+// The next event of a rebalance whose new rows are linked, by what the local does next.
+#[inline(always)]
+fn finish_event(shared: &Shared, pass: &mut Pass, local: &mut Local) -> StepDone
+    requires follows { Follows shared.now pass.old local.old }
+    requires within { IsWithinCall local.old.activity }
+    ensures { Moves shared.now pass.old local.old Choice.Go pass.new local.new result }
+{
+    match local.activity {
+        Activity::Rebalance(Rebalance::Replace(Replace::Normalise)) => make_normal(
+            shared, pass, local,
+        ),
+        Activity::Rebalance(Rebalance::Replace(Replace::Number)) => draw_number(
+            shared, pass, local,
+        ),
+        Activity::Rebalance(Rebalance::Replace(Replace::Retire)) => retire_row(shared, pass, local),
+        _ => event(shared, pass, local, Choice::Go),
+    }
+}
+
+/// Makes the next event of a rebalance whose new rows are linked, as `go` does with the choice
+/// `Go`. Takes no memory.
+#[inline(always)]
+pub fn go_finish(shared: &Shared, pass: &mut Pass, local: &mut Local)
+    requires follows { Follows shared.now pass.old local.old }
+    requires within { IsWithinCall local.old.activity }
+    ensures { WentOn shared.now pass.old local.old Choice.Go pass.new local.new }
+{
+    finish_event(shared, pass, local);
 }
 
 // Stores that the seat announces no epoch, where it is to enter anew.

@@ -15,7 +15,7 @@ ghost use Rattle.kw_live_rebal.specs.Rebalancing.{HasEnded, stands_after};
 use crate::guessing::guess;
 use crate::publishing::tell_index;
 use crate::stretches::{gather_row, seek_row, write_new_row};
-use kw_follow::{go, go_build, go_build_guess};
+use kw_follow::{go, go_build, go_build_guess, go_finish};
 use kw_index::hints::Hints;
 use kw_index::index::Index;
 use kw_table::{Pass, Shared};
@@ -191,7 +191,7 @@ fn finish<R: Wait>(
             return;
         }
         tell_index(index, hints, local);
-        go_build(shared, pass, local);
+        go_finish(shared, pass, local);
     }
     unreachable!()
 }
