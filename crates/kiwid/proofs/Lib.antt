@@ -2,3 +2,9 @@ pub mod Passes
 pub mod Cuts
 pub mod Ways
 pub mod Coming
+pub mod Servings
+pub mod Meetings
+pub mod Parts
+pub mod Numbers
+pub mod Runs
+pub mod MemLinks

@@ -1,3 +1,10 @@
 pub mod Requests
 pub mod Session
 pub mod Lines
+pub mod Links
+pub mod MemLinks
+pub mod Tcp
+pub mod Serving
+pub mod Seats
+pub mod Words
+pub mod Server
