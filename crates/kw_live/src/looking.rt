@@ -42,9 +42,6 @@ fn look_on(shared: &Shared, pass: &mut Pass, local: &mut Local)
     ensures { LooksFurther shared.now pass.old local.old pass.new local.new }
 {
     match local.activity {
-        // mostly all entries are looked at, so this case stands by itself: no entry is counted
-        // there
-        Activity::Look(Look::Entry(0)) => look_from(shared, pass, local, 0),
         Activity::Look(Look::Entry(entry)) => look_from(shared, pass, local, entry),
         _ => {
             go_along(shared, pass, local);
