@@ -8,7 +8,6 @@ use Rattle.kw_words.proofs.PlainWords.{number_of_word-number_word}
 use Rattle.kw_words.specs.declared.layout.Name.TheVariants as name
 use Rattle.kw_words.specs.declared.sizes.TheConstants.{CELLS}
 use Rattle.kw_cells.specs.declared.cell.Cell.{Cell}
-use Rattle.kw_cells.specs.Cells.{pairs_of}
 use Rattle.kw_cells.specs.InOrder.{AreInOrder, stands_before, with_cell}
 use Rattle.kw_cells.proofs.InOrder.{length-with_cell, with_cell-in_order}
 use Rattle.kw_model.specs.declared.call.Call.{Call}

@@ -1,9 +1,8 @@
 -- What stands in a cell that a reader has reached in the list of its row: a key that the row may
 -- hold, and a version.
-use Rattle.std.proofs.Common.{ℕ, ◌≡◌, ◌<◌, ◌≤◌, true, Some, arith, sym, ◌∙◌, ap, subst, slice_get}
+use Rattle.std.proofs.Common.{ℕ, ◌≡◌, ◌<◌, ◌≤◌, Some, arith, sym, subst, slice_get}
 use Rattle.kw_words.specs.Plain.{key_of_word}
 use Rattle.kw_words.specs.declared.layout.Name.TheVariants as name
-use Rattle.kw_lists.specs.Rows.{Row}
 use Rattle.kw_world.specs.declared.activity.Activity.TheVariants as Activity
 use Rattle.kw_world.specs.declared.activity.read.Read.TheVariants as Read
 use Rattle.kw_world.specs.declared.local.Local.{Local}

@@ -5,7 +5,6 @@ use Rattle.std.proofs.lemmas.Bool.{cases_lt}
 use Rattle.std.proofs.lemmas.Bool.Decides.{nat_tests}
 use Rattle.std.proofs.lemmas.List.{take-append-le}
 use Rattle.std.proofs.Math.Seq.{take-length}
-use Rattle.kw_words.specs.declared.sizes.TheConstants.{CELLS}
 use Rattle.kw_cells.specs.declared.cell.Cell.{Cell}
 use Rattle.kw_cells.specs.Cells.{pairs_of}
 use Rattle.kw_model.specs.Counts.{CountRose}
@@ -20,7 +19,6 @@ use Rattle.kw_follow.specs.Calling.{KeepsCalls}
 use Rattle.kw_follow.specs.Cursors.{with_cursor}
 use Rattle.kw_follow.specs.Following.{Follows, GoesTo, held}
 use Rattle.kw_follow.specs.declared.cursor.Cursor.{Cursor}
-use Rattle.kw_follow.proofs.OneEvent.{follows_ranges}
 use Rattle.kw_follow.proofs.OwnEvents.{goes_trans}
 use Rattle.kw_follow.proofs.Reaching.{reaches_none}
 use Rattle.kw_live.specs.Streaming.{EndsRow, ReadsCell, Streams}

@@ -1,4 +1,4 @@
-use Rattle.std.proofs.Common.{ap, refl, sym, ◌∙◌}
+use Rattle.std.proofs.Common.{refl, sym, ◌∙◌}
 use Rattle.kw_live.proofs.CellStream.{stream_counts, stream_ends, stream_led, stream_ranged, stream_reads, stream_versioned}
 use Rattle.kw_live.proofs.streaming.next_cell.Goals as goal
 
