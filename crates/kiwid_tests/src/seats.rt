@@ -47,7 +47,9 @@ fn held_link<'f>(
     lines: [&'static [u8]; 2],
     flag: &'f AtomicBool,
     told: &'f AtomicBool,
-) -> Result<MemListener<Held<'f>, Telling<'f>>, Memory> {
+) -> Result<MemListener<Held<'f>, Telling<'f>>, Memory>
+    ensures { IfOk result (λ listener. listener.out ≡ 0) }
+{
     let input = Held::new(lines, flag);
     let output = Telling::new(alloc, ROOM, told)?;
     MemListener::new(alloc, Vec::from_array(alloc, [Link { input, output }])?)
