@@ -7,4 +7,3 @@ pub mod Meetings
 pub mod Parts
 pub mod Numbers
 pub mod Runs
-pub mod MemLinks

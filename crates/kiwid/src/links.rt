@@ -125,10 +125,10 @@ impl<I: Source + Send + Drop, O: Sink + Send + Drop> Listener for MemListener<I,
         ensures failed { OnErr result ((self.old.coming ≡ []) × (self.new.coming ≡ [])
             × (self.new.out ≡ self.old.out)) }
         ensures closed { self.new.closed ≡ self.old.closed }
-        ensures faults { self.new.faults ≡ counted (is_err result) self.old.faults }
         ensures rose { OnErr result (CountRose self.old.faults self.new.faults) }
         ensures never_falls { self.old.faults ≤ self.new.faults }
         ensures count_fits { self.new.faults < 2 ^ 64 }
+        ensures faults { self.new.faults ≡ counted (is_err result) self.old.faults }
     {
         let Some(link) = self.coming.pop_front() else {
             self.faults = self.faults.saturating_add(1);

@@ -1,6 +1,5 @@
 //! What seats serve, over listeners in memory.
-ghost use Rattle.std.specs.Prelude.{◌≡◌, ℕ, All, IfOk, length, vec_len};
-ghost use Rattle.kw_map.specs.Kiwi.{IsIdle};
+ghost use Rattle.std.specs.Prelude.{◌≡◌, IfOk};
 
 use crate::ends::{Held, Telling};
 use kiwid::links::{Link, MemListener};
