@@ -34,8 +34,10 @@ from pathlib import Path
 KIWID = Path(__file__).resolve().parent.parent / "kiwid"
 SEATS, KEYS_EACH = 8, 1_000
 # How many seconds a client waits for a reply before it says that there is none, and for the end of
-# a connection of which it takes nothing, which the server ends after ten.
-PATIENCE, UNREAD = 60, 20
+# a connection of which it takes nothing. The server ends that where a write of its own has waited
+# for ten; a write of which the system has taken a part before waits again, so half a minute goes by
+# before the system takes no more, and more where others use the processors.
+PATIENCE, UNREAD = 60, 120
 # How many seconds the server has to use up the connections that are left.
 USING_UP = 600
 # By how many KiB the server's memory may grow from the first minute on.
