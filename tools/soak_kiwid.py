@@ -248,7 +248,7 @@ def main():
     options = argparse.ArgumentParser(description=__doc__, formatter_class=argparse.RawDescriptionHelpFormatter)
     options.add_argument("--minutes", type=float, default=60)
     options.add_argument("--clients", type=int, default=8)
-    options.add_argument("--sessions", type=int, default=20_000, help="connections of each seat")
+    options.add_argument("--sessions", type=int, default=100_000, help="connections of each seat, enough for the time")
     options.add_argument("--seed", type=int, default=1)
     options.add_argument("--program", default=str(KIWID))
     options = options.parse_args()
