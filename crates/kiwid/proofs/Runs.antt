@@ -30,6 +30,7 @@ opens_with n some few = record {
   some_epoch = omega arith;
   epoch = omega arith;
   built = omega arith;
+  fits = omega arith;
 }
 
 -- what holds of each of a list holds of what was made from its elements

@@ -69,7 +69,7 @@ pub fn index_of_all(alloc: Global, rows: u32) -> Result<Index, Memory>
 
 // Publishes that this row begins at this key, in place of no other.
 fn publish_entry(own: &mut OwnEntries, index: &Index, entry: IndexEntry) -> bool {
-    let mut change = Change::without(index.rows());
+    let mut change = Change::without(index.rows(), None);
     change.place(entry);
     own.publish(index, change)
 }

@@ -14,7 +14,7 @@ use Rattle.kw_words.specs.declared.pend.Pend.{Pend}
 use Rattle.kw_words.specs.declared.pend.Pend.TheVariants as pend
 use Rattle.kw_words.specs.declared.state.State.{State}
 use Rattle.kw_words.specs.declared.state.State.TheVariants.{Free, Infant, Normal, Leader, Follower, Retired}
-use Rattle.kw_words.specs.declared.sizes.TheConstants.{SPENT}
+use Rattle.kw_words.specs.declared.sizes.TheConstants.{MOST_GROUP, SPENT}
 use Rattle.kw_words.specs.Count.{count_of}
 use Rattle.kw_words.specs.Pend.{pend_of, pend_word}
 use Rattle.kw_words.specs.declared.scan.ScanWord.{ScanWord}
@@ -32,10 +32,12 @@ use Rattle.kw_world.specs.declared.answer.Answer.TheVariants.{Done, Pairs, Spent
 use Rattle.kw_world.specs.Answers.{answer_found}
 use Rattle.kw_world.specs.declared.activity.Activity.{Activity}
 use Rattle.kw_world.specs.declared.activity.draw.Draw.TheVariants as Draw
+use Rattle.kw_world.specs.declared.activity.rebalance.claim.Claim.TheVariants as Claim
 use Rattle.kw_world.specs.declared.activity.rebalance.engage.Engage.TheVariants as Engage
 use Rattle.kw_world.specs.declared.activity.enter.Enter.TheVariants as Enter
 use Rattle.kw_world.specs.declared.activity.rebalance.freeze.Freeze.TheVariants as Freeze
 use Rattle.kw_world.specs.declared.activity.rebalance.gather.Gather.TheVariants as Gather
+use Rattle.kw_world.specs.declared.activity.rebalance.left.Left.TheVariants as Left
 use Rattle.kw_world.specs.declared.activity.insert.Insert.TheVariants as Insert
 use Rattle.kw_world.specs.declared.activity.look.Look.TheVariants as Look
 use Rattle.kw_world.specs.declared.activity.put.Put.TheVariants as Put
@@ -62,9 +64,13 @@ use Rattle.kw_world.specs.declared.marks.Mark.{Mark}
 use Rattle.kw_world.specs.Marks.{unmarked, least_mark}
 use Rattle.kw_world.specs.ReadTransitions.{to_look, look_seen, help_seen, remembering, reaching, left_over_of, to_left_over, list_started, list_reached, list_past, row_read, get_answered, scan_ended, scan_on, with_pairs, row_scanned, gathering}
 use Rattle.kw_world.specs.PutTransitions.{has_room, given_of, stamp_seen, tidies_row}
-use Rattle.kw_world.specs.EngageTransitions.{to_rebalance, again, refuse, state_seen, engaged, followed_by, decided}
-use Rattle.kw_world.specs.FreezeTransitions.{count_frozen, to_scans, to_freeze_look, marking, freezing, freeze_seen, entry_tried, to_scan_look, needing, scan_seen, scan_helped}
-use Rattle.kw_world.specs.TakeTransitions.{to_take, planned, left_of, to_left, taking, take_reached, take_version, keeping, take_past}
+use Rattle.kw_world.specs.EngageTransitions.{to_rebalance, again, refuse, state_seen, engaged, followed_by, led_by, to_group, counted, undecided, decided}
+use Rattle.kw_world.specs.ClaimTransitions.{row_after, goes_along, to_mark_next, claimed, next_marked}
+use Rattle.kw_world.specs.LeftTransitions.{to_leader, first_left, left_transition, link_left}
+use Rattle.kw_world.specs.ReplaceTransitions.{at_before}
+use Rattle.kw_world.specs.GroupPlaces.{place_in_group}
+use Rattle.kw_world.specs.FreezeTransitions.{count_frozen, marking, freezing, freeze_seen, entry_tried, to_scan_look, needing, scan_seen, scan_helped}
+use Rattle.kw_world.specs.TakeTransitions.{to_take, leaving_over, taking, take_reached, take_version, keeping, take_past}
 use Rattle.kw_world.specs.ListTransitions.{link_name, cell_guess, behind_cell, first_operation, meeting, losing, to_insert, insert_started, insert_from, insert_past, is_newer, insert_tried}
 use Rattle.kw_world.specs.Table.{transition}
 use Rattle.kw_world.specs.Step.{followed, is_skipped}
@@ -72,6 +78,7 @@ use Rattle.kw_core.specs.Words.{Words, next_in, least_in, built_in}
 use Rattle.kw_core.specs.Stages.{is_put}
 use Rattle.kw_core.proofs.Events.{IsBegun}
 use Rattle.kw_core.proofs.Building.{Building, IsBuilding, building}
+use Rattle.kw_core.proofs.Grouping.{IsNoneLeft, NextCounted, NextFrozen, NextGathered, next_counted, next_entry, next_left}
 
 -- what a reader does after the entries below j: the next look, or the row's list
 pub data NextLook (z : Sizes) (j : ℕ) : Activity → Type 0 where
@@ -206,28 +213,52 @@ pub data Arrow (z : Sizes) (v : Words) (s : ℕ) (choice : Choice) (l : Local) :
   epoch_serves : v name.Epoch < SPENT → Arrow z v s choice l (Activity.Rebalance (Rebalance.Engage Engage.Epoch)) (record l { activity = Activity.Rebalance (Rebalance.Engage Engage.State) })
   finds_infant : (seat : ℕ) → state_of (v (name.State l.row)) ≡ Some (Infant seat) → Arrow z v s choice l (Activity.Rebalance (Rebalance.Engage Engage.State)) (record l { activity = Activity.Rebalance (Rebalance.Engage (Engage.Normal seat)) })
   finds_normal : state_of (v (name.State l.row)) ≡ Some Normal → Arrow z v s choice l (Activity.Rebalance (Rebalance.Engage Engage.State)) (record l { activity = Activity.Rebalance (Rebalance.Engage Engage.Lead) })
-  finds_leader : (count : ℕ) → state_of (v (name.State l.row)) ≡ Some (Leader count) → count ≤ 1 → Arrow z v s choice l (Activity.Rebalance (Rebalance.Engage Engage.State)) (record l { activity = Activity.Rebalance (Rebalance.Engage (Engage.MarkLink count)) })
+  finds_leader : (count : ℕ) → state_of (v (name.State l.row)) ≡ Some (Leader count) → Arrow z v s choice l (Activity.Rebalance (Rebalance.Engage Engage.State)) (record l { activity = Activity.Rebalance (Rebalance.Engage (Engage.MarkLink count)) })
+  finds_follower : (leader : ℕ) → state_of (v (name.State l.row)) ≡ Some (Follower leader) → Arrow z v s choice l (Activity.Rebalance (Rebalance.Engage Engage.State)) (record (led_by leader l) { activity = Activity.Rebalance (Rebalance.Left Left.Start) })
   finds_other_state : l.tidies ≡ false → Arrow z v s choice l (Activity.Rebalance (Rebalance.Engage Engage.State)) (begun_anew l).local
   ends_at_state : l.tidies ≡ true → Arrow z v s choice l (Activity.Rebalance (Rebalance.Engage Engage.State)) (over l).local
   normalises : (seat : ℕ) → Arrow z v s choice l (Activity.Rebalance (Rebalance.Engage (Engage.Normal seat))) (record l { activity = Activity.Rebalance (Rebalance.Engage Engage.State) })
   engages : v (name.State l.row) ≡ state_word Normal → Arrow z v s choice l (Activity.Rebalance (Rebalance.Engage Engage.Lead)) (record l { activity = Activity.Rebalance (Rebalance.Engage (Engage.MarkLink 0)) })
   is_engaged : v (name.State l.row) ≢ state_word Normal → Arrow z v s choice l (Activity.Rebalance (Rebalance.Engage Engage.Lead)) (record l { activity = Activity.Rebalance (Rebalance.Engage Engage.State) })
-  marks_link : (count : ℕ) → count ≡ 0 → Arrow z v s choice l (Activity.Rebalance (Rebalance.Engage (Engage.MarkLink count))) (record (followed_by (next_in v l.row) l) { activity = Activity.Rebalance (Rebalance.Engage (Engage.Decide 1)) })
-  marks_led : (count : ℕ) → count ≢ 0 → Arrow z v s choice l (Activity.Rebalance (Rebalance.Engage (Engage.MarkLink count))) (record (followed_by (next_in v l.row) l) { activity = Activity.Rebalance (Rebalance.Freeze Freeze.Count) })
-  decides : (count n : ℕ) → state_of (v (name.State l.row)) ≡ Some (Leader n) → n ≤ 1 → Arrow z v s choice l (Activity.Rebalance (Rebalance.Engage (Engage.Decide count))) (record l { activity = Activity.Rebalance (Rebalance.Freeze Freeze.Count) })
+  marks_link : (count r : ℕ) → count ≡ 0 → next_in v l.row ≡ Some r → Arrow z v s choice l (Activity.Rebalance (Rebalance.Engage (Engage.MarkLink count))) (record (followed_by (next_in v l.row) l) { activity = Activity.Rebalance (Rebalance.Claim Claim.Count) })
+  marks_last : (count : ℕ) → count ≡ 0 → next_in v l.row ≡ None → Arrow z v s choice l (Activity.Rebalance (Rebalance.Engage (Engage.MarkLink count))) (record (followed_by (next_in v l.row) l) { activity = Activity.Rebalance (Rebalance.Engage (Engage.Decide 1)) })
+  marks_led : (count : ℕ) (next : Local) → count ≢ 0 → NextCounted count (followed_by (next_in v l.row) l) next → Arrow z v s choice l (Activity.Rebalance (Rebalance.Engage (Engage.MarkLink count))) next
+  decides : (count n : ℕ) (next : Local) → state_of (v (name.State l.row)) ≡ Some (Leader n) → NextCounted (if n == 0 then count else n) l next → Arrow z v s choice l (Activity.Rebalance (Rebalance.Engage (Engage.Decide count))) next
   decides_not : (count : ℕ) → l.tidies ≡ false → Arrow z v s choice l (Activity.Rebalance (Rebalance.Engage (Engage.Decide count))) (begun_anew l).local
   ends_undecided : (count : ℕ) → l.tidies ≡ true → Arrow z v s choice l (Activity.Rebalance (Rebalance.Engage (Engage.Decide count))) (over l).local
-  -- the full row is frozen
+  -- the row after it is taken along
+  counts_next : Arrow z v s choice l (Activity.Rebalance (Rebalance.Claim Claim.Count)) (record l { activity = Activity.Rebalance (Rebalance.Engage (Engage.Decide (if goes_along (count_of (v (name.Count (row_after l)))) l then MOST_GROUP else 1))) })
+  claims_next : (state_of (v (name.State (row_after l))) ≡ Some Normal) ⊎ (state_of (v (name.State (row_after l))) ≡ Some (Follower l.row)) → Arrow z v s choice l (Activity.Rebalance (Rebalance.Claim Claim.Exchange)) (record l { activity = Activity.Rebalance (Rebalance.Claim Claim.MarkLink) })
+  next_is_infant : (seat : ℕ) → state_of (v (name.State (row_after l))) ≡ Some (Infant seat) → Arrow z v s choice l (Activity.Rebalance (Rebalance.Claim Claim.Exchange)) (record l { activity = Activity.Rebalance (Rebalance.Claim (Claim.Normal seat)) })
+  next_leads : (count : ℕ) → state_of (v (name.State (row_after l))) ≡ Some (Leader count) → Arrow z v s choice l (Activity.Rebalance (Rebalance.Claim Claim.Exchange)) (to_group l).local
+  claims_not : l.tidies ≡ false → Arrow z v s choice l (Activity.Rebalance (Rebalance.Claim Claim.Exchange)) (begun_anew l).local
+  ends_unclaimed : l.tidies ≡ true → Arrow z v s choice l (Activity.Rebalance (Rebalance.Claim Claim.Exchange)) (over l).local
+  normalises_next : (seat : ℕ) → Arrow z v s choice l (Activity.Rebalance (Rebalance.Claim (Claim.Normal seat))) (record l { activity = Activity.Rebalance (Rebalance.Claim Claim.Exchange) })
+  marks_next : Arrow z v s choice l (Activity.Rebalance (Rebalance.Claim Claim.MarkLink)) (next_marked (next_in v (row_after l)) l).local
+  -- the seat of a follower goes left
+  begins_left : (r : ℕ) → row_or_first (row_linked (link_of (v name.Head))) ≡ r → r ≢ l.row → Arrow z v s choice l (Activity.Rebalance (Rebalance.Left Left.Start)) (record (at_before (Some r) 0 l) { activity = Activity.Rebalance (Rebalance.Left Left.Next) })
+  takes_leader : (q : ℕ) → choice ≡ Guess q → Arrow z v s choice l (Activity.Rebalance (Rebalance.Left Left.Start)) (to_leader (at_before l.rebalance.before (least_in v (row_or_first l.rebalance.before)) l)).local
+  reaches_leader : next_in v (row_or_first l.rebalance.before) ≡ Some l.row → Arrow z v s choice l (Activity.Rebalance (Rebalance.Left Left.Next)) (to_leader l).local
+  leads_left : (q : ℕ) → next_in v (row_or_first l.rebalance.before) ≡ Some q → q ≢ l.row → Arrow z v s choice l (Activity.Rebalance (Rebalance.Left Left.Next)) (record l { candidate = q; activity = Activity.Rebalance (Rebalance.Left Left.NextLeast) })
+  walks_left : least_in v l.candidate < l.lower → Arrow z v s choice l (Activity.Rebalance (Rebalance.Left Left.NextLeast)) (record (at_before (Some l.candidate) (least_in v l.candidate) l) { activity = Activity.Rebalance (Rebalance.Left Left.Next) })
+  -- it meets no leader: no row is linked there, or only rows that do not stand before the follower
+  head_follows : l.tidies ≡ false → row_or_first (row_linked (link_of (v name.Head))) ≡ l.row → Arrow z v s choice l (Activity.Rebalance (Rebalance.Left Left.Start)) (begun_anew l).local
+  ends_at_head : l.tidies ≡ true → Arrow z v s choice l (Activity.Rebalance (Rebalance.Left Left.Start)) (over l).local
+  none_is_left : l.tidies ≡ false → next_in v (row_or_first l.rebalance.before) ≡ None → Arrow z v s choice l (Activity.Rebalance (Rebalance.Left Left.Next)) (begun_anew l).local
+  ends_at_none : l.tidies ≡ true → Arrow z v s choice l (Activity.Rebalance (Rebalance.Left Left.Next)) (over l).local
+  passes_left : l.tidies ≡ false → l.lower ≤ least_in v l.candidate → Arrow z v s choice l (Activity.Rebalance (Rebalance.Left Left.NextLeast)) (begun_anew l).local
+  ends_past : l.tidies ≡ true → Arrow z v s choice l (Activity.Rebalance (Rebalance.Left Left.NextLeast)) (over l).local
+  -- the rows of the group are frozen
   freezes_count : Arrow z v s choice l (Activity.Rebalance (Rebalance.Freeze Freeze.Count)) (count_frozen l).local
-  sees_idle : (i : ℕ) → pend_of (v (name.Pend l.row i)) ≡ Some pend.Idle → Arrow z v s choice l (Activity.Rebalance (Rebalance.Freeze (Freeze.Look i))) (freezing i pend.Idle l).local
-  sees_unstamped : (i c : ℕ) → pend_of (v (name.Pend l.row i)) ≡ Some (pend.Pending c) → Arrow z v s choice l (Activity.Rebalance (Rebalance.Freeze (Freeze.Look i))) (freezing i (pend.Pending c) l).local
-  remembers : (i c version : ℕ) → pend_of (v (name.Pend l.row i)) ≡ Some (pend.Stamped c version) → i + 1 < z.seats → Arrow z v s choice l (Activity.Rebalance (Rebalance.Freeze (Freeze.Look i))) (record (marking c version l) { activity = Activity.Rebalance (Rebalance.Freeze (Freeze.Look (i + 1))) })
-  remembers_last : (i c version : ℕ) → pend_of (v (name.Pend l.row i)) ≡ Some (pend.Stamped c version) → z.seats ≤ i + 1 → Arrow z v s choice l (Activity.Rebalance (Rebalance.Freeze (Freeze.Look i))) (to_scans (marking c version l)).local
-  sees_frozen : (i : ℕ) → (pend_of (v (name.Pend l.row i)) ≡ Some pend.Frozen) ⊎ (pend_of (v (name.Pend l.row i)) ≡ None) → i + 1 < z.seats → Arrow z v s choice l (Activity.Rebalance (Rebalance.Freeze (Freeze.Look i))) (record l { activity = Activity.Rebalance (Rebalance.Freeze (Freeze.Look (i + 1))) })
-  sees_frozen_last : (i : ℕ) → (pend_of (v (name.Pend l.row i)) ≡ Some pend.Frozen) ⊎ (pend_of (v (name.Pend l.row i)) ≡ None) → z.seats ≤ i + 1 → Arrow z v s choice l (Activity.Rebalance (Rebalance.Freeze (Freeze.Look i))) (to_scans l).local
-  freezes_entry : (i : ℕ) → v (name.Pend l.row i) ≡ pend_word l.rebalance.entry → i + 1 < z.seats → Arrow z v s choice l (Activity.Rebalance (Rebalance.Freeze (Freeze.Entry i))) (record l { activity = Activity.Rebalance (Rebalance.Freeze (Freeze.Look (i + 1))) })
-  freezes_last : (i : ℕ) → v (name.Pend l.row i) ≡ pend_word l.rebalance.entry → z.seats ≤ i + 1 → Arrow z v s choice l (Activity.Rebalance (Rebalance.Freeze (Freeze.Entry i))) (to_scans l).local
-  looks_again : (i : ℕ) → v (name.Pend l.row i) ≢ pend_word l.rebalance.entry → Arrow z v s choice l (Activity.Rebalance (Rebalance.Freeze (Freeze.Entry i))) (record l { activity = Activity.Rebalance (Rebalance.Freeze (Freeze.Look i)) })
+  sees_idle : (i : ℕ) → pend_of (v (name.Pend l.rebalance.hand i)) ≡ Some pend.Idle → Arrow z v s choice l (Activity.Rebalance (Rebalance.Freeze (Freeze.Look i))) (freezing i pend.Idle l).local
+  sees_unstamped : (i c : ℕ) → pend_of (v (name.Pend l.rebalance.hand i)) ≡ Some (pend.Pending c) → Arrow z v s choice l (Activity.Rebalance (Rebalance.Freeze (Freeze.Look i))) (freezing i (pend.Pending c) l).local
+  remembers : (i c version : ℕ) → pend_of (v (name.Pend l.rebalance.hand i)) ≡ Some (pend.Stamped c version) → i + 1 < z.seats → Arrow z v s choice l (Activity.Rebalance (Rebalance.Freeze (Freeze.Look i))) (record (marking z c version l) { activity = Activity.Rebalance (Rebalance.Freeze (Freeze.Look (i + 1))) })
+  remembers_last : (i c version : ℕ) (next : Local) → pend_of (v (name.Pend l.rebalance.hand i)) ≡ Some (pend.Stamped c version) → z.seats ≤ i + 1 → NextFrozen (marking z c version l) next → Arrow z v s choice l (Activity.Rebalance (Rebalance.Freeze (Freeze.Look i))) next
+  sees_frozen : (i : ℕ) → (pend_of (v (name.Pend l.rebalance.hand i)) ≡ Some pend.Frozen) ⊎ (pend_of (v (name.Pend l.rebalance.hand i)) ≡ None) → i + 1 < z.seats → Arrow z v s choice l (Activity.Rebalance (Rebalance.Freeze (Freeze.Look i))) (record l { activity = Activity.Rebalance (Rebalance.Freeze (Freeze.Look (i + 1))) })
+  sees_frozen_last : (i : ℕ) (next : Local) → (pend_of (v (name.Pend l.rebalance.hand i)) ≡ Some pend.Frozen) ⊎ (pend_of (v (name.Pend l.rebalance.hand i)) ≡ None) → z.seats ≤ i + 1 → NextFrozen l next → Arrow z v s choice l (Activity.Rebalance (Rebalance.Freeze (Freeze.Look i))) next
+  freezes_entry : (i : ℕ) → v (name.Pend l.rebalance.hand i) ≡ pend_word l.rebalance.entry → i + 1 < z.seats → Arrow z v s choice l (Activity.Rebalance (Rebalance.Freeze (Freeze.Entry i))) (record l { activity = Activity.Rebalance (Rebalance.Freeze (Freeze.Look (i + 1))) })
+  freezes_last : (i : ℕ) (next : Local) → v (name.Pend l.rebalance.hand i) ≡ pend_word l.rebalance.entry → z.seats ≤ i + 1 → NextFrozen l next → Arrow z v s choice l (Activity.Rebalance (Rebalance.Freeze (Freeze.Entry i))) next
+  looks_again : (i : ℕ) → v (name.Pend l.rebalance.hand i) ≢ pend_word l.rebalance.entry → Arrow z v s choice l (Activity.Rebalance (Rebalance.Freeze (Freeze.Entry i))) (record l { activity = Activity.Rebalance (Rebalance.Freeze (Freeze.Look i)) })
   -- the scans are looked at
   sees_quiet : (i : ℕ) → (scan_of (v (name.Scan i)) ≡ Some scan.Quiet) ⊎ (scan_of (v (name.Scan i)) ≡ None) → i + 1 < z.seats → Arrow z v s choice l (Activity.Rebalance (Rebalance.Freeze (Freeze.Scan i))) (record l { activity = Activity.Rebalance (Rebalance.Freeze (Freeze.Scan (i + 1))) })
   sees_quiet_last : (i : ℕ) → (scan_of (v (name.Scan i)) ≡ Some scan.Quiet) ⊎ (scan_of (v (name.Scan i)) ≡ None) → z.seats ≤ i + 1 → Arrow z v s choice l (Activity.Rebalance (Rebalance.Freeze (Freeze.Scan i))) (to_take l).local
@@ -241,18 +272,18 @@ pub data Arrow (z : Sizes) (v : Words) (s : ℕ) (choice : Choice) (l : Local) :
   finds_drawn_last : (i version : ℕ) → scan_of (v (name.Scan i)) ≡ Some (scan.Drawn version) → z.seats ≤ i + 1 → Arrow z v s choice l (Activity.Rebalance (Rebalance.Freeze (Freeze.Settle i))) (to_take (needing version l)).local
   finds_no_scan : (i : ℕ) → IsNoScan l.rebalance.waiting (v (name.Scan i)) → i + 1 < z.seats → Arrow z v s choice l (Activity.Rebalance (Rebalance.Freeze (Freeze.Settle i))) (record l { activity = Activity.Rebalance (Rebalance.Freeze (Freeze.Scan (i + 1))) })
   finds_no_scan_last : (i : ℕ) → IsNoScan l.rebalance.waiting (v (name.Scan i)) → z.seats ≤ i + 1 → Arrow z v s choice l (Activity.Rebalance (Rebalance.Freeze (Freeze.Settle i))) (to_take l).local
-  -- the full row's cells are gathered
-  take_leads : (c : ℕ) → cell_of_link_word (v (link_name l.row l.link)) ≡ Some c → Arrow z v s choice l (Activity.Rebalance (Rebalance.Gather Gather.Link)) (record (taking z c l) { activity = Activity.Rebalance (Rebalance.Gather Gather.Key) })
-  takes_left : (m : Mark) → cell_of_link_word (v (link_name l.row l.link)) ≡ None → least_mark l.rebalance.marks ≡ Some m → Arrow z v s choice l (Activity.Rebalance (Rebalance.Gather Gather.Link)) (record l { place = m.cell; place_version = m.version; rebalance = record l.rebalance { marks = unmarked m.cell l.rebalance.marks }; activity = Activity.Rebalance (Rebalance.Gather Gather.LeftOverKey) })
-  takes_no_more : cell_of_link_word (v (link_name l.row l.link)) ≡ None → least_mark l.rebalance.marks ≡ None → Arrow z v s choice l (Activity.Rebalance (Rebalance.Gather Gather.Link)) (record (planned z l) { activity = Activity.Rebalance (Rebalance.Seek Seek.First) })
-  takes_key : Arrow z v s choice l (Activity.Rebalance (Rebalance.Gather Gather.Key)) (record l { place_key = key_of_word (v (name.Key l.row l.place)); activity = Activity.Rebalance (Rebalance.Gather Gather.Version) })
-  takes_version : Arrow z v s choice l (Activity.Rebalance (Rebalance.Gather Gather.Version)) (take_version (version_of_word (v (name.Version l.row l.place))) l).local
-  keeps_taken : Arrow z v s choice l (Activity.Rebalance (Rebalance.Gather Gather.Value)) (take_past (keeping z (value_of_word (v (name.Value l.row l.place))) l)).local
-  takes_left_key : Arrow z v s choice l (Activity.Rebalance (Rebalance.Gather Gather.LeftOverKey)) (record l { place_key = key_of_word (v (name.Key l.row l.place)); activity = Activity.Rebalance (Rebalance.Gather Gather.LeftOverValue) })
-  keeps_left : (m : Mark) → least_mark l.rebalance.marks ≡ Some m → Arrow z v s choice l (Activity.Rebalance (Rebalance.Gather Gather.LeftOverValue)) (record (keeping z (value_of_word (v (name.Value l.row l.place))) l) { place = m.cell; place_version = m.version; rebalance = record (keeping z (value_of_word (v (name.Value l.row l.place))) l).rebalance { marks = unmarked m.cell l.rebalance.marks }; activity = Activity.Rebalance (Rebalance.Gather Gather.LeftOverKey) })
-  keeps_no_more : least_mark l.rebalance.marks ≡ None → Arrow z v s choice l (Activity.Rebalance (Rebalance.Gather Gather.LeftOverValue)) (record (planned z (keeping z (value_of_word (v (name.Value l.row l.place))) l)) { activity = Activity.Rebalance (Rebalance.Seek Seek.First) })
-  -- new rows are taken, written, linked and made normal, and the full one is retired: a type of its
-  -- own has the ways that these may go
+  -- the cells of the group are gathered
+  take_leads : (c : ℕ) → cell_of_link_word (v (link_name l.rebalance.hand l.link)) ≡ Some c → Arrow z v s choice l (Activity.Rebalance (Rebalance.Gather Gather.Link)) (record (taking z c l) { activity = Activity.Rebalance (Rebalance.Gather Gather.Key) })
+  takes_left : (m : Mark) → cell_of_link_word (v (link_name l.rebalance.hand l.link)) ≡ None → least_mark l.rebalance.marks ≡ Some m → m.cell < place_in_group z l.rebalance z.cells → Arrow z v s choice l (Activity.Rebalance (Rebalance.Gather Gather.Link)) (record (leaving_over z m l) { activity = Activity.Rebalance (Rebalance.Gather Gather.LeftOverKey) })
+  takes_no_more : (next : Local) → cell_of_link_word (v (link_name l.rebalance.hand l.link)) ≡ None → IsNoneLeft z l → NextGathered z l next → Arrow z v s choice l (Activity.Rebalance (Rebalance.Gather Gather.Link)) next
+  takes_key : Arrow z v s choice l (Activity.Rebalance (Rebalance.Gather Gather.Key)) (record l { place_key = key_of_word (v (name.Key l.rebalance.hand l.place)); activity = Activity.Rebalance (Rebalance.Gather Gather.Version) })
+  takes_version : Arrow z v s choice l (Activity.Rebalance (Rebalance.Gather Gather.Version)) (take_version (version_of_word (v (name.Version l.rebalance.hand l.place))) l).local
+  keeps_taken : Arrow z v s choice l (Activity.Rebalance (Rebalance.Gather Gather.Value)) (take_past (keeping z (value_of_word (v (name.Value l.rebalance.hand l.place))) l)).local
+  takes_left_key : Arrow z v s choice l (Activity.Rebalance (Rebalance.Gather Gather.LeftOverKey)) (record l { place_key = key_of_word (v (name.Key l.rebalance.hand l.place)); activity = Activity.Rebalance (Rebalance.Gather Gather.LeftOverValue) })
+  keeps_left : (m : Mark) → least_mark l.rebalance.marks ≡ Some m → m.cell < place_in_group z l.rebalance z.cells → Arrow z v s choice l (Activity.Rebalance (Rebalance.Gather Gather.LeftOverValue)) (record (leaving_over z m (keeping z (value_of_word (v (name.Value l.rebalance.hand l.place))) l)) { activity = Activity.Rebalance (Rebalance.Gather Gather.LeftOverKey) })
+  keeps_no_more : (next : Local) → IsNoneLeft z l → NextGathered z (keeping z (value_of_word (v (name.Value l.rebalance.hand l.place))) l) next → Arrow z v s choice l (Activity.Rebalance (Rebalance.Gather Gather.LeftOverValue)) next
+  -- new rows are taken, written, linked and made normal, and the rows of the group are retired: a
+  -- type of its own has the ways that these may go
   builds : (c : Activity) (next : Local) → IsBuilding c → Building z v choice l c next → Arrow z v s choice l c next
 
 -- Tests of the table.
@@ -322,14 +353,6 @@ next_left_over l = saw (least_mark l.remembered) refl
     saw (Some m) e = goes_to_left_over m e
     saw None e = read_arrow l l.call e refl
 
--- the next entry, or the scans
-next_entry : (z : Sizes) (j : ℕ) (l : Local) (P : Local → Type 0) → (j < z.seats → P (record l { activity = Activity.Rebalance (Rebalance.Freeze (Freeze.Look j)) })) → (z.seats ≤ j → P (to_scans l).local) → P (to_freeze_look z j l).local
-next_entry z j l P on last = saw (nat_lt j z.seats) refl
-  where
-    saw : (b : Bool) → nat_lt j z.seats ≡ b → P (let x : Outcome = if b then to (Activity.Rebalance (Rebalance.Freeze (Freeze.Look j))) l else to_scans l in x).local
-    saw true e = on (below j z.seats e)
-    saw false e = last (not_below j z.seats e)
-
 -- the next scan, or the row's cells
 next_scan : (z : Sizes) (j : ℕ) (l : Local) (P : Local → Type 0) → (j < z.seats → P (record l { activity = Activity.Rebalance (Rebalance.Freeze (Freeze.Scan j)) })) → (z.seats ≤ j → P (to_take l).local) → P (to_scan_look z j l).local
 next_scan z j l P on last = saw (nat_lt j z.seats) refl
@@ -337,14 +360,6 @@ next_scan z j l P on last = saw (nat_lt j z.seats) refl
     saw : (b : Bool) → nat_lt j z.seats ≡ b → P (let x : Outcome = if b then to (Activity.Rebalance (Rebalance.Freeze (Freeze.Scan j))) l else to_take l in x).local
     saw true e = on (below j z.seats e)
     saw false e = last (not_below j z.seats e)
-
--- the next remembered cell, or the plan
-next_left : (z : Sizes) (l : Local) (P : Local → Type 0) → ((m : Mark) → least_mark l.rebalance.marks ≡ Some m → P (left_of z (Some m) l).local) → (least_mark l.rebalance.marks ≡ None → P (left_of z None l).local) → P (to_left z l).local
-next_left z l P on last = saw (least_mark l.rebalance.marks) refl
-  where
-    saw : (o : Option Mark) → least_mark l.rebalance.marks ≡ o → P (left_of z o l).local
-    saw (Some m) e = on m e
-    saw None e = last e
 
 module _ (z : Sizes) (rows : ℕ) (v : Words) (s : ℕ) (choice : Choice) (l : Local) where
   enter_arrow : (c : Option Call) → l.call ≡ c → Arrow z v s choice l (Activity.Enter Enter.Announce) (entered c l).local
@@ -476,34 +491,83 @@ module _ (z : Sizes) (rows : ℕ) (v : Words) (s : ℕ) (choice : Choice) (l : L
   balance_arrow (Some Free) e = other_state l.tidies refl
   balance_arrow (Some (Infant seat)) e = finds_infant seat e
   balance_arrow (Some Normal) e = finds_normal e
-  balance_arrow (Some (Leader count)) e = saw (nat_le count 1) refl
-    where
-      saw : (b : Bool) → nat_le count 1 ≡ b → Arrow z v s choice l (Activity.Rebalance (Rebalance.Engage Engage.State)) (let x : Outcome = if b then to (Activity.Rebalance (Rebalance.Engage (Engage.MarkLink count))) l else again l in x).local
-      saw true h = finds_leader count e (at_most _ _ h)
-      saw false h = other_state l.tidies refl
-  balance_arrow (Some (Follower leader)) e = other_state l.tidies refl
+  balance_arrow (Some (Leader count)) e = finds_leader count e
+  balance_arrow (Some (Follower leader)) e = finds_follower leader e
   balance_arrow (Some (Retired number)) e = other_state l.tidies refl
   balance_arrow None e = other_state l.tidies refl
 
-  decide_arrow : (count : ℕ) (x : Option State) → state_of (v (name.State l.row)) ≡ x → Arrow z v s choice l (Activity.Rebalance (Rebalance.Engage (Engage.Decide count))) (decided x l).local
+  decide_arrow : (count : ℕ) (x : Option State) → state_of (v (name.State l.row)) ≡ x → Arrow z v s choice l (Activity.Rebalance (Rebalance.Engage (Engage.Decide count))) (decided count x l).local
   decide_arrow count (Some Free) e = not_decided count l.tidies refl
   decide_arrow count (Some (Infant seat)) e = not_decided count l.tidies refl
   decide_arrow count (Some Normal) e = not_decided count l.tidies refl
-  decide_arrow count (Some (Leader n)) e = saw (nat_le n 1) refl
-    where
-      saw : (b : Bool) → nat_le n 1 ≡ b → Arrow z v s choice l (Activity.Rebalance (Rebalance.Engage (Engage.Decide count))) (let x : Outcome = if b then to (Activity.Rebalance (Rebalance.Freeze Freeze.Count)) l else again l in x).local
-      saw true h = decides count n e (at_most _ _ h)
-      saw false h = not_decided count l.tidies refl
+  decide_arrow count (Some (Leader n)) e = decides count n _ e (next_counted (if n == 0 then count else n) l)
   decide_arrow count (Some (Follower leader)) e = not_decided count l.tidies refl
   decide_arrow count (Some (Retired number)) e = not_decided count l.tidies refl
   decide_arrow count None e = not_decided count l.tidies refl
 
-  freeze_arrow : (i : ℕ) (x : Option Pend) → pend_of (v (name.Pend l.row i)) ≡ x → Arrow z v s choice l (Activity.Rebalance (Rebalance.Freeze (Freeze.Look i))) (freeze_seen z i x l).local
+  -- the row after the full one is known
+  undecided_arrow : (count : ℕ) (x : Option ℕ) → count ≡ 0 → next_in v l.row ≡ x → Arrow z v s choice l (Activity.Rebalance (Rebalance.Engage (Engage.MarkLink count))) (undecided x (followed_by (next_in v l.row) l)).local
+  undecided_arrow count (Some r) o e = marks_link count r o e
+  undecided_arrow count None o e = marks_last count o e
+
+  -- the row after the full one is not this seat's to claim
+  not_claimed : (b : Bool) → l.tidies ≡ b → Arrow z v s choice l (Activity.Rebalance (Rebalance.Claim Claim.Exchange)) (to (if b then (Activity.Leave Done) else Activity.Retry) (without_rows (without_rebalance l))).local
+  not_claimed true e = ends_unclaimed e
+  not_claimed false e = claims_not e
+
+  claim_arrow : (x : Option State) → state_of (v (name.State (row_after l))) ≡ x → Arrow z v s choice l (Activity.Rebalance (Rebalance.Claim Claim.Exchange)) (claimed x l).local
+  claim_arrow (Some Free) e = not_claimed l.tidies refl
+  claim_arrow (Some (Infant seat)) e = next_is_infant seat e
+  claim_arrow (Some Normal) e = claims_next (inl e)
+  claim_arrow (Some (Leader count)) e = next_leads count e
+  claim_arrow (Some (Follower leader)) e = saw (leader == l.row) refl
+    where
+      saw : (b : Bool) → (leader == l.row) ≡ b → Arrow z v s choice l (Activity.Rebalance (Rebalance.Claim Claim.Exchange)) (let x : Outcome = if b then to_mark_next l else again l in x).local
+      saw true h = claims_next (inr (e ∙ ap (λ (q : ℕ). Some (Follower q)) (eq_from leader l.row h)))
+      saw false h = not_claimed l.tidies refl
+  claim_arrow (Some (Retired number)) e = not_claimed l.tidies refl
+  claim_arrow None e = not_claimed l.tidies refl
+
+  -- a walk left ends where there is no leader
+  no_head : (b : Bool) → l.tidies ≡ b → row_or_first (row_linked (link_of (v name.Head))) ≡ l.row → Arrow z v s choice l (Activity.Rebalance (Rebalance.Left Left.Start)) (to (if b then (Activity.Leave Done) else Activity.Retry) (without_rows (without_rebalance l))).local
+  no_head true e h = ends_at_head e
+  no_head false e h = head_follows e h
+
+  left_head_arrow : Arrow z v s choice l (Activity.Rebalance (Rebalance.Left Left.Start)) (first_left (row_or_first (row_linked (link_of (v name.Head)))) l).local
+  left_head_arrow = saw (row_or_first (row_linked (link_of (v name.Head))) == l.row) refl
+    where
+      saw : (b : Bool) → (row_or_first (row_linked (link_of (v name.Head))) == l.row) ≡ b → Arrow z v s choice l (Activity.Rebalance (Rebalance.Left Left.Start)) (let x : Outcome = if b then again l else to (Activity.Rebalance (Rebalance.Left Left.Next)) (at_before (Some (row_or_first (row_linked (link_of (v name.Head))))) 0 l) in x).local
+      saw true e = no_head l.tidies refl (eq_from _ _ e)
+      saw false e = begins_left _ refl (eq_not _ _ e)
+
+  left_arrow : (c : Choice) → choice ≡ c → Arrow z v s choice l (Activity.Rebalance (Rebalance.Left Left.Start)) (followed rows (left_transition c l) (v (left_transition c l).operation.name)).local
+  left_arrow (Begin call) e = left_head_arrow
+  left_arrow Go e = left_head_arrow
+  left_arrow (Guess q) e = takes_leader q e
+  left_arrow Stop e = left_head_arrow
+
+  no_link : (b : Bool) → l.tidies ≡ b → next_in v (row_or_first l.rebalance.before) ≡ None → Arrow z v s choice l (Activity.Rebalance (Rebalance.Left Left.Next)) (to (if b then (Activity.Leave Done) else Activity.Retry) (without_rows (without_rebalance l))).local
+  no_link true e h = ends_at_none e
+  no_link false e h = none_is_left e h
+
+  left_link_arrow : (x : Option ℕ) → next_in v (row_or_first l.rebalance.before) ≡ x → Arrow z v s choice l (Activity.Rebalance (Rebalance.Left Left.Next)) (link_left x l).local
+  left_link_arrow (Some q) e = saw (q == l.row) refl
+    where
+      saw : (b : Bool) → (q == l.row) ≡ b → Arrow z v s choice l (Activity.Rebalance (Rebalance.Left Left.Next)) (let x : Outcome = if b then to_leader l else to (Activity.Rebalance (Rebalance.Left Left.NextLeast)) (record l { candidate = q }) in x).local
+      saw true h = reaches_leader (e ∙ ap (λ (r : ℕ). Some r) (eq_from q l.row h))
+      saw false h = leads_left q e (eq_not q l.row h)
+  left_link_arrow None e = no_link l.tidies refl e
+
+  no_row_left : (b : Bool) → l.tidies ≡ b → l.lower ≤ least_in v l.candidate → Arrow z v s choice l (Activity.Rebalance (Rebalance.Left Left.NextLeast)) (to (if b then (Activity.Leave Done) else Activity.Retry) (without_rows (without_rebalance l))).local
+  no_row_left true e h = ends_past e
+  no_row_left false e h = passes_left e h
+
+  freeze_arrow : (i : ℕ) (x : Option Pend) → pend_of (v (name.Pend l.rebalance.hand i)) ≡ x → Arrow z v s choice l (Activity.Rebalance (Rebalance.Freeze (Freeze.Look i))) (freeze_seen z i x l).local
   freeze_arrow i (Some pend.Idle) e = sees_idle i e
   freeze_arrow i (Some (pend.Pending cell)) e = sees_unstamped i cell e
-  freeze_arrow i (Some (pend.Stamped cell version)) e = next_entry z (i + 1) (marking cell version l) (Arrow z v s choice l (Activity.Rebalance (Rebalance.Freeze (Freeze.Look i)))) (remembers i cell version e) (remembers_last i cell version e)
-  freeze_arrow i (Some pend.Frozen) e = next_entry z (i + 1) l (Arrow z v s choice l (Activity.Rebalance (Rebalance.Freeze (Freeze.Look i)))) (sees_frozen i (inl e)) (sees_frozen_last i (inl e))
-  freeze_arrow i None e = next_entry z (i + 1) l (Arrow z v s choice l (Activity.Rebalance (Rebalance.Freeze (Freeze.Look i)))) (sees_frozen i (inr e)) (sees_frozen_last i (inr e))
+  freeze_arrow i (Some (pend.Stamped cell version)) e = next_entry z (i + 1) (marking z cell version l) (Arrow z v s choice l (Activity.Rebalance (Rebalance.Freeze (Freeze.Look i)))) (remembers i cell version e) (λ next. remembers_last i cell version next e)
+  freeze_arrow i (Some pend.Frozen) e = next_entry z (i + 1) l (Arrow z v s choice l (Activity.Rebalance (Rebalance.Freeze (Freeze.Look i)))) (sees_frozen i (inl e)) (λ next. sees_frozen_last i next (inl e))
+  freeze_arrow i None e = next_entry z (i + 1) l (Arrow z v s choice l (Activity.Rebalance (Rebalance.Freeze (Freeze.Look i)))) (sees_frozen i (inr e)) (λ next. sees_frozen_last i next (inr e))
 
   scan_arrow : (i : ℕ) (x : Option ScanWord) → scan_of (v (name.Scan i)) ≡ x → Arrow z v s choice l (Activity.Rebalance (Rebalance.Freeze (Freeze.Scan i))) (scan_seen z i x l).local
   scan_arrow i (Some scan.Quiet) e = next_scan z (i + 1) l (Arrow z v s choice l (Activity.Rebalance (Rebalance.Freeze (Freeze.Scan i)))) (sees_quiet i (inl e)) (sees_quiet_last i (inl e))
@@ -524,9 +588,9 @@ module _ (z : Sizes) (rows : ℕ) (v : Words) (s : ℕ) (choice : Choice) (l : L
   settle_arrow i (Some (scan.Drawn version)) e = next_scan z (i + 1) (needing version l) (Arrow z v s choice l (Activity.Rebalance (Rebalance.Freeze (Freeze.Settle i)))) (finds_drawn i version e) (finds_drawn_last i version e)
   settle_arrow i None e = no_scan_arrow i (record { waiting = λ q. let y : None ≡ Some (scan.Waiting l.rebalance.waiting) = sym e ∙ q in cc; drawn = λ u q. let y : None ≡ Some (scan.Drawn u) = sym e ∙ q in cc })
 
-  take_arrow : (x : Option ℕ) → cell_of_link_word (v (link_name l.row l.link)) ≡ x → Arrow z v s choice l (Activity.Rebalance (Rebalance.Gather Gather.Link)) (take_reached z x l).local
+  take_arrow : (x : Option ℕ) → cell_of_link_word (v (link_name l.rebalance.hand l.link)) ≡ x → Arrow z v s choice l (Activity.Rebalance (Rebalance.Gather Gather.Link)) (take_reached z x l).local
   take_arrow (Some c) e = take_leads c e
-  take_arrow None e = next_left z l (Arrow z v s choice l (Activity.Rebalance (Rebalance.Gather Gather.Link))) (λ m n. takes_left m e n) (takes_no_more e)
+  take_arrow None e = next_left z l (Arrow z v s choice l (Activity.Rebalance (Rebalance.Gather Gather.Link))) (λ m n o. takes_left m e n o) (λ next. takes_no_more next e)
 
   first_insert_arrow : (x : Option ℕ) → cell_of_link_word (v (link_name l.row l.link)) ≡ x → Arrow z v s choice l (Activity.Insert Insert.Start) (insert_from z x l).local
   first_insert_arrow (Some c) e = first_reaches c e
@@ -662,26 +726,37 @@ module _ (z : Sizes) (rows : ℕ) (v : Words) (s : ℕ) (choice : Choice) (l : L
       saw false e = is_engaged (eq_not _ _ e)
   arrow (Activity.Rebalance (Rebalance.Engage (Engage.MarkLink count))) b m = saw (count == 0) refl
     where
-      saw : (b : Bool) → (count == 0) ≡ b → Arrow z v s choice l (Activity.Rebalance (Rebalance.Engage (Engage.MarkLink count))) (let x : Outcome = if b then to (Activity.Rebalance (Rebalance.Engage (Engage.Decide 1))) (followed_by (next_in v l.row) l) else to (Activity.Rebalance (Rebalance.Freeze Freeze.Count)) (followed_by (next_in v l.row) l) in x).local
-      saw true e = marks_link count (eq_from _ _ e)
-      saw false e = marks_led count (eq_not _ _ e)
+      saw : (b : Bool) → (count == 0) ≡ b → Arrow z v s choice l (Activity.Rebalance (Rebalance.Engage (Engage.MarkLink count))) (let x : Outcome = if b then undecided (next_in v l.row) (followed_by (next_in v l.row) l) else counted count (followed_by (next_in v l.row) l) in x).local
+      saw true e = undecided_arrow count (next_in v l.row) (eq_from _ _ e) refl
+      saw false e = marks_led count _ (eq_not _ _ e) (next_counted count (followed_by (next_in v l.row) l))
   arrow (Activity.Rebalance (Rebalance.Engage (Engage.Decide count))) b m = decide_arrow count (state_of (v (name.State l.row))) refl
-  arrow (Activity.Rebalance (Rebalance.Freeze Freeze.Count)) b m = freezes_count
-  arrow (Activity.Rebalance (Rebalance.Freeze (Freeze.Look i))) b m = freeze_arrow i (pend_of (v (name.Pend l.row i))) refl
-  arrow (Activity.Rebalance (Rebalance.Freeze (Freeze.Entry i))) b m = saw (v (name.Pend l.row i) == pend_word l.rebalance.entry) refl
+  arrow (Activity.Rebalance (Rebalance.Claim Claim.Count)) b m = counts_next
+  arrow (Activity.Rebalance (Rebalance.Claim Claim.Exchange)) b m = claim_arrow (state_of (v (name.State (row_after l)))) refl
+  arrow (Activity.Rebalance (Rebalance.Claim (Claim.Normal seat))) b m = normalises_next seat
+  arrow (Activity.Rebalance (Rebalance.Claim Claim.MarkLink)) b m = marks_next
+  arrow (Activity.Rebalance (Rebalance.Left Left.Start)) b m = left_arrow choice refl
+  arrow (Activity.Rebalance (Rebalance.Left Left.Next)) b m = left_link_arrow (next_in v (row_or_first l.rebalance.before)) refl
+  arrow (Activity.Rebalance (Rebalance.Left Left.NextLeast)) b m = saw (nat_lt (least_in v l.candidate) l.lower) refl
     where
-      saw : (b : Bool) → (v (name.Pend l.row i) == pend_word l.rebalance.entry) ≡ b → Arrow z v s choice l (Activity.Rebalance (Rebalance.Freeze (Freeze.Entry i))) (entry_tried z i b l).local
-      saw true e = next_entry z (i + 1) l (Arrow z v s choice l (Activity.Rebalance (Rebalance.Freeze (Freeze.Entry i)))) (freezes_entry i (eq_from _ _ e)) (freezes_last i (eq_from _ _ e))
+      saw : (b : Bool) → nat_lt (least_in v l.candidate) l.lower ≡ b → Arrow z v s choice l (Activity.Rebalance (Rebalance.Left Left.NextLeast)) (let x : Outcome = if b then to (Activity.Rebalance (Rebalance.Left Left.Next)) (at_before (Some l.candidate) (least_in v l.candidate) l) else again l in x).local
+      saw true e = walks_left (below _ _ e)
+      saw false e = no_row_left l.tidies refl (not_below _ _ e)
+  arrow (Activity.Rebalance (Rebalance.Freeze Freeze.Count)) b m = freezes_count
+  arrow (Activity.Rebalance (Rebalance.Freeze (Freeze.Look i))) b m = freeze_arrow i (pend_of (v (name.Pend l.rebalance.hand i))) refl
+  arrow (Activity.Rebalance (Rebalance.Freeze (Freeze.Entry i))) b m = saw (v (name.Pend l.rebalance.hand i) == pend_word l.rebalance.entry) refl
+    where
+      saw : (b : Bool) → (v (name.Pend l.rebalance.hand i) == pend_word l.rebalance.entry) ≡ b → Arrow z v s choice l (Activity.Rebalance (Rebalance.Freeze (Freeze.Entry i))) (entry_tried z i b l).local
+      saw true e = next_entry z (i + 1) l (Arrow z v s choice l (Activity.Rebalance (Rebalance.Freeze (Freeze.Entry i)))) (freezes_entry i (eq_from _ _ e)) (λ next. freezes_last i next (eq_from _ _ e))
       saw false e = looks_again i (eq_not _ _ e)
   arrow (Activity.Rebalance (Rebalance.Freeze (Freeze.Scan i))) b m = scan_arrow i (scan_of (v (name.Scan i))) refl
   arrow (Activity.Rebalance (Rebalance.Freeze (Freeze.Draw i))) b m = draws_for i
   arrow (Activity.Rebalance (Rebalance.Freeze (Freeze.Settle i))) b m = settle_arrow i (scan_of (v (name.Scan i))) refl
-  arrow (Activity.Rebalance (Rebalance.Gather Gather.Link)) b m = take_arrow (cell_of_link_word (v (link_name l.row l.link))) refl
+  arrow (Activity.Rebalance (Rebalance.Gather Gather.Link)) b m = take_arrow (cell_of_link_word (v (link_name l.rebalance.hand l.link))) refl
   arrow (Activity.Rebalance (Rebalance.Gather Gather.Key)) b m = takes_key
   arrow (Activity.Rebalance (Rebalance.Gather Gather.Version)) b m = takes_version
   arrow (Activity.Rebalance (Rebalance.Gather Gather.Value)) b m = keeps_taken
   arrow (Activity.Rebalance (Rebalance.Gather Gather.LeftOverKey)) b m = takes_left_key
-  arrow (Activity.Rebalance (Rebalance.Gather Gather.LeftOverValue)) b m = next_left z (keeping z (value_of_word (v (name.Value l.row l.place))) l) (Arrow z v s choice l (Activity.Rebalance (Rebalance.Gather Gather.LeftOverValue))) keeps_left keeps_no_more
+  arrow (Activity.Rebalance (Rebalance.Gather Gather.LeftOverValue)) b m = next_left z (keeping z (value_of_word (v (name.Value l.rebalance.hand l.place))) l) (Arrow z v s choice l (Activity.Rebalance (Rebalance.Gather Gather.LeftOverValue))) keeps_left keeps_no_more
   arrow (Activity.Rebalance (Rebalance.Seek Seek.First)) b m = builds (Activity.Rebalance (Rebalance.Seek Seek.First)) _ tt (building z rows v s choice l (Activity.Rebalance (Rebalance.Seek Seek.First)) tt)
   arrow (Activity.Rebalance (Rebalance.Seek Seek.Next)) b m = builds (Activity.Rebalance (Rebalance.Seek Seek.Next)) _ tt (building z rows v s choice l (Activity.Rebalance (Rebalance.Seek Seek.Next)) tt)
   arrow (Activity.Rebalance (Rebalance.Seek (Seek.Pass i))) b m = builds (Activity.Rebalance (Rebalance.Seek (Seek.Pass i))) _ tt (building z rows v s choice l (Activity.Rebalance (Rebalance.Seek (Seek.Pass i))) tt)

@@ -1,6 +1,6 @@
 -- The ways that the events of a rebalance may go by which new rows are taken, written, linked in
--- place of the full row and made normal, and the full row is retired, or by which what was taken is
--- given back.
+-- place of the full row and made normal, and the rows of the group are retired, or by which what
+-- was taken is given back.
 --
 -- As in `Arrow` there is one constructor for each way, and it carries what the event found: whether
 -- a row was free or retired, which epoch a seat announces, whether a guess served, what a link
@@ -25,7 +25,8 @@ use Rattle.kw_world.specs.declared.local.Local.{Local}
 use Rattle.kw_world.specs.declared.rebalance.Afterwards.TheVariants.{TryAgain, MoveLeft}
 use Rattle.kw_world.specs.Local.{without_rows, without_rebalance}
 use Rattle.kw_world.specs.declared.answer.Answer.TheVariants.{Done}
-use Rattle.kw_world.specs.ReplaceTransitions.{at_before, before_transition, guess_before, link_before, replaced, replaced_link, row_before, row_replaced}
+use Rattle.kw_world.specs.GroupPlaces.{at_first_row, at_last_row}
+use Rattle.kw_world.specs.ReplaceTransitions.{at_before, before_transition, guess_before, link_before, replaced, replaced_link, retired, row_before, row_replaced}
 use Rattle.kw_world.specs.SeekTransitions.{at_infant, give_back, given_back, has_more, numbered, pass_seen, seek_first_transition, seek_seen, seeking, take_row, to_pass, to_seek, with_row}
 use Rattle.kw_world.specs.Sizes.{Sizes}
 use Rattle.kw_world.specs.Step.{followed}
@@ -95,15 +96,16 @@ pub data Building (z : Sizes) (v : Words) (choice : Choice) (l : Local) : Activi
   leads_nowhere : (next : Local) → next_in v (row_or_first l.rebalance.before) ≡ None → NextBack TryAgain l next → Building z v choice l (Activity.Rebalance (Rebalance.Replace Replace.Next)) next
   walks_before : least_in v l.candidate < l.lower → Building z v choice l (Activity.Rebalance (Rebalance.Replace Replace.NextLeast)) (record (at_before (Some l.candidate) (least_in v l.candidate) l) { activity = Activity.Rebalance (Rebalance.Replace Replace.Next) })
   walks_past : (next : Local) → l.lower ≤ least_in v l.candidate → NextBack TryAgain l next → Building z v choice l (Activity.Rebalance (Rebalance.Replace Replace.NextLeast)) next
-  -- the new rows are linked in place of the full one, which is retired
+  -- the new rows are linked in place of the full one, and the rows of the group are retired
   replaces_row : link_of (v (replaced_link l.rebalance.before)) ≡ Some (unmarked_link (Some l.row)) → Building z v choice l (Activity.Rebalance (Rebalance.Replace Replace.Exchange)) (record (at_infant 0 l) { activity = Activity.Rebalance (Rebalance.Replace Replace.Normalise) })
   is_marked_before : (next : Local) → link_of (v (replaced_link l.rebalance.before)) ≡ Some (marked_link (Some l.row)) → NextBack MoveLeft l next → Building z v choice l (Activity.Rebalance (Rebalance.Replace Replace.Exchange)) next
   is_replaced : (next : Local) → row_linked (link_of (v (replaced_link l.rebalance.before))) ≢ Some l.row → NextBack TryAgain l next → Building z v choice l (Activity.Rebalance (Rebalance.Replace Replace.Exchange)) next
   makes_normal : l.rebalance.at + 1 < length l.rebalance.taken → Building z v choice l (Activity.Rebalance (Rebalance.Replace Replace.Normalise)) (record (at_infant (l.rebalance.at + 1) l) { activity = Activity.Rebalance (Rebalance.Replace Replace.Normalise) })
-  makes_last_normal : length l.rebalance.taken ≤ l.rebalance.at + 1 → Building z v choice l (Activity.Rebalance (Rebalance.Replace Replace.Normalise)) (record l { activity = Activity.Rebalance (Rebalance.Replace Replace.Number) })
+  makes_last_normal : length l.rebalance.taken ≤ l.rebalance.at + 1 → Building z v choice l (Activity.Rebalance (Rebalance.Replace Replace.Normalise)) (record (at_first_row l) { activity = Activity.Rebalance (Rebalance.Replace Replace.Number) })
   draws_number : Building z v choice l (Activity.Rebalance (Rebalance.Replace Replace.Number)) (record l { rebalance = record l.rebalance { number = v name.Epoch }; activity = Activity.Rebalance (Rebalance.Replace Replace.Retire) })
-  retires_row : l.tidies ≡ false → Building z v choice l (Activity.Rebalance (Rebalance.Replace Replace.Retire)) (begun_anew l).local
-  retires_and_leaves : l.tidies ≡ true → Building z v choice l (Activity.Rebalance (Rebalance.Replace Replace.Retire)) (over l).local
+  retires_ahead : (r : ℕ) → l.rebalance.ahead ≡ Some r → Building z v choice l (Activity.Rebalance (Rebalance.Replace Replace.Retire)) (record (at_last_row r l) { activity = Activity.Rebalance (Rebalance.Replace Replace.Number) })
+  retires_row : l.rebalance.ahead ≡ None → l.tidies ≡ false → Building z v choice l (Activity.Rebalance (Rebalance.Replace Replace.Retire)) (begun_anew l).local
+  retires_and_leaves : l.rebalance.ahead ≡ None → l.tidies ≡ true → Building z v choice l (Activity.Rebalance (Rebalance.Replace Replace.Retire)) (over l).local
 
 -- Tests of the table.
 
@@ -245,13 +247,17 @@ module _ (z : Sizes) (rows : ℕ) (v : Words) (s : ℕ) (choice : Choice) (l : L
   building (Activity.Rebalance (Rebalance.Replace Replace.Exchange)) o = replace_arrow (link_of (v (replaced_link l.rebalance.before))) refl
   building (Activity.Rebalance (Rebalance.Replace Replace.Normalise)) o = saw (has_more l) refl
     where
-      saw : (b : Bool) → has_more l ≡ b → Building z v choice l (Activity.Rebalance (Rebalance.Replace Replace.Normalise)) (let x : Outcome = if b then to (Activity.Rebalance (Rebalance.Replace Replace.Normalise)) (at_infant (l.rebalance.at + 1) l) else to (Activity.Rebalance (Rebalance.Replace Replace.Number)) l in x).local
+      saw : (b : Bool) → has_more l ≡ b → Building z v choice l (Activity.Rebalance (Rebalance.Replace Replace.Normalise)) (let x : Outcome = if b then to (Activity.Rebalance (Rebalance.Replace Replace.Normalise)) (at_infant (l.rebalance.at + 1) l) else to (Activity.Rebalance (Rebalance.Replace Replace.Number)) (at_first_row l) in x).local
       saw true e = makes_normal (below _ _ e)
       saw false e = makes_last_normal (not_below _ _ e)
   building (Activity.Rebalance (Rebalance.Replace Replace.Number)) o = draws_number
-  building (Activity.Rebalance (Rebalance.Replace Replace.Retire)) o = saw l.tidies refl
+  building (Activity.Rebalance (Rebalance.Replace Replace.Retire)) o = saw l.rebalance.ahead refl
     where
-      saw : (b : Bool) → l.tidies ≡ b → Building z v choice l (Activity.Rebalance (Rebalance.Replace Replace.Retire)) (to (if b then (Activity.Leave Done) else Activity.Retry) (without_rows (without_rebalance l))).local
-      saw true e = retires_and_leaves e
-      saw false e = retires_row e
+      ends : (b : Bool) → l.rebalance.ahead ≡ None → l.tidies ≡ b → Building z v choice l (Activity.Rebalance (Rebalance.Replace Replace.Retire)) (to (if b then (Activity.Leave Done) else Activity.Retry) (without_rows (without_rebalance l))).local
+      ends true n e = retires_and_leaves n e
+      ends false n e = retires_row n e
+
+      saw : (x : Option ℕ) → l.rebalance.ahead ≡ x → Building z v choice l (Activity.Rebalance (Rebalance.Replace Replace.Retire)) (retired x l).local
+      saw (Some r) e = retires_ahead r e
+      saw None e = ends l.tidies e refl
   building _ o = absurd o

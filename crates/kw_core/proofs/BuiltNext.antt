@@ -17,7 +17,7 @@ use Rattle.kw_world.specs.Sizes.{Sizes}
 use Rattle.kw_core.specs.Stages.{IsBalancing, IsDone}
 use Rattle.kw_core.specs.Words.{Words}
 use Rattle.kw_core.proofs.NextBuilt.{GivenBack, tries_again, was_done, is_refused_rows, was_served, moves_left, NextBack, gives_back, has_none, NextSeek, asks, has_asked, NextPass, looks_on, has_looked, NextTaken, wants_more, has_enough, NextNewRow, writes_row, has_written, NextNewCell, fills, empties, has_cells, NextNewEntry, writes_idle, has_entries, NextBefore, is_first, is_behind}
-use Rattle.kw_core.proofs.Building.{Building, IsBuilding, first_is_free, first_is_taken, sought_is_free, sought_is_taken, first_is_retired, sought_is_retired, pass_is_old, pass_is_young, frees_row, takes_row, loses_row, gives_one_back, gives_last_back, writes_count, writes_least, writes_link, writes_first, writes_entry, writes_key, writes_value, writes_version, writes_no_cell, writes_after, begins_before, guesses_before, guess_before_fails, before_serves, before_is_above, takes_head_before, leads_to_full, leads_on_marked, leads_to_other, leads_nowhere, walks_before, walks_past, replaces_row, is_marked_before, is_replaced, makes_normal, makes_last_normal, draws_number, retires_row, retires_and_leaves}
+use Rattle.kw_core.proofs.Building.{Building, IsBuilding, first_is_free, first_is_taken, sought_is_free, sought_is_taken, first_is_retired, sought_is_retired, pass_is_old, pass_is_young, frees_row, takes_row, loses_row, gives_one_back, gives_last_back, writes_count, writes_least, writes_link, writes_first, writes_entry, writes_key, writes_value, writes_version, writes_no_cell, writes_after, begins_before, guesses_before, guess_before_fails, before_serves, before_is_above, takes_head_before, leads_to_full, leads_on_marked, leads_to_other, leads_nowhere, walks_before, walks_past, replaces_row, is_marked_before, is_replaced, makes_normal, makes_last_normal, draws_number, retires_ahead, retires_row, retires_and_leaves}
 
 -- such an event follows, or the put tries again, is refused for want of rows, was done before, or
 -- rebalances another row
@@ -45,6 +45,7 @@ pub record BuiltKeeps (l k : Local) : Type 0 where
   pub row : k.row ≡ l.row
   pub lower : k.lower ≡ l.lower
   pub after : k.rebalance.after ≡ l.rebalance.after
+  pub second : k.rebalance.second ≡ l.rebalance.second
   pub marks : k.rebalance.marks ≡ l.rebalance.marks
   pub needed : k.rebalance.needed ≡ l.rebalance.needed
   pub gathered : k.rebalance.gathered ≡ l.rebalance.gathered
@@ -65,6 +66,7 @@ record Planned : Type 0 where
   row : ℕ
   lower : ℕ
   after : Option ℕ
+  second : Option ℕ
   marks : List Mark
   needed : List ℕ
   gathered : List Cell
@@ -79,6 +81,7 @@ planned l = record {
   row = l.row;
   lower = l.lower;
   after = l.rebalance.after;
+  second = l.rebalance.second;
   marks = l.rebalance.marks;
   needed = l.rebalance.needed;
   gathered = l.rebalance.gathered;
@@ -178,8 +181,9 @@ module _ (z : Sizes) (v : Words) (choice : Choice) (l : Local) where
   follows a k (makes_normal o) = record { call = refl; plan = λ o. refl; next = tt; goes = λ t. inl tt; done = λ x. absurd x }
   follows a k (makes_last_normal o) = record { call = refl; plan = λ o. refl; next = tt; goes = λ t. inl tt; done = λ x. absurd x }
   follows a k draws_number = record { call = refl; plan = λ o. refl; next = tt; goes = λ t. inl tt; done = λ x. absurd x }
-  follows a k (retires_row n) = record { call = refl; plan = λ o. absurd o; next = tt; goes = λ t. let x : true ≡ false = sym t ∙ n in cc; done = λ x. absurd x }
-  follows a k (retires_and_leaves d) = record { call = refl; plan = λ o. absurd o; next = tt; goes = λ t. inr tt; done = λ x. d }
+  follows a k (retires_ahead r e) = record { call = refl; plan = λ o. refl; next = tt; goes = λ t. inl tt; done = λ x. absurd x }
+  follows a k (retires_row m n) = record { call = refl; plan = λ o. absurd o; next = tt; goes = λ t. let x : true ≡ false = sym t ∙ n in cc; done = λ x. absurd x }
+  follows a k (retires_and_leaves m d) = record { call = refl; plan = λ o. absurd o; next = tt; goes = λ t. inr tt; done = λ x. d }
 
   -- the call goes on
   pub built_goes : (a : Activity) (k : Local) → Building z v choice l a k → BuiltGoes l k
@@ -209,6 +213,7 @@ module _ (z : Sizes) (v : Words) (choice : Choice) (l : Local) where
         row = ap (λ (x : Planned). x.row) e;
         lower = ap (λ (x : Planned). x.lower) e;
         after = ap (λ (x : Planned). x.after) e;
+        second = ap (λ (x : Planned). x.second) e;
         marks = ap (λ (x : Planned). x.marks) e;
         needed = ap (λ (x : Planned). x.needed) e;
         gathered = ap (λ (x : Planned). x.gathered) e;

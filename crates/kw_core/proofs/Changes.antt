@@ -33,7 +33,7 @@ pub data Makes (z : Sizes) (v : Words) (s : ℕ) (choice : Choice) (l : Local) (
   makes_announce : v (name.Pend l.row s) ≡ pend_word pend.Idle → Makes z v s choice l g o (Activity.Put Put.Announce) (Announces g.own)
   makes_stamp : v (name.Pend l.row s) ≡ pend_word (pend.Pending l.cell) → Makes z v s choice l g o (Activity.Put Put.Stamp) (Stamps g.own l.version g.loaded)
   makes_help : (p : ℕ) → v (name.Pend l.row l.looked) ≡ pend_word (pend.Pending l.saw) → o l.row l.saw ≡ Some p → Makes z v s choice l g o (Activity.Look Look.Help) (Stamps p l.helping g.loaded)
-  makes_lose : (i c p : ℕ) → l.rebalance.entry ≡ pend.Pending c → v (name.Pend l.row i) ≡ pend_word (pend.Pending c) → o l.row c ≡ Some p → Makes z v s choice l g o (Activity.Rebalance (Rebalance.Freeze (Freeze.Entry i))) (Loses p)
+  makes_lose : (i c p : ℕ) → l.rebalance.entry ≡ pend.Pending c → v (name.Pend l.rebalance.hand i) ≡ pend_word (pend.Pending c) → o l.rebalance.hand c ≡ Some p → Makes z v s choice l g o (Activity.Rebalance (Rebalance.Freeze (Freeze.Entry i))) (Loses p)
   makes_end : (answer : Answer) → Makes z v s choice l g o (Activity.Leave answer) (Ends g.call (reply_of answer l.pairs) (answering l.call l g) (drawing answer l g))
 
 -- every event makes one of these changes
@@ -69,19 +69,19 @@ made z v s choice l g o (Activity.Look Look.Help) = saw (v (name.Pend l.row l.lo
     saw : (b : Bool) → (v (name.Pend l.row l.looked) == pend_word (pend.Pending l.saw)) ≡ b → Makes z v s choice l g o (Activity.Look Look.Help) (if b then helping (o l.row l.saw) l.helping g.loaded else Nothing)
     saw true e = helps (o l.row l.saw) refl (eq_from _ _ e)
     saw false e = makes_nothing (Activity.Look Look.Help)
-made z v s choice l g o (Activity.Rebalance (Rebalance.Freeze (Freeze.Entry i))) = saw (v (name.Pend l.row i) == pend_word l.rebalance.entry) refl
+made z v s choice l g o (Activity.Rebalance (Rebalance.Freeze (Freeze.Entry i))) = saw (v (name.Pend l.rebalance.hand i) == pend_word l.rebalance.entry) refl
   where
-    loses : (c : ℕ) (x : Option ℕ) → l.rebalance.entry ≡ pend.Pending c → v (name.Pend l.row i) ≡ pend_word (pend.Pending c) → o l.row c ≡ x → Makes z v s choice l g o (Activity.Rebalance (Rebalance.Freeze (Freeze.Entry i))) (losing x)
+    loses : (c : ℕ) (x : Option ℕ) → l.rebalance.entry ≡ pend.Pending c → v (name.Pend l.rebalance.hand i) ≡ pend_word (pend.Pending c) → o l.rebalance.hand c ≡ x → Makes z v s choice l g o (Activity.Rebalance (Rebalance.Freeze (Freeze.Entry i))) (losing x)
     loses c (Some p) y w e = makes_lose i c p y w e
     loses c None y w e = makes_nothing (Activity.Rebalance (Rebalance.Freeze (Freeze.Entry i)))
 
-    freezes : (x : Pend) → l.rebalance.entry ≡ x → v (name.Pend l.row i) ≡ pend_word x → Makes z v s choice l g o (Activity.Rebalance (Rebalance.Freeze (Freeze.Entry i))) (freezing x l.row o)
+    freezes : (x : Pend) → l.rebalance.entry ≡ x → v (name.Pend l.rebalance.hand i) ≡ pend_word x → Makes z v s choice l g o (Activity.Rebalance (Rebalance.Freeze (Freeze.Entry i))) (freezing x l.rebalance.hand o)
     freezes pend.Idle y w = makes_nothing (Activity.Rebalance (Rebalance.Freeze (Freeze.Entry i)))
-    freezes (pend.Pending c) y w = loses c (o l.row c) y w refl
+    freezes (pend.Pending c) y w = loses c (o l.rebalance.hand c) y w refl
     freezes (pend.Stamped c version) y w = makes_nothing (Activity.Rebalance (Rebalance.Freeze (Freeze.Entry i)))
     freezes pend.Frozen y w = makes_nothing (Activity.Rebalance (Rebalance.Freeze (Freeze.Entry i)))
 
-    saw : (b : Bool) → (v (name.Pend l.row i) == pend_word l.rebalance.entry) ≡ b → Makes z v s choice l g o (Activity.Rebalance (Rebalance.Freeze (Freeze.Entry i))) (if b then freezing l.rebalance.entry l.row o else Nothing)
+    saw : (b : Bool) → (v (name.Pend l.rebalance.hand i) == pend_word l.rebalance.entry) ≡ b → Makes z v s choice l g o (Activity.Rebalance (Rebalance.Freeze (Freeze.Entry i))) (if b then freezing l.rebalance.entry l.rebalance.hand o else Nothing)
     saw true e = freezes l.rebalance.entry refl (eq_from _ _ e)
     saw false e = makes_nothing (Activity.Rebalance (Rebalance.Freeze (Freeze.Entry i)))
 made z v s choice l g o (Activity.Leave answer) = makes_end answer

@@ -84,12 +84,12 @@ module _ {z : Sizes} {r r' : Run} {s : ℕ} {choice : Choice} {l l' : Local} whe
   -- written there
   pub origin_stays : (a : Activity) → Happens z r r' s choice l l' a → (q c : ℕ) → (ChangesOrigin a l q c → ⊥) → r'.origin q c ≡ r.origin q c
   origin_stays (Activity.Put Put.Add) h q c n = ap (λ (o : Origins). o q c) h.origin ∙ given_other (has_room z (count_of (word z r.world (name.Count l.row)))) r.origin l.row (given_of (count_of (word z r.world (name.Count l.row)))) (length r.history.attempts) q c n
-  origin_stays (Activity.Rebalance (Rebalance.Write (Write.Version j))) h q c n = ap (λ (o : Origins). o q c) h.origin ∙ copy_other r.origin (infant l) j (copied r.origin l.row (slice_get (infant_cells l) j)) q c n
+  origin_stays (Activity.Rebalance (Rebalance.Write (Write.Version j))) h q c n = ap (λ (o : Origins). o q c) h.origin ∙ copy_other r.origin (infant l) j (copied z r.origin l (slice_get (infant_cells l) j)) q c n
   origin_stays a h q c n = ap (λ (o : Origins). o q c) h.origin
 
   -- a copy stands for the attempt of the cell at which it was gathered
-  pub origin_copied : (j : ℕ) → Happens z r r' s choice l l' (Activity.Rebalance (Rebalance.Write (Write.Version j))) → r'.origin (infant l) j ≡ copied r.origin l.row (slice_get (infant_cells l) j)
-  origin_copied j h = ap (λ (o : Origins). o (infant l) j) h.origin ∙ copy_here r.origin (infant l) j (copied r.origin l.row (slice_get (infant_cells l) j))
+  pub origin_copied : (j : ℕ) → Happens z r r' s choice l l' (Activity.Rebalance (Rebalance.Write (Write.Version j))) → r'.origin (infant l) j ≡ copied z r.origin l (slice_get (infant_cells l) j)
+  origin_copied j h = ap (λ (o : Origins). o (infant l) j) h.origin ∙ copy_here r.origin (infant l) j (copied z r.origin l (slice_get (infant_cells l) j))
 
   -- a cell is listed or not as before, unless it is inserted, or its row is written
   pub listed_stays : (a : Activity) → Happens z r r' s choice l l' a → (q c : ℕ) → (ChangesListed a l q c → ⊥) → r'.listed q c ≡ r.listed q c

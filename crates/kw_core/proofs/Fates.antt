@@ -1,5 +1,5 @@
 -- What an event leaves of the ledger: which fates change, by which activities, and to what.
-use Rattle.std.proofs.Common.{ℕ, ◌≡◌, ◌≢◌, ◌⊎◌, inl, inr, ◌==◌, true, false, Some, None, List, [], ◌∷◌, refl, ◌∙◌, ap, length, if◌then◌else◌}
+use Rattle.std.proofs.Common.{ℕ, ◌≡◌, ◌≢◌, ◌⊎◌, inl, inr, ◌==◌, Bool, true, false, Some, None, List, [], ◌∷◌, refl, ◌∙◌, ap, length, if◌then◌else◌}
 use Rattle.std.proofs.lemmas.Bool.{cases_eq}
 use Rattle.kw_words.specs.declared.layout.Name.TheVariants as name
 use Rattle.kw_words.specs.declared.state.State.TheVariants as state
@@ -20,7 +20,7 @@ use Rattle.kw_world.specs.SeekTransitions.{infant}
 use Rattle.kw_world.specs.Sizes.{Sizes}
 use Rattle.kw_world.specs.Step.{word}
 use Rattle.kw_world.specs.WriteTransitions.{unmarked_link}
-use Rattle.kw_core.specs.Ledger.{Ledger, fate_dead, fate_free, fate_live, fate_taken, is_among, ledger_after, with_fate, with_replaced}
+use Rattle.kw_core.specs.Ledger.{Ledger, fate_dead, fate_free, fate_live, fate_taken, group_of, is_among, ledger_after, with_fate, with_replaced}
 use Rattle.kw_core.specs.Run.{Run}
 use Rattle.kw_core.specs.Words.{Words}
 use Rattle.kw_core.proofs.Frame.{WritesPass}
@@ -45,7 +45,7 @@ abbrev pub ChangesFate : Activity → Local → ℕ → Type 0
 ChangesFate (Activity.Rebalance (Rebalance.Seek Seek.Reclaim)) l q = q ≡ l.rebalance.sought
 ChangesFate (Activity.Rebalance (Rebalance.Seek Seek.Take)) l q = q ≡ l.rebalance.sought
 ChangesFate (Activity.Rebalance (Rebalance.Seek Seek.GiveBack)) l q = q ≡ infant l
-ChangesFate (Activity.Rebalance (Rebalance.Replace Replace.Exchange)) l q = (q ≡ l.row) ⊎ IsIn l.rebalance.taken q
+ChangesFate (Activity.Rebalance (Rebalance.Replace Replace.Exchange)) l q = IsIn (group_of l) q ⊎ IsIn l.rebalance.taken q
 ChangesFate _ l q = ⊥
 
 -- it draws a number
@@ -61,9 +61,14 @@ either x y f p q a e d = which (cases_eq x y)
     which (inl k) = ap f (chosen x y p q k) ∙ e
     which (inr k) = ap f (not_chosen x y p q k) ∙ d
 
--- a row that is neither the full one nor one of those that the seat took keeps its fate
-replaced_fate : (v : Words) (s now : ℕ) (l : Local) (g : kw_rows.Ledger) (q : ℕ) → (q ≡ l.row → ⊥) → (IsIn l.rebalance.taken q → ⊥) → (with_replaced v s now l g).fates q ≡ g.fates q
-replaced_fate v s now l g q d n = not_chosen q l.row _ _ d ∙ ap (λ b. let x : kw_rows.Fate = if b then fate_live v now q (g.fates q) else g.fates q in x) (is_out l.rebalance.taken q n)
+-- the fate of a row, by whether it is one of the group, and of those that the seat took
+replaced_as : (v : Words) (s now : ℕ) (l : Local) (g : kw_rows.Ledger) (q : ℕ) (b c : Bool) → is_among (group_of l) q ≡ b → is_among l.rebalance.taken q ≡ c →
+    (with_replaced v s now l g).fates q ≡ (let x : kw_rows.Fate = if b then fate_dead s now (g.fates q) else if c then fate_live v now q (g.fates q) else g.fates q in x)
+replaced_as v s now l g q b c e f = rw (e, f) refl
+
+-- a row that is neither one of the group nor one of those that the seat took keeps its fate
+replaced_fate : (v : Words) (s now : ℕ) (l : Local) (g : kw_rows.Ledger) (q : ℕ) → (IsIn (group_of l) q → ⊥) → (IsIn l.rebalance.taken q → ⊥) → (with_replaced v s now l g).fates q ≡ g.fates q
+replaced_fate v s now l g q d n = replaced_as v s now l g q false false (is_out (group_of l) q d) (is_out l.rebalance.taken q n)
 
 module _ {z : Sizes} {r r' : Run} {s : ℕ} {choice : Choice} {l l' : Local} where
   -- What stays.
@@ -142,16 +147,14 @@ module _ {z : Sizes} {r r' : Run} {s : ℕ} {choice : Choice} {l l' : Local} whe
   pub fate_of_given : Happens z r r' s choice l l' (Activity.Rebalance (Rebalance.Seek Seek.GiveBack)) → r'.ledger.rows.fates (infant l) ≡ fate_free (r.ledger.rows.fates (infant l))
   fate_of_given h = ap (λ (g : Ledger). g.rows.fates (infant l)) h.ledger ∙ chosen (infant l) (infant l) _ (r.ledger.rows.fates (infant l)) refl
 
-  -- where the seat finds the unmarked link to its full row, that row is dead
-  pub fate_of_full : Happens z r r' s choice l l' (Activity.Rebalance (Rebalance.Replace Replace.Exchange)) → word z r.world (replaced_link l.rebalance.before) ≡ link_word (unmarked_link (Some l.row)) → r'.ledger.rows.fates l.row ≡ fate_dead s (length r.history.log) (r.ledger.rows.fates l.row)
-  fate_of_full h e = ap (λ (g : Ledger). g.rows.fates l.row) (h.ledger ∙ chosen _ _ _ r.ledger e) ∙ chosen l.row l.row _ _ refl
+  -- where the seat finds the unmarked link to its full row, each row of the group is dead
+  pub fate_of_full : Happens z r r' s choice l l' (Activity.Rebalance (Rebalance.Replace Replace.Exchange)) → word z r.world (replaced_link l.rebalance.before) ≡ link_word (unmarked_link (Some l.row)) → (q : ℕ) → IsIn (group_of l) q → r'.ledger.rows.fates q ≡ fate_dead s (length r.history.log) (r.ledger.rows.fates q)
+  fate_of_full h e q i = ap (λ (g : Ledger). g.rows.fates q) (h.ledger ∙ chosen _ _ _ r.ledger e) ∙ replaced_as (word z r.world) s (length r.history.log) l r.ledger.rows q true (is_among l.rebalance.taken q) (is_in (group_of l) q i) refl
 
   -- and each row that it took is live
-  pub fate_of_new : Happens z r r' s choice l l' (Activity.Rebalance (Rebalance.Replace Replace.Exchange)) → word z r.world (replaced_link l.rebalance.before) ≡ link_word (unmarked_link (Some l.row)) → (q : ℕ) → IsIn l.rebalance.taken q → q ≢ l.row →
+  pub fate_of_new : Happens z r r' s choice l l' (Activity.Rebalance (Rebalance.Replace Replace.Exchange)) → word z r.world (replaced_link l.rebalance.before) ≡ link_word (unmarked_link (Some l.row)) → (q : ℕ) → IsIn l.rebalance.taken q → (IsIn (group_of l) q → ⊥) →
       r'.ledger.rows.fates q ≡ fate_live (word z r.world) (length r.history.log) q (r.ledger.rows.fates q)
-  fate_of_new h e q i d =
-      ap (λ (g : Ledger). g.rows.fates q) (h.ledger ∙ chosen _ _ _ r.ledger e) ∙ not_chosen q l.row _ _ d ∙
-      ap (λ b. let x : kw_rows.Fate = if b then fate_live (word z r.world) (length r.history.log) q (r.ledger.rows.fates q) else r.ledger.rows.fates q in x) (is_in l.rebalance.taken q i)
+  fate_of_new h e q i d = ap (λ (g : Ledger). g.rows.fates q) (h.ledger ∙ chosen _ _ _ r.ledger e) ∙ replaced_as (word z r.world) s (length r.history.log) l r.ledger.rows q false true (is_out (group_of l) q d) (is_in l.rebalance.taken q i)
 
   -- where it does not, nothing comes of it
   pub none_replaced : Happens z r r' s choice l l' (Activity.Rebalance (Rebalance.Replace Replace.Exchange)) → word z r.world (replaced_link l.rebalance.before) ≢ link_word (unmarked_link (Some l.row)) → r'.ledger ≡ r.ledger

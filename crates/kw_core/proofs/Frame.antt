@@ -12,9 +12,11 @@ use Rattle.kw_words.specs.Count.{count_of}
 use Rattle.kw_words.proofs.CountWords.{count_of_next}
 use Rattle.kw_world.specs.declared.activity.Activity.{Activity}
 use Rattle.kw_world.specs.declared.activity.draw.Draw.TheVariants as Draw
+use Rattle.kw_world.specs.declared.activity.rebalance.claim.Claim.TheVariants as Claim
 use Rattle.kw_world.specs.declared.activity.rebalance.engage.Engage.TheVariants as Engage
 use Rattle.kw_world.specs.declared.activity.enter.Enter.TheVariants as Enter
 use Rattle.kw_world.specs.declared.activity.rebalance.freeze.Freeze.TheVariants as Freeze
+use Rattle.kw_world.specs.declared.activity.rebalance.left.Left.TheVariants as Left
 use Rattle.kw_world.specs.declared.activity.insert.Insert.TheVariants as Insert
 use Rattle.kw_world.specs.declared.activity.look.Look.TheVariants as Look
 use Rattle.kw_world.specs.declared.activity.put.Put.TheVariants as Put
@@ -36,6 +38,8 @@ use Rattle.kw_world.specs.PutTransitions.{given_of}
 use Rattle.kw_world.specs.ListTransitions.{link_name, cell_guess, first_operation}
 use Rattle.kw_world.specs.WalkTransitions.{start_transition, walk_transition, is_stopped}
 use Rattle.kw_world.specs.SeekTransitions.{infant, seek_first_transition}
+use Rattle.kw_world.specs.ClaimTransitions.{row_after}
+use Rattle.kw_world.specs.LeftTransitions.{left_transition}
 use Rattle.kw_world.specs.ReplaceTransitions.{before_transition, replaced_link}
 use Rattle.kw_world.specs.Sane.{IsGiven}
 use Rattle.kw_world.specs.Step.{word}
@@ -76,8 +80,11 @@ writes (Activity.Rebalance (Rebalance.Engage (Engage.Normal seat))) s b l = Some
 writes (Activity.Rebalance (Rebalance.Engage Engage.Lead)) s b l = Some (name.State l.row)
 writes (Activity.Rebalance (Rebalance.Engage (Engage.MarkLink count))) s b l = Some (name.Next l.row)
 writes (Activity.Rebalance (Rebalance.Engage (Engage.Decide count))) s b l = Some (name.State l.row)
-writes (Activity.Rebalance (Rebalance.Freeze Freeze.Count)) s b l = Some (name.Count l.row)
-writes (Activity.Rebalance (Rebalance.Freeze (Freeze.Entry i))) s b l = Some (name.Pend l.row i)
+writes (Activity.Rebalance (Rebalance.Claim Claim.Exchange)) s b l = Some (name.State (row_after l))
+writes (Activity.Rebalance (Rebalance.Claim (Claim.Normal seat))) s b l = Some (name.State (row_after l))
+writes (Activity.Rebalance (Rebalance.Claim Claim.MarkLink)) s b l = Some (name.Next (row_after l))
+writes (Activity.Rebalance (Rebalance.Freeze Freeze.Count)) s b l = Some (name.Count l.rebalance.hand)
+writes (Activity.Rebalance (Rebalance.Freeze (Freeze.Entry i))) s b l = Some (name.Pend l.rebalance.hand i)
 writes (Activity.Rebalance (Rebalance.Freeze (Freeze.Draw i))) s b l = Some name.Clock
 writes (Activity.Rebalance (Rebalance.Freeze (Freeze.Settle i))) s b l = Some (name.Scan i)
 writes (Activity.Rebalance (Rebalance.Seek Seek.Reclaim)) s b l = Some (name.State l.rebalance.sought)
@@ -95,7 +102,7 @@ writes (Activity.Rebalance (Rebalance.Write (Write.After j))) s b l = Some (name
 writes (Activity.Rebalance (Rebalance.Replace Replace.Exchange)) s b l = Some (replaced_link l.rebalance.before)
 writes (Activity.Rebalance (Rebalance.Replace Replace.Normalise)) s b l = Some (name.State (infant l))
 writes (Activity.Rebalance (Rebalance.Replace Replace.Number)) s b l = Some name.Epoch
-writes (Activity.Rebalance (Rebalance.Replace Replace.Retire)) s b l = Some (name.State l.row)
+writes (Activity.Rebalance (Rebalance.Replace Replace.Retire)) s b l = Some (name.State l.rebalance.hand)
 writes _ s b l = None
 
 -- the word that an action on this word writes; none where it loads
@@ -136,6 +143,13 @@ written_is z (Activity.Rebalance (Rebalance.Replace Replace.Start)) s choice l =
     begins Go = refl
     begins (Guess q) = refl
     begins Stop = refl
+written_is z (Activity.Rebalance (Rebalance.Left Left.Start)) s choice l = begins choice
+  where
+    begins : (c : Choice) → written_by (left_transition c l).operation.action (left_transition c l).operation.name ≡ None
+    begins (Begin call) = refl
+    begins Go = refl
+    begins (Guess q) = refl
+    begins Stop = refl
 written_is z (Activity.Read Read.Start) s choice l = first_writes (cell_guess choice l) l
 written_is z (Activity.Insert Insert.Start) s choice l = first_writes (cell_guess choice l) l
 written_is z (Activity.Enter Enter.Announce) s choice l = refl
@@ -145,6 +159,7 @@ written_is z (Activity.Read Read.Link) s choice l = refl
 written_is z (Activity.Put Put.Count) s choice l = refl
 written_is z (Activity.Insert Insert.Link) s choice l = refl
 written_is z (Activity.Rebalance (Rebalance.Engage Engage.Clock)) s choice l = refl
+written_is z (Activity.Rebalance (Rebalance.Claim Claim.Count)) s choice l = refl
 written_is z (Activity.Rebalance (Rebalance.Freeze Freeze.Count)) s choice l = refl
 written_is z (Activity.Rebalance (Rebalance.Gather Gather.Link)) s choice l = refl
 written_is z (Activity.Rebalance (Rebalance.Write Write.Count)) s choice l = refl
@@ -236,6 +251,7 @@ not_pass (Activity.Look Look.Key) s b l t f e = cc
 not_pass (Activity.Read Read.Link) s b l t f e = cc
 not_pass (Activity.Put Put.Count) s b l t f e = cc
 not_pass (Activity.Rebalance (Rebalance.Engage Engage.Clock)) s b l t f e = cc
+not_pass (Activity.Rebalance (Rebalance.Claim Claim.Count)) s b l t f e = cc
 not_pass (Activity.Rebalance (Rebalance.Freeze Freeze.Count)) s b l t f e = cc
 not_pass (Activity.Rebalance (Rebalance.Gather Gather.Link)) s b l t f e = cc
 not_pass (Activity.Rebalance (Rebalance.Seek Seek.Next)) s b l t f e = cc

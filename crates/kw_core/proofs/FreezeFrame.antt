@@ -26,6 +26,7 @@ use Rattle.kw_world.specs.declared.activity.rebalance.Rebalance.TheVariants as R
 use Rattle.kw_world.specs.declared.activity.rebalance.replace.Replace.TheVariants as Replace
 use Rattle.kw_world.specs.declared.activity.walk.Walk.TheVariants as Walk
 use Rattle.kw_world.specs.declared.activity.enter.Enter.TheVariants as Enter
+use Rattle.kw_world.specs.declared.activity.rebalance.claim.Claim.TheVariants as Claim
 use Rattle.kw_world.specs.declared.activity.rebalance.engage.Engage.TheVariants as Engage
 use Rattle.kw_world.specs.declared.activity.rebalance.gather.Gather.TheVariants as Gather
 use Rattle.kw_world.specs.declared.activity.read.Read.TheVariants as Read
@@ -81,6 +82,7 @@ no_clock (Activity.Look Look.Key) s b l f e = cc
 no_clock (Activity.Read Read.Link) s b l f e = cc
 no_clock (Activity.Put Put.Count) s b l f e = cc
 no_clock (Activity.Rebalance (Rebalance.Engage Engage.Clock)) s b l f e = cc
+no_clock (Activity.Rebalance (Rebalance.Claim Claim.Count)) s b l f e = cc
 no_clock (Activity.Rebalance (Rebalance.Gather Gather.Link)) s b l f e = cc
 no_clock (Activity.Rebalance (Rebalance.Seek Seek.Next)) s b l f e = cc
 no_clock (Activity.Rebalance (Rebalance.Write Write.Count)) s b l f e = cc
@@ -101,6 +103,7 @@ no_scan (Activity.Look Look.Key) s b l t d f e = cc
 no_scan (Activity.Read Read.Link) s b l t d f e = cc
 no_scan (Activity.Put Put.Count) s b l t d f e = cc
 no_scan (Activity.Rebalance (Rebalance.Engage Engage.Clock)) s b l t d f e = cc
+no_scan (Activity.Rebalance (Rebalance.Claim Claim.Count)) s b l t d f e = cc
 no_scan (Activity.Rebalance (Rebalance.Gather Gather.Link)) s b l t d f e = cc
 no_scan (Activity.Rebalance (Rebalance.Seek Seek.Next)) s b l t d f e = cc
 no_scan (Activity.Rebalance (Rebalance.Write Write.Count)) s b l t d f e = cc
@@ -157,19 +160,19 @@ module _ {z : Sizes} {r r' : Run} {s : ℕ} {choice : Choice} {l l' : Local} whe
 
   -- and where it freezes its row
   pub count_frozen_now : Happens z r r' s choice l l' (Activity.Rebalance (Rebalance.Freeze Freeze.Count)) → (q : ℕ) → q < r.world.rows → IsGiven (count_of (word z r.world (name.Count q))) → CountStep (word z r.world) (word z r'.world) q
-  count_frozen_now h q i g = which (cases_eq q l.row)
+  count_frozen_now h q i g = which (cases_eq q l.rebalance.hand)
     where
-      frozen : (x : Option Counted) → count_of (word z r.world (name.Count l.row)) ≡ x → IsGiven x → CountStep (word z r.world) (word z r'.world) l.row
-      frozen (Some c) e y = count_frozen c e (ap count_of h.changed.same ∙ count_of_frozen (word z r.world (name.Count l.row)) c e)
+      frozen : (x : Option Counted) → count_of (word z r.world (name.Count l.rebalance.hand)) ≡ x → IsGiven x → CountStep (word z r.world) (word z r'.world) l.rebalance.hand
+      frozen (Some c) e y = count_frozen c e (ap count_of h.changed.same ∙ count_of_frozen (word z r.world (name.Count l.rebalance.hand)) c e)
       frozen None e y = absurd y
 
-      which : (q ≡ l.row) ⊎ (q ≡ l.row → ⊥) → CountStep (word z r.world) (word z r'.world) q
+      which : (q ≡ l.rebalance.hand) ⊎ (q ≡ l.rebalance.hand → ⊥) → CountStep (word z r.world) (word z r'.world) q
       which (inl e) = subst (CountStep (word z r.world) (word z r'.world)) (sym e) (frozen _ refl (subst (λ x. IsGiven (count_of (word z r.world (name.Count x)))) e g))
       which (inr d) = count_same (count_stays (Activity.Rebalance (Rebalance.Freeze Freeze.Count)) h q i d)
 
   -- the count that a seat freezes is frozen, and as many cells were asked for as before
-  pub freezes_given : Happens z r r' s choice l l' (Activity.Rebalance (Rebalance.Freeze Freeze.Count)) → (c : Counted) → count_of (word z r.world (name.Count l.row)) ≡ Some c → count_of (word z r'.world (name.Count l.row)) ≡ Some (record c { frozen = true })
-  freezes_given h c e = ap count_of h.changed.same ∙ count_of_frozen (word z r.world (name.Count l.row)) c e
+  pub freezes_given : Happens z r r' s choice l l' (Activity.Rebalance (Rebalance.Freeze Freeze.Count)) → (c : Counted) → count_of (word z r.world (name.Count l.rebalance.hand)) ≡ Some c → count_of (word z r'.world (name.Count l.rebalance.hand)) ≡ Some (record c { frozen = true })
+  freezes_given h c e = ap count_of h.changed.same ∙ count_of_frozen (word z r.world (name.Count l.rebalance.hand)) c e
 
   -- the clock does not fall
   pub clock_never_falls : (a : Activity) → Happens z r r' s choice l l' a → word z r.world name.Clock ≤ word z r'.world name.Clock
@@ -184,15 +187,15 @@ module _ {z : Sizes} {r r' : Run} {s : ℕ} {choice : Choice} {l l' : Local} whe
   -- Entries.
 
   -- an entry that is what the seat found there is frozen
-  pub entry_frozen : (i : ℕ) → Happens z r r' s choice l l' (Activity.Rebalance (Rebalance.Freeze (Freeze.Entry i))) → word z r.world (name.Pend l.row i) ≡ pend_word l.rebalance.entry → word z r'.world (name.Pend l.row i) ≡ pend_word pend.Frozen
+  pub entry_frozen : (i : ℕ) → Happens z r r' s choice l l' (Activity.Rebalance (Rebalance.Freeze (Freeze.Entry i))) → word z r.world (name.Pend l.rebalance.hand i) ≡ pend_word l.rebalance.entry → word z r'.world (name.Pend l.rebalance.hand i) ≡ pend_word pend.Frozen
   entry_frozen i h e = exchanged _ _ _ _ h.changed.same e
 
   -- and reads so
-  pub reads_frozen : (i : ℕ) → Happens z r r' s choice l l' (Activity.Rebalance (Rebalance.Freeze (Freeze.Entry i))) → word z r.world (name.Pend l.row i) ≡ pend_word l.rebalance.entry → pend_of (word z r'.world (name.Pend l.row i)) ≡ Some pend.Frozen
+  pub reads_frozen : (i : ℕ) → Happens z r r' s choice l l' (Activity.Rebalance (Rebalance.Freeze (Freeze.Entry i))) → word z r.world (name.Pend l.rebalance.hand i) ≡ pend_word l.rebalance.entry → pend_of (word z r'.world (name.Pend l.rebalance.hand i)) ≡ Some pend.Frozen
   reads_frozen i h e = ap pend_of (entry_frozen i h e) ∙ pend_of-Frozen
 
   -- any other entry stays as it is
-  pub entry_left : (i : ℕ) → Happens z r r' s choice l l' (Activity.Rebalance (Rebalance.Freeze (Freeze.Entry i))) → word z r.world (name.Pend l.row i) ≢ pend_word l.rebalance.entry → word z r'.world (name.Pend l.row i) ≡ word z r.world (name.Pend l.row i)
+  pub entry_left : (i : ℕ) → Happens z r r' s choice l l' (Activity.Rebalance (Rebalance.Freeze (Freeze.Entry i))) → word z r.world (name.Pend l.rebalance.hand i) ≢ pend_word l.rebalance.entry → word z r'.world (name.Pend l.rebalance.hand i) ≡ word z r.world (name.Pend l.rebalance.hand i)
   entry_left i h d = not_exchanged _ _ _ _ h.changed.same d
 
   -- Scans.
@@ -240,9 +243,9 @@ module _ {z : Sizes} {r r' : Run} {s : ℕ} {choice : Choice} {l l' : Local} whe
       frozen_at (word z r.world) (word z r'.world) l.row s q t (λ y. not_exchanged _ _ _ _ h.changed.same (λ u. not_pending l.cell (sym y ∙ u)) ∙ y) (λ d. entry_stays (Activity.Put Put.Stamp) h q t i o (λ c. d c.0 c.1)) e
   frozen_entry_lasts (Activity.Look Look.Help) x h q t i o e =
       frozen_at (word z r.world) (word z r'.world) l.row l.looked q t (λ y. not_exchanged _ _ _ _ h.changed.same (λ u. not_pending l.saw (sym y ∙ u)) ∙ y) (λ d. entry_stays (Activity.Look Look.Help) h q t i o (λ c. d c.0 c.1)) e
-  frozen_entry_lasts (Activity.Rebalance (Rebalance.Freeze (Freeze.Entry j))) x h q t i o e = frozen_at (word z r.world) (word z r'.world) l.row j q t (here (cases_eq _ _)) (λ d. entry_stays (Activity.Rebalance (Rebalance.Freeze (Freeze.Entry j))) h q t i o (λ c. d c.0 c.1)) e
+  frozen_entry_lasts (Activity.Rebalance (Rebalance.Freeze (Freeze.Entry j))) x h q t i o e = frozen_at (word z r.world) (word z r'.world) l.rebalance.hand j q t (here (cases_eq _ _)) (λ d. entry_stays (Activity.Rebalance (Rebalance.Freeze (Freeze.Entry j))) h q t i o (λ c. d c.0 c.1)) e
     where
-      here : (word z r.world (name.Pend l.row j) ≡ pend_word l.rebalance.entry) ⊎ (word z r.world (name.Pend l.row j) ≡ pend_word l.rebalance.entry → ⊥) → word z r.world (name.Pend l.row j) ≡ pend_word pend.Frozen → word z r'.world (name.Pend l.row j) ≡ pend_word pend.Frozen
+      here : (word z r.world (name.Pend l.rebalance.hand j) ≡ pend_word l.rebalance.entry) ⊎ (word z r.world (name.Pend l.rebalance.hand j) ≡ pend_word l.rebalance.entry → ⊥) → word z r.world (name.Pend l.rebalance.hand j) ≡ pend_word pend.Frozen → word z r'.world (name.Pend l.rebalance.hand j) ≡ pend_word pend.Frozen
       here (inl y) w = entry_frozen j h y
       here (inr d) w = entry_left j h d ∙ w
   frozen_entry_lasts _ x h q t i o e = absurd x

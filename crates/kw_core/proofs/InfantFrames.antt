@@ -21,6 +21,7 @@ use Rattle.kw_words.proofs.LinkWords.{link_of-link_word, link_word_of}
 use Rattle.kw_cells.specs.Cells.{value_in}
 use Rattle.kw_world.specs.declared.activity.Activity.{Activity}
 use Rattle.kw_world.specs.declared.activity.draw.Draw.TheVariants as Draw
+use Rattle.kw_world.specs.declared.activity.rebalance.claim.Claim.TheVariants as Claim
 use Rattle.kw_world.specs.declared.activity.rebalance.engage.Engage.TheVariants as Engage
 use Rattle.kw_world.specs.declared.activity.enter.Enter.TheVariants as Enter
 use Rattle.kw_world.specs.declared.activity.rebalance.freeze.Freeze.TheVariants as Freeze
@@ -37,6 +38,7 @@ use Rattle.kw_world.specs.declared.activity.read.Read.TheVariants as Read
 use Rattle.kw_world.specs.declared.event.Choice.{Choice}
 use Rattle.kw_world.specs.declared.local.Local.{Local}
 use Rattle.kw_world.specs.ListTransitions.{link_name}
+use Rattle.kw_world.specs.ClaimTransitions.{row_after}
 use Rattle.kw_world.specs.ReplaceTransitions.{first_infant, replaced_link}
 use Rattle.kw_world.specs.Sane.{IsCellBelow}
 use Rattle.kw_world.specs.SeekTransitions.{infant}
@@ -70,13 +72,15 @@ ChangesState (Activity.Rebalance (Rebalance.Seek Seek.Reclaim)) s l q = q ≡ l.
 ChangesState (Activity.Rebalance (Rebalance.Seek Seek.Take)) s l q = q ≡ l.rebalance.sought
 ChangesState (Activity.Rebalance (Rebalance.Seek Seek.GiveBack)) s l q = q ≡ infant l
 ChangesState (Activity.Rebalance (Rebalance.Replace Replace.Normalise)) s l q = q ≡ infant l
-ChangesState (Activity.Rebalance (Rebalance.Replace Replace.Retire)) s l q = q ≡ l.row
+ChangesState (Activity.Rebalance (Rebalance.Replace Replace.Retire)) s l q = q ≡ l.rebalance.hand
+ChangesState (Activity.Rebalance (Rebalance.Claim Claim.Exchange)) s l q = q ≡ row_after l
+ChangesState (Activity.Rebalance (Rebalance.Claim (Claim.Normal seat))) s l q = q ≡ row_after l
 ChangesState _ s l q = ⊥
 
 -- its count
 abbrev pub ChangesCount : Activity → ℕ → Local → ℕ → Type 0
 ChangesCount (Activity.Put Put.Add) s l q = q ≡ l.row
-ChangesCount (Activity.Rebalance (Rebalance.Freeze Freeze.Count)) s l q = q ≡ l.row
+ChangesCount (Activity.Rebalance (Rebalance.Freeze Freeze.Count)) s l q = q ≡ l.rebalance.hand
 ChangesCount (Activity.Rebalance (Rebalance.Write Write.Count)) s l q = q ≡ infant l
 ChangesCount _ s l q = ⊥
 
@@ -88,6 +92,7 @@ ChangesLeast _ s l q = ⊥
 -- its link to the next row
 abbrev pub ChangesNext : Activity → ℕ → Local → ℕ → Type 0
 ChangesNext (Activity.Rebalance (Rebalance.Engage (Engage.MarkLink count))) s l q = q ≡ l.row
+ChangesNext (Activity.Rebalance (Rebalance.Claim Claim.MarkLink)) s l q = q ≡ row_after l
 ChangesNext (Activity.Rebalance (Rebalance.Write Write.Next)) s l q = q ≡ infant l
 ChangesNext (Activity.Rebalance (Rebalance.Replace Replace.Exchange)) s l q = l.rebalance.before ≡ Some q
 ChangesNext _ s l q = ⊥
@@ -98,7 +103,7 @@ ChangesEntry (Activity.Look Look.Help) s l q t = (q ≡ l.row) × (t ≡ l.looke
 ChangesEntry (Activity.Put Put.Announce) s l q t = (q ≡ l.row) × (t ≡ s)
 ChangesEntry (Activity.Put Put.Stamp) s l q t = (q ≡ l.row) × (t ≡ s)
 ChangesEntry (Activity.Put Put.Clear) s l q t = (q ≡ l.row) × (t ≡ s)
-ChangesEntry (Activity.Rebalance (Rebalance.Freeze (Freeze.Entry i))) s l q t = (q ≡ l.row) × (t ≡ i)
+ChangesEntry (Activity.Rebalance (Rebalance.Freeze (Freeze.Entry i))) s l q t = (q ≡ l.rebalance.hand) × (t ≡ i)
 ChangesEntry (Activity.Rebalance (Rebalance.Write (Write.Entry i))) s l q t = (q ≡ infant l) × (t ≡ i)
 ChangesEntry _ s l q t = ⊥
 
@@ -183,6 +188,7 @@ not_head (Activity.Look Look.Key) s b l f e = cc
 not_head (Activity.Read Read.Link) s b l f e = cc
 not_head (Activity.Put Put.Count) s b l f e = cc
 not_head (Activity.Rebalance (Rebalance.Engage Engage.Clock)) s b l f e = cc
+not_head (Activity.Rebalance (Rebalance.Claim Claim.Count)) s b l f e = cc
 not_head (Activity.Rebalance (Rebalance.Freeze Freeze.Count)) s b l f e = cc
 not_head (Activity.Rebalance (Rebalance.Gather Gather.Link)) s b l f e = cc
 not_head (Activity.Rebalance (Rebalance.Seek Seek.Next)) s b l f e = cc
@@ -201,6 +207,7 @@ not_epoch (Activity.Look Look.Key) s b l f e = cc
 not_epoch (Activity.Read Read.Link) s b l f e = cc
 not_epoch (Activity.Put Put.Count) s b l f e = cc
 not_epoch (Activity.Rebalance (Rebalance.Engage Engage.Clock)) s b l f e = cc
+not_epoch (Activity.Rebalance (Rebalance.Claim Claim.Count)) s b l f e = cc
 not_epoch (Activity.Rebalance (Rebalance.Freeze Freeze.Count)) s b l f e = cc
 not_epoch (Activity.Rebalance (Rebalance.Gather Gather.Link)) s b l f e = cc
 not_epoch (Activity.Rebalance (Rebalance.Seek Seek.Next)) s b l f e = cc
@@ -215,7 +222,9 @@ not_state (Activity.Rebalance (Rebalance.Seek Seek.Reclaim)) s b l q f e = f (sa
 not_state (Activity.Rebalance (Rebalance.Seek Seek.Take)) s b l q f e = f (same_state l.rebalance.sought q e)
 not_state (Activity.Rebalance (Rebalance.Seek Seek.GiveBack)) s b l q f e = f (same_state (infant l) q e)
 not_state (Activity.Rebalance (Rebalance.Replace Replace.Normalise)) s b l q f e = f (same_state (infant l) q e)
-not_state (Activity.Rebalance (Rebalance.Replace Replace.Retire)) s b l q f e = f (same_state l.row q e)
+not_state (Activity.Rebalance (Rebalance.Replace Replace.Retire)) s b l q f e = f (same_state l.rebalance.hand q e)
+not_state (Activity.Rebalance (Rebalance.Claim Claim.Exchange)) s b l q f e = f (same_state (row_after l) q e)
+not_state (Activity.Rebalance (Rebalance.Claim (Claim.Normal seat))) s b l q f e = f (same_state (row_after l) q e)
 not_state (Activity.Rebalance (Rebalance.Replace Replace.Exchange)) s b l q f e = no_replaced l.rebalance.before (name.State q) refl e
 not_state (Activity.Insert Insert.Exchange) s b l q f e = no_link l.row l.link (name.State q) refl e
 not_state (Activity.Walk Walk.Next) s true l q f e = let x : Some (name.Scan s) ≡ Some (name.State q) = e in cc
@@ -232,7 +241,7 @@ not_state _ s b l q f e = cc
 
 not_count : (a : Activity) (s : ℕ) (b : Bool) (l : Local) (q : ℕ) → (ChangesCount a s l q → ⊥) → writes a s b l ≢ Some (name.Count q)
 not_count (Activity.Put Put.Add) s b l q f e = f (same_count l.row q e)
-not_count (Activity.Rebalance (Rebalance.Freeze Freeze.Count)) s b l q f e = f (same_count l.row q e)
+not_count (Activity.Rebalance (Rebalance.Freeze Freeze.Count)) s b l q f e = f (same_count l.rebalance.hand q e)
 not_count (Activity.Rebalance (Rebalance.Write Write.Count)) s b l q f e = f (same_count (infant l) q e)
 not_count (Activity.Rebalance (Rebalance.Replace Replace.Exchange)) s b l q f e = no_replaced l.rebalance.before (name.Count q) refl e
 not_count (Activity.Insert Insert.Exchange) s b l q f e = no_link l.row l.link (name.Count q) refl e
@@ -243,6 +252,7 @@ not_count (Activity.Draw Draw.Clock) s b l q f e = cc
 not_count (Activity.Look Look.Key) s b l q f e = cc
 not_count (Activity.Read Read.Link) s b l q f e = cc
 not_count (Activity.Rebalance (Rebalance.Engage Engage.Clock)) s b l q f e = cc
+not_count (Activity.Rebalance (Rebalance.Claim Claim.Count)) s b l q f e = cc
 not_count (Activity.Rebalance (Rebalance.Gather Gather.Link)) s b l q f e = cc
 not_count (Activity.Rebalance (Rebalance.Seek Seek.Next)) s b l q f e = cc
 not_count _ s b l q f e = cc
@@ -259,6 +269,7 @@ not_least (Activity.Look Look.Key) s b l q f e = cc
 not_least (Activity.Read Read.Link) s b l q f e = cc
 not_least (Activity.Put Put.Count) s b l q f e = cc
 not_least (Activity.Rebalance (Rebalance.Engage Engage.Clock)) s b l q f e = cc
+not_least (Activity.Rebalance (Rebalance.Claim Claim.Count)) s b l q f e = cc
 not_least (Activity.Rebalance (Rebalance.Freeze Freeze.Count)) s b l q f e = cc
 not_least (Activity.Rebalance (Rebalance.Gather Gather.Link)) s b l q f e = cc
 not_least (Activity.Rebalance (Rebalance.Seek Seek.Next)) s b l q f e = cc
@@ -266,6 +277,7 @@ not_least _ s b l q f e = cc
 
 not_next : (a : Activity) (s : ℕ) (b : Bool) (l : Local) (q : ℕ) → (ChangesNext a s l q → ⊥) → writes a s b l ≢ Some (name.Next q)
 not_next (Activity.Rebalance (Rebalance.Engage (Engage.MarkLink count))) s b l q f e = f (same_next l.row q e)
+not_next (Activity.Rebalance (Rebalance.Claim Claim.MarkLink)) s b l q f e = f (same_next (row_after l) q e)
 not_next (Activity.Rebalance (Rebalance.Write Write.Next)) s b l q f e = f (same_next (infant l) q e)
 not_next (Activity.Rebalance (Rebalance.Replace Replace.Exchange)) s b l q f e = f (replaces_next l.rebalance.before q e)
 not_next (Activity.Insert Insert.Exchange) s b l q f e = no_link l.row l.link (name.Next q) refl e
@@ -286,7 +298,7 @@ not_entry (Activity.Look Look.Help) s b l q t f e = f (same_entry l.row l.looked
 not_entry (Activity.Put Put.Announce) s b l q t f e = f (same_entry l.row s q t e)
 not_entry (Activity.Put Put.Stamp) s b l q t f e = f (same_entry l.row s q t e)
 not_entry (Activity.Put Put.Clear) s b l q t f e = f (same_entry l.row s q t e)
-not_entry (Activity.Rebalance (Rebalance.Freeze (Freeze.Entry i))) s b l q t f e = f (same_entry l.row i q t e)
+not_entry (Activity.Rebalance (Rebalance.Freeze (Freeze.Entry i))) s b l q t f e = f (same_entry l.rebalance.hand i q t e)
 not_entry (Activity.Rebalance (Rebalance.Write (Write.Entry i))) s b l q t f e = f (same_entry (infant l) i q t e)
 not_entry (Activity.Rebalance (Rebalance.Replace Replace.Exchange)) s b l q t f e = no_replaced l.rebalance.before (name.Pend q t) refl e
 not_entry (Activity.Insert Insert.Exchange) s b l q t f e = no_link l.row l.link (name.Pend q t) refl e
@@ -296,6 +308,7 @@ not_entry (Activity.Enter Enter.Announce) s b l q t f e = cc
 not_entry (Activity.Draw Draw.Clock) s b l q t f e = cc
 not_entry (Activity.Read Read.Link) s b l q t f e = cc
 not_entry (Activity.Rebalance (Rebalance.Engage Engage.Clock)) s b l q t f e = cc
+not_entry (Activity.Rebalance (Rebalance.Claim Claim.Count)) s b l q t f e = cc
 not_entry (Activity.Rebalance (Rebalance.Gather Gather.Link)) s b l q t f e = cc
 not_entry (Activity.Rebalance (Rebalance.Seek Seek.Next)) s b l q t f e = cc
 not_entry _ s b l q t f e = cc
@@ -312,6 +325,7 @@ not_key (Activity.Draw Draw.Clock) s b l q c f e = cc
 not_key (Activity.Look Look.Key) s b l q c f e = cc
 not_key (Activity.Read Read.Link) s b l q c f e = cc
 not_key (Activity.Rebalance (Rebalance.Engage Engage.Clock)) s b l q c f e = cc
+not_key (Activity.Rebalance (Rebalance.Claim Claim.Count)) s b l q c f e = cc
 not_key (Activity.Rebalance (Rebalance.Freeze Freeze.Count)) s b l q c f e = cc
 not_key (Activity.Rebalance (Rebalance.Gather Gather.Link)) s b l q c f e = cc
 not_key (Activity.Rebalance (Rebalance.Seek Seek.Next)) s b l q c f e = cc
@@ -329,6 +343,7 @@ not_value (Activity.Draw Draw.Clock) s b l q c f e = cc
 not_value (Activity.Look Look.Key) s b l q c f e = cc
 not_value (Activity.Read Read.Link) s b l q c f e = cc
 not_value (Activity.Rebalance (Rebalance.Engage Engage.Clock)) s b l q c f e = cc
+not_value (Activity.Rebalance (Rebalance.Claim Claim.Count)) s b l q c f e = cc
 not_value (Activity.Rebalance (Rebalance.Freeze Freeze.Count)) s b l q c f e = cc
 not_value (Activity.Rebalance (Rebalance.Gather Gather.Link)) s b l q c f e = cc
 not_value (Activity.Rebalance (Rebalance.Seek Seek.Next)) s b l q c f e = cc
@@ -346,6 +361,7 @@ not_version (Activity.Draw Draw.Clock) s b l q c f e = cc
 not_version (Activity.Look Look.Key) s b l q c f e = cc
 not_version (Activity.Read Read.Link) s b l q c f e = cc
 not_version (Activity.Rebalance (Rebalance.Engage Engage.Clock)) s b l q c f e = cc
+not_version (Activity.Rebalance (Rebalance.Claim Claim.Count)) s b l q c f e = cc
 not_version (Activity.Rebalance (Rebalance.Freeze Freeze.Count)) s b l q c f e = cc
 not_version (Activity.Rebalance (Rebalance.Gather Gather.Link)) s b l q c f e = cc
 not_version (Activity.Rebalance (Rebalance.Seek Seek.Next)) s b l q c f e = cc
@@ -379,6 +395,7 @@ not_link (Activity.Look Look.Key) s b l q at f e = no_cell_link q at _ e refl
 not_link (Activity.Read Read.Link) s b l q at f e = no_cell_link q at _ e refl
 not_link (Activity.Put Put.Count) s b l q at f e = no_cell_link q at _ e refl
 not_link (Activity.Rebalance (Rebalance.Engage Engage.Clock)) s b l q at f e = no_cell_link q at _ e refl
+not_link (Activity.Rebalance (Rebalance.Claim Claim.Count)) s b l q at f e = no_cell_link q at _ e refl
 not_link (Activity.Rebalance (Rebalance.Freeze Freeze.Count)) s b l q at f e = no_cell_link q at _ e refl
 not_link (Activity.Rebalance (Rebalance.Gather Gather.Link)) s b l q at f e = no_cell_link q at _ e refl
 not_link (Activity.Rebalance (Rebalance.Seek Seek.Next)) s b l q at f e = no_cell_link q at _ e refl
@@ -425,10 +442,13 @@ module _ {z : Sizes} {r r' : Run} {s : ℕ} {choice : Choice} {l l' : Local} whe
 -- All words of a row at once.
 
 -- of which row that the seat knows an event changes a word: of none, of the row where it is, of the
--- new row at hand, of the one that it asked, or of the one before its row
+-- one after that, of the group's row at hand, of the new row at hand, of the one that it asked, or
+-- of the one before its row
 pub data Target : Type 0 where
   NoRow : Target
   OwnRow : Target
+  NextRow : Target
+  HandRow : Target
   NewRow : Target
   SoughtRow : Target
   RowBefore : Target
@@ -448,9 +468,12 @@ target_of (Activity.Rebalance (Rebalance.Engage (Engage.Normal seat))) = OwnRow
 target_of (Activity.Rebalance (Rebalance.Engage Engage.Lead)) = OwnRow
 target_of (Activity.Rebalance (Rebalance.Engage (Engage.MarkLink count))) = OwnRow
 target_of (Activity.Rebalance (Rebalance.Engage (Engage.Decide count))) = OwnRow
-target_of (Activity.Rebalance (Rebalance.Freeze Freeze.Count)) = OwnRow
-target_of (Activity.Rebalance (Rebalance.Freeze (Freeze.Entry i))) = OwnRow
-target_of (Activity.Rebalance (Rebalance.Replace Replace.Retire)) = OwnRow
+target_of (Activity.Rebalance (Rebalance.Claim Claim.Exchange)) = NextRow
+target_of (Activity.Rebalance (Rebalance.Claim (Claim.Normal seat))) = NextRow
+target_of (Activity.Rebalance (Rebalance.Claim Claim.MarkLink)) = NextRow
+target_of (Activity.Rebalance (Rebalance.Freeze Freeze.Count)) = HandRow
+target_of (Activity.Rebalance (Rebalance.Freeze (Freeze.Entry i))) = HandRow
+target_of (Activity.Rebalance (Rebalance.Replace Replace.Retire)) = HandRow
 target_of (Activity.Rebalance (Rebalance.Seek Seek.GiveBack)) = NewRow
 target_of (Activity.Rebalance (Rebalance.Write _)) = NewRow
 target_of (Activity.Rebalance (Rebalance.Replace Replace.Normalise)) = NewRow
@@ -463,6 +486,8 @@ target_of _ = NoRow
 abbrev pub IsTarget : Target → Local → ℕ → Type 0
 IsTarget NoRow l q = ⊥
 IsTarget OwnRow l q = q ≡ l.row
+IsTarget NextRow l q = q ≡ row_after l
+IsTarget HandRow l q = q ≡ l.rebalance.hand
 IsTarget NewRow l q = q ≡ infant l
 IsTarget SoughtRow l q = q ≡ l.rebalance.sought
 IsTarget RowBefore l q = l.rebalance.before ≡ Some q
@@ -513,9 +538,12 @@ targets (Activity.Rebalance (Rebalance.Engage (Engage.Normal seat))) s b l n q f
 targets (Activity.Rebalance (Rebalance.Engage Engage.Lead)) s b l n q f e = of_row (name.State l.row) n l.row q refl f e
 targets (Activity.Rebalance (Rebalance.Engage (Engage.MarkLink count))) s b l n q f e = of_row (name.Next l.row) n l.row q refl f e
 targets (Activity.Rebalance (Rebalance.Engage (Engage.Decide count))) s b l n q f e = of_row (name.State l.row) n l.row q refl f e
-targets (Activity.Rebalance (Rebalance.Freeze Freeze.Count)) s b l n q f e = of_row (name.Count l.row) n l.row q refl f e
-targets (Activity.Rebalance (Rebalance.Freeze (Freeze.Entry i))) s b l n q f e = of_row (name.Pend l.row i) n l.row q refl f e
-targets (Activity.Rebalance (Rebalance.Replace Replace.Retire)) s b l n q f e = of_row (name.State l.row) n l.row q refl f e
+targets (Activity.Rebalance (Rebalance.Claim Claim.Exchange)) s b l n q f e = of_row (name.State (row_after l)) n (row_after l) q refl f e
+targets (Activity.Rebalance (Rebalance.Claim (Claim.Normal seat))) s b l n q f e = of_row (name.State (row_after l)) n (row_after l) q refl f e
+targets (Activity.Rebalance (Rebalance.Claim Claim.MarkLink)) s b l n q f e = of_row (name.Next (row_after l)) n (row_after l) q refl f e
+targets (Activity.Rebalance (Rebalance.Freeze Freeze.Count)) s b l n q f e = of_row (name.Count l.rebalance.hand) n l.rebalance.hand q refl f e
+targets (Activity.Rebalance (Rebalance.Freeze (Freeze.Entry i))) s b l n q f e = of_row (name.Pend l.rebalance.hand i) n l.rebalance.hand q refl f e
+targets (Activity.Rebalance (Rebalance.Replace Replace.Retire)) s b l n q f e = of_row (name.State l.rebalance.hand) n l.rebalance.hand q refl f e
 targets (Activity.Rebalance (Rebalance.Seek Seek.GiveBack)) s b l n q f e = of_row (name.State (infant l)) n (infant l) q refl f e
 targets (Activity.Rebalance (Rebalance.Write Write.Count)) s b l n q f e = of_row (name.Count (infant l)) n (infant l) q refl f e
 targets (Activity.Rebalance (Rebalance.Write Write.Least)) s b l n q f e = of_row (name.Least (infant l)) n (infant l) q refl f e
@@ -545,12 +573,14 @@ targets (Activity.Rebalance (Rebalance.Replace Replace.Number)) s b l n q f e = 
 targets _ s b l n q f e = let x : None ≡ Some n = e in absurd (cc)
 
 -- a row that is none of those that the seat knows is no such row
-pub not_target : (t : Target) (l : Local) (q : ℕ) → q ≢ l.row → q ≢ infant l → q ≢ l.rebalance.sought → l.rebalance.before ≢ Some q → IsTarget t l q → ⊥
-not_target NoRow l q own new sought before e = e
-not_target OwnRow l q own new sought before e = own e
-not_target NewRow l q own new sought before e = new e
-not_target SoughtRow l q own new sought before e = sought e
-not_target RowBefore l q own new sought before e = before e
+pub not_target : (t : Target) (l : Local) (q : ℕ) → q ≢ l.row → q ≢ row_after l → q ≢ l.rebalance.hand → q ≢ infant l → q ≢ l.rebalance.sought → l.rebalance.before ≢ Some q → IsTarget t l q → ⊥
+not_target NoRow l q own next hand new sought before e = e
+not_target OwnRow l q own next hand new sought before e = own e
+not_target NextRow l q own next hand new sought before e = next e
+not_target HandRow l q own next hand new sought before e = hand e
+not_target NewRow l q own next hand new sought before e = new e
+not_target SoughtRow l q own next hand new sought before e = sought e
+not_target RowBefore l q own next hand new sought before e = before e
 
 module _ {z : Sizes} {r r' : Run} {s : ℕ} {choice : Choice} {l l' : Local} where
   -- each word stays of a row on which the seat does not act
@@ -584,8 +614,8 @@ module _ {z : Sizes} {r r' : Run} {s : ℕ} {choice : Choice} {l l' : Local} whe
   pub normal_lost : Happens z r r' s choice l l' (Activity.Rebalance (Rebalance.Replace Replace.Normalise)) → word z r.world (name.State (infant l)) ≢ state_word (Infant s) → word z r'.world (name.State (infant l)) ≡ word z r.world (name.State (infant l))
   normal_lost h d = not_exchanged _ _ _ _ h.changed.same d
 
-  -- the full row has its number
-  pub retired : Happens z r r' s choice l l' (Activity.Rebalance (Rebalance.Replace Replace.Retire)) → word z r'.world (name.State l.row) ≡ state_word (Retired l.rebalance.number)
+  -- the row at hand has its number
+  pub retired : Happens z r r' s choice l l' (Activity.Rebalance (Rebalance.Replace Replace.Retire)) → word z r'.world (name.State l.rebalance.hand) ≡ state_word (Retired l.rebalance.number)
   retired h = h.changed.same
 
   -- one more number is drawn

@@ -10,6 +10,7 @@ pub mod Events
 pub mod Runs
 pub mod NextBuilt
 pub mod Building
+pub mod Grouping
 pub mod BuiltNext
 pub mod Arrows
 pub mod Happens

@@ -10,6 +10,7 @@ use Rattle.kw_words.specs.declared.layout.Name.TheVariants.{Clock}
 use Rattle.kw_words.specs.declared.state.State.TheVariants as state
 use Rattle.kw_words.specs.Link.{link_word}
 use Rattle.kw_words.specs.State.{state_word}
+use Rattle.kw_rows.specs.Events.{rest_of}
 use Rattle.kw_rows.specs.Ledger as kw_rows
 use Rattle.kw_world.specs.declared.activity.Activity.{Activity}
 use Rattle.kw_world.specs.declared.activity.draw.Draw.TheVariants as Draw
@@ -83,9 +84,13 @@ abbrev pub is_among : List ℕ → ℕ → Bool
 is_among [] q = false
 is_among (x ∷ xs) q = if q == x then true else is_among xs q
 
--- the rows' part where the full row is unlinked and those that the seat took are linked
+-- the rows of the group that the seat rebalances
+abbrev pub group_of : Local → List ℕ
+group_of l = l.row ∷ rest_of l.rebalance.second
+
+-- the rows' part where the rows of the group are unlinked and those that the seat took are linked
 abbrev pub with_replaced : Words → ℕ → ℕ → Local → kw_rows.Ledger → kw_rows.Ledger
-with_replaced v s now l g = record g { fates = λ q. if q == l.row then fate_dead s now (g.fates q) else if is_among l.rebalance.taken q then fate_live v now q (g.fates q) else g.fates q }
+with_replaced v s now l g = record g { fates = λ q. if is_among (group_of l) q then fate_dead s now (g.fates q) else if is_among l.rebalance.taken q then fate_live v now q (g.fates q) else g.fates q }
 
 -- the rows' part where this number is drawn
 abbrev pub with_number : kw_rows.Ledger → ℕ → ℕ → kw_rows.Ledger
@@ -97,8 +102,8 @@ with_number g m now = record g { numbered = λ n. if n == m then Some now else g
 -- from there on. A seat that finds a row free takes it; it gives a row back; where it finds a row
 -- retired with the number that it knows, that row is free from then on, and all else that is
 -- recorded of it stays until it is taken again; where it finds the unmarked link to its full row,
--- that row is unlinked and the taken ones are linked; and the epoch that it finds where it adds to
--- it is the number that it draws
+-- the rows of its group are unlinked and the taken ones are linked; and the epoch that it finds
+-- where it adds to it is the number that it draws
 abbrev pub ledger_after : Sizes → Activity → ℕ → Local → ℕ → Words → ℕ → Ledger → Ledger
 ledger_after z (Activity.Enter Enter.Announce) s l found v now g = record g { rows = with_visit g.rows s (Some now) }
 ledger_after z (Activity.Draw Draw.Wait) s l found v now g = record g { waits = with_wait g.waits s now }

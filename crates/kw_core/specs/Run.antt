@@ -44,6 +44,7 @@ use Rattle.kw_world.specs.Sizes.{Sizes}
 use Rattle.kw_world.specs.WorldView.{WorldView}
 use Rattle.kw_world.specs.Calls.{first_key, put_value}
 use Rattle.kw_world.specs.Opening.{opened}
+use Rattle.kw_world.specs.GroupPlaces.{source}
 use Rattle.kw_world.specs.PutTransitions.{has_room, given_of}
 use Rattle.kw_world.specs.ReadTransitions.{cell_in_hand}
 use Rattle.kw_world.specs.SeekTransitions.{infant}
@@ -160,7 +161,7 @@ change_of z (Activity.Put Put.Add) s choice l found g o = if has_room z (count_o
 change_of z (Activity.Put Put.Announce) s choice l found g o = if found == pend_word pend.Idle then Announces g.own else Nothing
 change_of z (Activity.Put Put.Stamp) s choice l found g o = if found == pend_word (pend.Pending l.cell) then Stamps g.own l.version g.loaded else Nothing
 change_of z (Activity.Leave answer) s choice l found g o = Ends g.call (reply_of answer l.pairs) (answering l.call l g) (drawing answer l g)
-change_of z (Activity.Rebalance (Rebalance.Freeze (Freeze.Entry i))) s choice l found g o = if found == pend_word l.rebalance.entry then freezing l.rebalance.entry l.row o else Nothing
+change_of z (Activity.Rebalance (Rebalance.Freeze (Freeze.Entry i))) s choice l found g o = if found == pend_word l.rebalance.entry then freezing l.rebalance.entry l.rebalance.hand o else Nothing
 change_of z _ s choice l found g o = Nothing
 
 -- What an event adds to the log of its seat.
@@ -237,17 +238,17 @@ abbrev pub with_settled : Option Settled → (ℕ → ℕ) → (ℕ → ℕ)
 with_settled (Some x) settled t = if t == x.seat then x.at else settled t
 with_settled None settled t = settled t
 
--- the attempt for which the copy of a kept cell stands: that of the cell of the full row at which
--- it was gathered. A place beyond the kept cells stands for none
-abbrev pub copied : Origins → ℕ → Option kw_cell.Cell → Option ℕ
-copied o row (Some c) = o row c.place
-copied o row None = None
+-- the attempt for which the copy of a kept cell stands: that of the cell of the group from whose
+-- place it was gathered. A place beyond the kept cells stands for none
+abbrev pub copied : Sizes → Origins → Local → Option kw_cell.Cell → Option ℕ
+copied z o l (Some c) = source z o l c.place
+copied z o l None = None
 
 -- the cell whose origin an event of a seat that knows l sets: the one whose version it writes, of
 -- the row that it builds
-abbrev pub copied_cell : Activity → Local → Origins → Option Copied
-copied_cell (Activity.Rebalance (Rebalance.Write (Write.Version j))) l o = Some (record { row = infant l; cell = j; attempt = copied o l.row (slice_get (infant_cells l) j) })
-copied_cell _ l o = None
+abbrev pub copied_cell : Sizes → Activity → Local → Origins → Option Copied
+copied_cell z (Activity.Rebalance (Rebalance.Write (Write.Version j))) l o = Some (record { row = infant l; cell = j; attempt = copied z o l (slice_get (infant_cells l) j) })
+copied_cell z _ l o = None
 
 -- the origins with that of a cell that is written
 abbrev pub with_copied : Option Copied → Origins → Origins
@@ -258,7 +259,7 @@ with_copied None o = o
 -- and stands for a copied attempt from the event on that writes its version
 abbrev pub origins_after : Sizes → Activity → Local → ℕ → Origins → History → Origins
 origins_after z (Activity.Put Put.Add) l found o h = if has_room z (count_of found) then with_origin o l.row (given_of (count_of found)) (length h.attempts) else o
-origins_after z (Activity.Rebalance (Rebalance.Write (Write.Version j))) l found o h = with_copy o (infant l) j (copied o l.row (slice_get (infant_cells l) j))
+origins_after z (Activity.Rebalance (Rebalance.Write (Write.Version j))) l found o h = with_copy o (infant l) j (copied z o l (slice_get (infant_cells l) j))
 origins_after z _ l found o h = o
 
 -- One event, and lists of events.

@@ -43,6 +43,7 @@ use kw_world::activity::rebalance::write::Write;
 use kw_world::answer::Answer;
 use kw_world::calls::{first_key, put_value};
 use kw_world::event::{Choice, Event};
+use kw_world::group::{cell_at, row_at};
 use kw_world::limits::NEWEST;
 use kw_world::local::Local;
 use kw_world::world::World;
@@ -156,7 +157,7 @@ pub struct Copied {
 /// version it writes.
 pub fn copied_cell(local: &Local, origins: &[Option<usize>]) -> Option<Copied>
     requires { IsLocal product local.now }
-    ensures { result ≡ copied_cell local.now.activity local.now (origin_in product origins.now) }
+    ensures { result ≡ copied_cell product local.now.activity local.now (origin_in product origins.now) }
 {
     match local.activity {
         Activity::Rebalance(Rebalance::Write(Write::Version(cell))) => Some(Copied {
@@ -172,13 +173,23 @@ pub fn copied_cell(local: &Local, origins: &[Option<usize>]) -> Option<Copied>
 /// for it.
 fn attempt_copied(local: &Local, cell: u32, origins: &[Option<usize>]) -> Option<usize>
     requires { IsLocal product local.now }
-    ensures { result ≡ copied (origin_in product origins.now) local.now.row
+    ensures { result ≡ copied product (origin_in product origins.now) local.now
         (slice_get (infant_cells local.now) cell) }
 {
-    match infant_cells(local).get(cell as usize) {
-        Some(kept) => origin_or_none(origins, local.row, kept.place),
+    match cell_in(infant_cells(local), cell) {
+        Some(kept) => {
+            let row = row_at(local, kept.place);
+            origin_or_none(origins, row, cell_at(kept.place))
+        }
         None => None,
     }
+}
+
+/// The cell at a place, if there is one.
+fn cell_in(cells: &[Cell], place: u32) -> Option<Cell>
+    ensures { result ≡ slice_get cells.now place }
+{
+    cells.get(place as usize).copied()
 }
 
 /// The attempt to which a cell was given, or none where there is no such cell.
@@ -203,6 +214,7 @@ pub fn change_of(
     requires ranges { IsLocal product local.now }
     requires begin { CanBegin happening.choice local.now }
     requires origins { local.now.row * CELLS + CELLS ≤ length origins.now }
+    requires hand { local.now.rebalance.hand * CELLS + CELLS ≤ length origins.now }
     ensures { IfOk result (λ change. change ≡ change_of product local.now.activity happening.seat
         happening.choice local.now happening.found log.now (origin_in product origins.now)) }
 {
@@ -270,16 +282,16 @@ fn helping(local: &Local, found: u64, log: &SeatLog, origins: &[Option<usize>]) 
 /// A rebalance freezes an entry: a put whose cell was pending there loses its attempt.
 fn freezing(local: &Local, found: u64, origins: &[Option<usize>]) -> Change
     requires ranges { IsLocal product local.now }
-    requires origins { local.now.row * CELLS + CELLS ≤ length origins.now }
+    requires origins { local.now.rebalance.hand * CELLS + CELLS ≤ length origins.now }
     ensures { result ≡ (if found == pend_word local.now.rebalance.entry
-        then freezing local.now.rebalance.entry local.now.row (origin_in product origins.now)
+        then freezing local.now.rebalance.entry local.now.rebalance.hand (origin_in product origins.now)
         else Change.Nothing) }
 {
     if found != local.rebalance.entry.pack() {
         return Change::Nothing;
     }
     match local.rebalance.entry {
-        Pend::Pending(cell) => losing(origin_at(origins, local.row, cell)),
+        Pend::Pending(cell) => losing(origin_at(origins, local.rebalance.hand, cell)),
         _ => Change::Nothing,
     }
 }

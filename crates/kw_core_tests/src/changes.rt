@@ -1,7 +1,7 @@
-//! What one event adds to the record, where a seat freezes the entries of a full row, settles a
-//! scan, or writes a copy of a cell.
-ghost use Rattle.std.specs.Prelude.{◌≡◌, ◌<◌, Some};
-ghost use Rattle.kw_words.specs.declared.sizes.TheConstants.{CELLS};
+//! What one event adds to the record, where a seat freezes the entries of a row, settles a scan, or
+//! writes a copy of a cell.
+ghost use Rattle.std.specs.Prelude.{◌≡◌, ◌<◌, ◌*◌, Some};
+ghost use Rattle.kw_words.specs.declared.sizes.TheConstants.{CELLS, MOST_GROUP};
 ghost use Rattle.kw_world.specs.Sane.{IsEntry, IsLocal};
 ghost use Rattle.kw_world.specs.Sizes.{product};
 ghost use Rattle.kw_world.specs.declared.activity.Activity.{Activity};
@@ -14,7 +14,7 @@ use kw_core::seat_log::{Remark, SeatLog};
 use kw_model::memory::Memory;
 use kw_words::kind::Kind;
 use kw_words::pend::Pend;
-use kw_words::sizes::CELLS;
+use kw_words::sizes::{CELL_COUNT, CELLS};
 use kw_world::activity::Activity;
 use kw_world::activity::draw::Draw;
 use kw_world::activity::rebalance::Rebalance;
@@ -26,12 +26,16 @@ use kw_world::rebuilt::{KeptCells, Starts};
 use std::alloc::Global;
 use std::test::Fail;
 
+// The cells of two rows.
+const TWO_ROWS: usize = 2 * CELLS;
+
 // The seat 0 tries to freeze the entry of seat 3 in row 0, where it found this one.
 fn at_an_entry(alloc: Global, entry: Pend) -> Local
     requires { IsEntry product (Some entry) }
     ensures ranges { IsLocal product result }
     ensures at { result.activity ≡ Activity.Rebalance (Rebalance.Freeze (Freeze.Entry 3)) }
     ensures row { result.row ≡ 0 }
+    ensures hand { result.rebalance.hand ≡ 0 }
 {
     let mut local = Local::idle(alloc);
     local.activity = Activity::Rebalance(Rebalance::Freeze(Freeze::Entry(3)));
@@ -144,23 +148,25 @@ fn a_helper_settles_the_scan_of_another_seat(rt: HostRuntime) -> Result<(), Fail
     Ok(())
 }
 
-// A seat writes the version of this cell of its new row 3, whose one kept cell stood at the place 5
-// of row 0.
-fn at_a_copy(alloc: Global, cell: u32) -> Local
-    requires { cell < CELLS }
+// A seat writes the version of this cell of its new row 3, whose one kept cell stood at this place
+// of the group of row 0 and row 1.
+fn at_a_copy(alloc: Global, place: u32, cell: u32) -> Local
+    requires place { place < MOST_GROUP * CELLS }
+    requires cell { cell < CELLS }
     ensures ranges { IsLocal product result }
 {
     let mut kept = KeptCells::new();
     kept.push(Cell {
         key: 45,
         version: 1,
-        place: 5,
+        place,
         value: None,
     });
     let mut starts = RowCuts::new();
     starts.push(0);
     let mut local = Local::idle(alloc);
     local.activity = Activity::Rebalance(Rebalance::Write(Write::Version(cell)));
+    local.rebalance.second = Some(1);
     local.rebalance.kept = kept;
     local.rebalance.starts = Starts::of(starts);
     local.rebalance.taken.push(3);
@@ -170,8 +176,8 @@ fn at_a_copy(alloc: Global, cell: u32) -> Local
 #[test]
 fn a_copy_stands_for_the_attempt_of_its_cell(rt: HostRuntime) -> Result<(), Fail> {
     let origins = with_one_given();
-    let first = copied_cell(&at_a_copy(rt.alloc(), 0), origins.as_slice());
-    let second = copied_cell(&at_a_copy(rt.alloc(), 1), origins.as_slice());
+    let first = copied_cell(&at_a_copy(rt.alloc(), 5, 0), origins.as_slice());
+    let second = copied_cell(&at_a_copy(rt.alloc(), 5, 1), origins.as_slice());
     let of_the_kept_cell = Copied {
         row: 3,
         cell: 0,
@@ -184,4 +190,28 @@ fn a_copy_stands_for_the_attempt_of_its_cell(rt: HostRuntime) -> Result<(), Fail
     };
     assert_eq!(rt; [first, second], [Some(of_the_kept_cell), Some(of_none)]);
     Ok(())
+}
+
+// Cell 5 was given in both rows of a group: to attempt 2 in row 0, and to attempt 7 in row 1.
+#[test]
+fn a_copy_of_the_second_row_stands_for_the_attempt_of_its_own_cell(rt: HostRuntime) {
+    let mut origins = [None; TWO_ROWS];
+    origins[5] = Some(2);
+    origins[CELLS + 5] = Some(7);
+    let of_first = copied_cell(&at_a_copy(rt.alloc(), 5, 0), origins.as_slice());
+    let of_second = copied_cell(
+        &at_a_copy(rt.alloc(), CELL_COUNT + 5, 0),
+        origins.as_slice(),
+    );
+    let first = Copied {
+        row: 3,
+        cell: 0,
+        attempt: Some(2),
+    };
+    let second = Copied {
+        row: 3,
+        cell: 0,
+        attempt: Some(7),
+    };
+    assert_eq!(rt; [of_first, of_second], [Some(first), Some(second)]);
 }

@@ -3,15 +3,17 @@
 //!
 //! What is expected was worked by hand, or computed apart from this project. The tests stand in a
 //! crate of their own, since a crate that has tests is proved twice, with them and without. `words`
-//! tests `kw_words`, `cells`, `plain` and `keep` `kw_cells`, `world` `kw_world`, `put`, `rows` and
-//! `rebalance` the step crates, `changes` `kw_core`, `points` `kw_core` and `kw_order` by a history
-//! that is made event by event, and `trace` `kw_order` by the calls of one seat.
+//! tests `kw_words`, `cells`, `plain` and `keep` `kw_cells`, `world` `kw_world`, `put`, `rows`,
+//! `rebalance` and `groups` the step crates, `changes` `kw_core`, `points` `kw_core` and `kw_order`
+//! by a history that is made event by event, and `trace` `kw_order` by the calls of one seat.
 #![tactic(auto)]
 
 #[cfg(test)]
 mod cells;
 #[cfg(test)]
 mod changes;
+#[cfg(test)]
+mod groups;
 #[cfg(test)]
 mod keep;
 #[cfg(test)]

@@ -20,6 +20,7 @@ use kw_world::activity::rebalance::Rebalance;
 use kw_world::activity::rebalance::engage::Engage;
 use kw_world::activity::rebalance::freeze::Freeze;
 use kw_world::activity::rebalance::gather::Gather;
+use kw_world::activity::rebalance::left::Left;
 use kw_world::activity::rebalance::replace::Replace;
 use kw_world::activity::rebalance::seek::Seek;
 use kw_world::activity::rebalance::write::Write;
@@ -102,14 +103,25 @@ fn after_state(alloc: Global, word: u64) -> (Activity, u32, u32) {
     (local.activity, local.row, local.lower)
 }
 
+// What helps the leader of so many rows.
+fn helps(count: u32) -> Activity {
+    Activity::Rebalance(Rebalance::Engage(Engage::MarkLink(count)))
+}
+
 // a leader of one row has the word 3 + 8, and one of two rows 3 + 16
 #[test]
-fn a_leader_of_one_row_is_helped(rt: HostRuntime) {
-    let helps = Activity::Rebalance(Rebalance::Engage(Engage::MarkLink(1)));
+fn a_leader_of_one_row_or_two_is_helped(rt: HostRuntime) {
     assert_eq!(rt;
         [after_state(rt.alloc(), 11), after_state(rt.alloc(), 19)],
-        [(helps, 2, 40), (Activity::Retry, 0, 0)]
+        [(helps(1), 2, 40), (helps(2), 2, 40)]
     );
+}
+
+// a follower of row 1 has the word 4 + 8
+#[test]
+fn the_seat_of_a_follower_goes_left(rt: HostRuntime) {
+    let left = Activity::Rebalance(Rebalance::Left(Left::Start));
+    assert_eq!(rt; after_state(rt.alloc(), 12), (left, 2, 40));
 }
 
 // A seat looks at the entry of seat 3 in row 2.
@@ -121,6 +133,7 @@ fn at_an_entry(alloc: Global) -> Local
     let mut local = Local::idle(alloc);
     local.activity = Activity::Rebalance(Rebalance::Freeze(Freeze::Look(3)));
     local.row = 2;
+    local.rebalance.hand = 2;
     local
 }
 
@@ -356,7 +369,7 @@ fn tombstone(key: u32, version: u64) -> Cell
 fn with_new_rows(alloc: Global, rebalance: Rebalance, at: usize) -> Local
     requires activity { IsActivity product (Activity.Rebalance rebalance) }
     requires done { IsTakingRows (Activity.Rebalance rebalance) → ⊥ }
-    requires at { at ≤ 2 }
+    requires at { at ≤ 1 }
     ensures ranges { IsLocal product result }
     ensures room { HasRoom product result }
     ensures part { part_of Choice.Go result ≡ Part.Rebalance }
@@ -385,7 +398,7 @@ fn with_new_rows(alloc: Global, rebalance: Rebalance, at: usize) -> Local
 // What it stores by its event.
 fn stored(alloc: Global, write: Write, at: usize) -> Option<(Name, u64)>
     requires activity { IsActivity product (Activity.Rebalance (Rebalance.Write write)) }
-    requires at { at ≤ 2 }
+    requires at { at ≤ 1 }
 {
     let local = with_new_rows(alloc, Rebalance::Write(write), at);
     match rebalance_operation(1, &local, Choice::Go) {

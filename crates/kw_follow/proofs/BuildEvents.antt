@@ -1,6 +1,6 @@
--- The events that freeze and gather a full row and write the new ones: what each asks, and what its
--- seat knows.
-use Rattle.std.proofs.Common.{◌≡◌, ◌<◌, ◌≤◌, ◌∙◌, ℕ, Some, arith, ap, sym, subst, length, slice_get}
+-- The events that freeze and gather the rows of a group and write the new ones: what each asks, and
+-- what its seat knows.
+use Rattle.std.proofs.Common.{◌≡◌, ◌+◌, ◌<◌, ◌≤◌, ◌∙◌, ℕ, Some, arith, ap, sym, subst, length, slice_get}
 use Rattle.kw_words.specs.declared.kind.Kind.TheVariants as kind
 use Rattle.kw_words.specs.declared.layout.Name.{Name}
 use Rattle.kw_words.specs.declared.pend.Pend.{Pend}
@@ -15,10 +15,11 @@ use Rattle.kw_world.specs.declared.activity.rebalance.gather.Gather.TheVariants 
 use Rattle.kw_world.specs.declared.activity.rebalance.Rebalance.TheVariants as Rebalance
 use Rattle.kw_world.specs.declared.activity.rebalance.write.Write.{Write}
 use Rattle.kw_world.specs.declared.event.Choice.TheVariants.{Go}
+use Rattle.kw_world.specs.declared.limits.TheConstants.{MOST_MARKS}
 use Rattle.kw_world.specs.declared.local.Local.{Local}
 use Rattle.kw_world.specs.declared.operation.Action.TheVariants.{Load}
 use Rattle.kw_world.specs.ListTransitions.{link_name}
-use Rattle.kw_world.specs.Sane.{IsActivity, IsEntry, frozen_by, needed_by}
+use Rattle.kw_world.specs.Sane.{IsActivity, IsEntry, entries_before, group_marks_by, needed_by}
 use Rattle.kw_world.specs.Sizes.{product}
 use Rattle.kw_world.specs.WorldView.{WorldView}
 use Rattle.kw_core.proofs.Runs.{history-world}
@@ -26,6 +27,7 @@ use Rattle.kw_shape.specs.Infants.{nursing_of}
 use Rattle.kw_shape.specs.Keyed.{IsPlanned}
 use Rattle.kw_shape.specs.Plans.{Plans}
 use Rattle.kw_reads.proofs.Keeps.{inv_holds}
+use Rattle.kw_shape.proofs.Hands.{entries_few}
 use Rattle.kw_shape.proofs.Worlds.{world-local}
 use Rattle.kw_table.specs.declared.pass.Pass.{Pass}
 use Rattle.kw_table.specs.declared.shared.Shared.{Shared}
@@ -42,11 +44,11 @@ module _ (s : Shared) (p : Pass) (l : Local) (f : Follows s p l) where
   named_below a is = subst (IsActivity product) is (follows_ranges s p l f).activity
 
   -- so many cells are remembered at most, and so many versions needed
-  pub marks_room : (i : ℕ) → l.activity ≡ Activity.Rebalance (Rebalance.Freeze (Freeze.Look i)) → length l.rebalance.marks < SEATS
+  pub marks_room : (i : ℕ) → l.activity ≡ Activity.Rebalance (Rebalance.Freeze (Freeze.Look i)) → length l.rebalance.marks < MOST_MARKS
   marks_room i is =
       let below : i < SEATS = named_below (Activity.Rebalance (Rebalance.Freeze (Freeze.Look i))) is in
-      let room : length l.rebalance.marks ≤ i = subst (λ a. length l.rebalance.marks ≤ frozen_by product a) is (follows_room s p l f).rebalance.marks in
-      omega (arith, below, room)
+      let room : length l.rebalance.marks ≤ entries_before product l.rebalance + i = subst (λ a. length l.rebalance.marks ≤ group_marks_by product a l.rebalance) is (follows_room s p l f).rebalance.marks in
+      omega (arith, below, room, entries_few product l.rebalance)
 
   pub needed_room : (i : ℕ) → l.activity ≡ Activity.Rebalance (Rebalance.Freeze (Freeze.Scan i)) → length l.rebalance.needed < SEATS
   needed_room i is =
@@ -79,5 +81,5 @@ entry_fits (Stamped cell version) k = (omega (arith, k.0), k.1.0, k.1.1)
 entry_fits Frozen k = tt
 
 -- the load of a link
-pub asks_taken_link : (s : Shared) (p : Pass) (l : Local) (n : Name) → Follows s p l → l.activity ≡ Activity.Rebalance (Rebalance.Gather Gather.Link) → n ≡ link_name l.row l.link → Asks s p Go (operation kind.LoadAfter n Load)
+pub asks_taken_link : (s : Shared) (p : Pass) (l : Local) (n : Name) → Follows s p l → l.activity ≡ Activity.Rebalance (Rebalance.Gather Gather.Link) → n ≡ link_name l.rebalance.hand l.link → Asks s p Go (operation kind.LoadAfter n Load)
 asks_taken_link s p l n f is name = subst (λ (m : Name). Asks s p Go (operation kind.LoadAfter m Load)) (sym name) (asks_at s p l (Activity.Rebalance (Rebalance.Gather Gather.Link)) f is tt)

@@ -20,7 +20,9 @@ use Rattle.kw_model.specs.declared.call.Call.TheVariants.{Put, Del, Get, Scan}
 use Rattle.kw_world.specs.declared.answer.Answer.{Answer}
 use Rattle.kw_world.specs.declared.activity.Activity.{Activity}
 use Rattle.kw_world.specs.declared.activity.draw.Draw.TheVariants as Draw
+use Rattle.kw_world.specs.declared.activity.rebalance.claim.Claim.TheVariants as Claim
 use Rattle.kw_world.specs.declared.activity.rebalance.engage.Engage.TheVariants as Engage
+use Rattle.kw_world.specs.declared.activity.rebalance.left.Left.TheVariants as Left
 use Rattle.kw_world.specs.declared.activity.enter.Enter.TheVariants as Enter
 use Rattle.kw_world.specs.declared.activity.rebalance.freeze.Freeze.TheVariants as Freeze
 use Rattle.kw_world.specs.declared.activity.rebalance.gather.Gather.TheVariants as Gather
@@ -44,6 +46,7 @@ use Rattle.kw_world.specs.ReadTransitions.{to_look, look_seen, help_seen, rememb
 use Rattle.kw_world.specs.ScanTransitions.{entered, answer_or_stopped, settled, version_settled}
 use Rattle.kw_world.specs.WalkTransitions.{arrive, guess_seen, is_stop, is_stopped, link_reached, start_transition, walk_least, walk_transition}
 use Rattle.kw_world.specs.SeekTransitions.{seek_first_transition}
+use Rattle.kw_world.specs.LeftTransitions.{left_transition}
 use Rattle.kw_world.specs.ReplaceTransitions.{before_transition}
 use Rattle.kw_world.specs.Sizes.{Sizes}
 use Rattle.kw_world.specs.Table.{transition}
@@ -215,49 +218,7 @@ carries z (Activity.Put _) s c l rows told u = record { local = refl; done = ref
 carries z (Activity.Leave answer) s c l rows told u = absurd u
 carries z Activity.Retry s c l rows told u = rebalance_carries c z Activity.Retry s l rows told tt
 carries z (Activity.Enter Enter.LoadEpoch) s c l rows told u = rebalance_carries c z (Activity.Enter Enter.LoadEpoch) s l rows told tt
-carries z (Activity.Rebalance (Rebalance.Engage Engage.Clock)) s c l rows told u = rebalance_carries c z (Activity.Rebalance (Rebalance.Engage Engage.Clock)) s l rows told tt
-carries z (Activity.Rebalance (Rebalance.Engage Engage.Epoch)) s c l rows told u = rebalance_carries c z (Activity.Rebalance (Rebalance.Engage Engage.Epoch)) s l rows told tt
-carries z (Activity.Rebalance (Rebalance.Engage Engage.State)) s c l rows told u = rebalance_carries c z (Activity.Rebalance (Rebalance.Engage Engage.State)) s l rows told tt
-carries z (Activity.Rebalance (Rebalance.Engage (Engage.Normal seat))) s c l rows told u = rebalance_carries c z (Activity.Rebalance (Rebalance.Engage (Engage.Normal seat))) s l rows told tt
-carries z (Activity.Rebalance (Rebalance.Engage Engage.Lead)) s c l rows told u = rebalance_carries c z (Activity.Rebalance (Rebalance.Engage Engage.Lead)) s l rows told tt
-carries z (Activity.Rebalance (Rebalance.Engage (Engage.MarkLink count))) s c l rows told u = rebalance_carries c z (Activity.Rebalance (Rebalance.Engage (Engage.MarkLink count))) s l rows told tt
-carries z (Activity.Rebalance (Rebalance.Engage (Engage.Decide count))) s c l rows told u = rebalance_carries c z (Activity.Rebalance (Rebalance.Engage (Engage.Decide count))) s l rows told tt
-carries z (Activity.Rebalance (Rebalance.Freeze Freeze.Count)) s c l rows told u = rebalance_carries c z (Activity.Rebalance (Rebalance.Freeze Freeze.Count)) s l rows told tt
-carries z (Activity.Rebalance (Rebalance.Freeze (Freeze.Look i))) s c l rows told u = rebalance_carries c z (Activity.Rebalance (Rebalance.Freeze (Freeze.Look i))) s l rows told tt
-carries z (Activity.Rebalance (Rebalance.Freeze (Freeze.Entry i))) s c l rows told u = rebalance_carries c z (Activity.Rebalance (Rebalance.Freeze (Freeze.Entry i))) s l rows told tt
-carries z (Activity.Rebalance (Rebalance.Freeze (Freeze.Scan i))) s c l rows told u = rebalance_carries c z (Activity.Rebalance (Rebalance.Freeze (Freeze.Scan i))) s l rows told tt
-carries z (Activity.Rebalance (Rebalance.Freeze (Freeze.Draw i))) s c l rows told u = rebalance_carries c z (Activity.Rebalance (Rebalance.Freeze (Freeze.Draw i))) s l rows told tt
-carries z (Activity.Rebalance (Rebalance.Freeze (Freeze.Settle i))) s c l rows told u = rebalance_carries c z (Activity.Rebalance (Rebalance.Freeze (Freeze.Settle i))) s l rows told tt
-carries z (Activity.Rebalance (Rebalance.Gather Gather.Link)) s c l rows told u = rebalance_carries c z (Activity.Rebalance (Rebalance.Gather Gather.Link)) s l rows told tt
-carries z (Activity.Rebalance (Rebalance.Gather Gather.Key)) s c l rows told u = rebalance_carries c z (Activity.Rebalance (Rebalance.Gather Gather.Key)) s l rows told tt
-carries z (Activity.Rebalance (Rebalance.Gather Gather.Version)) s c l rows told u = rebalance_carries c z (Activity.Rebalance (Rebalance.Gather Gather.Version)) s l rows told tt
-carries z (Activity.Rebalance (Rebalance.Gather Gather.Value)) s c l rows told u = rebalance_carries c z (Activity.Rebalance (Rebalance.Gather Gather.Value)) s l rows told tt
-carries z (Activity.Rebalance (Rebalance.Gather Gather.LeftOverKey)) s c l rows told u = rebalance_carries c z (Activity.Rebalance (Rebalance.Gather Gather.LeftOverKey)) s l rows told tt
-carries z (Activity.Rebalance (Rebalance.Gather Gather.LeftOverValue)) s c l rows told u = rebalance_carries c z (Activity.Rebalance (Rebalance.Gather Gather.LeftOverValue)) s l rows told tt
-carries z (Activity.Rebalance (Rebalance.Seek Seek.First)) s c l rows told u = rebalance_carries c z (Activity.Rebalance (Rebalance.Seek Seek.First)) s l rows told tt
-carries z (Activity.Rebalance (Rebalance.Seek Seek.Next)) s c l rows told u = rebalance_carries c z (Activity.Rebalance (Rebalance.Seek Seek.Next)) s l rows told tt
-carries z (Activity.Rebalance (Rebalance.Seek (Seek.Pass i))) s c l rows told u = rebalance_carries c z (Activity.Rebalance (Rebalance.Seek (Seek.Pass i))) s l rows told tt
-carries z (Activity.Rebalance (Rebalance.Seek Seek.Reclaim)) s c l rows told u = rebalance_carries c z (Activity.Rebalance (Rebalance.Seek Seek.Reclaim)) s l rows told tt
-carries z (Activity.Rebalance (Rebalance.Seek Seek.Take)) s c l rows told u = rebalance_carries c z (Activity.Rebalance (Rebalance.Seek Seek.Take)) s l rows told tt
-carries z (Activity.Rebalance (Rebalance.Seek Seek.GiveBack)) s c l rows told u = rebalance_carries c z (Activity.Rebalance (Rebalance.Seek Seek.GiveBack)) s l rows told tt
-carries z (Activity.Rebalance (Rebalance.Write Write.Count)) s c l rows told u = rebalance_carries c z (Activity.Rebalance (Rebalance.Write Write.Count)) s l rows told tt
-carries z (Activity.Rebalance (Rebalance.Write Write.Least)) s c l rows told u = rebalance_carries c z (Activity.Rebalance (Rebalance.Write Write.Least)) s l rows told tt
-carries z (Activity.Rebalance (Rebalance.Write Write.Next)) s c l rows told u = rebalance_carries c z (Activity.Rebalance (Rebalance.Write Write.Next)) s l rows told tt
-carries z (Activity.Rebalance (Rebalance.Write Write.First)) s c l rows told u = rebalance_carries c z (Activity.Rebalance (Rebalance.Write Write.First)) s l rows told tt
-carries z (Activity.Rebalance (Rebalance.Write (Write.Entry i))) s c l rows told u = rebalance_carries c z (Activity.Rebalance (Rebalance.Write (Write.Entry i))) s l rows told tt
-carries z (Activity.Rebalance (Rebalance.Write (Write.Key j))) s c l rows told u = rebalance_carries c z (Activity.Rebalance (Rebalance.Write (Write.Key j))) s l rows told tt
-carries z (Activity.Rebalance (Rebalance.Write (Write.Value j))) s c l rows told u = rebalance_carries c z (Activity.Rebalance (Rebalance.Write (Write.Value j))) s l rows told tt
-carries z (Activity.Rebalance (Rebalance.Write (Write.Version j))) s c l rows told u = rebalance_carries c z (Activity.Rebalance (Rebalance.Write (Write.Version j))) s l rows told tt
-carries z (Activity.Rebalance (Rebalance.Write (Write.After j))) s c l rows told u = rebalance_carries c z (Activity.Rebalance (Rebalance.Write (Write.After j))) s l rows told tt
-carries z (Activity.Rebalance (Rebalance.Replace Replace.Start)) s c l rows told u = rebalance_carries c z (Activity.Rebalance (Rebalance.Replace Replace.Start)) s l rows told tt
-carries z (Activity.Rebalance (Rebalance.Replace Replace.GuessedLeast)) s c l rows told u = rebalance_carries c z (Activity.Rebalance (Rebalance.Replace Replace.GuessedLeast)) s l rows told tt
-carries z (Activity.Rebalance (Rebalance.Replace Replace.First)) s c l rows told u = rebalance_carries c z (Activity.Rebalance (Rebalance.Replace Replace.First)) s l rows told tt
-carries z (Activity.Rebalance (Rebalance.Replace Replace.Next)) s c l rows told u = rebalance_carries c z (Activity.Rebalance (Rebalance.Replace Replace.Next)) s l rows told tt
-carries z (Activity.Rebalance (Rebalance.Replace Replace.NextLeast)) s c l rows told u = rebalance_carries c z (Activity.Rebalance (Rebalance.Replace Replace.NextLeast)) s l rows told tt
-carries z (Activity.Rebalance (Rebalance.Replace Replace.Exchange)) s c l rows told u = rebalance_carries c z (Activity.Rebalance (Rebalance.Replace Replace.Exchange)) s l rows told tt
-carries z (Activity.Rebalance (Rebalance.Replace Replace.Normalise)) s c l rows told u = rebalance_carries c z (Activity.Rebalance (Rebalance.Replace Replace.Normalise)) s l rows told tt
-carries z (Activity.Rebalance (Rebalance.Replace Replace.Number)) s c l rows told u = rebalance_carries c z (Activity.Rebalance (Rebalance.Replace Replace.Number)) s l rows told tt
-carries z (Activity.Rebalance (Rebalance.Replace Replace.Retire)) s c l rows told u = rebalance_carries c z (Activity.Rebalance (Rebalance.Replace Replace.Retire)) s l rows told tt
+carries z (Activity.Rebalance b) s c l rows told u = rebalance_carries c z (Activity.Rebalance b) s l rows told tt
 
 -- so is the first operation of a walk along a list
 firsts : (c : Choice) (l : Local) → first_operation (cell_guess c (carried l)) (carried l) ≡ first_operation (cell_guess c l) l
@@ -298,6 +259,13 @@ operates z (Activity.Rebalance (Rebalance.Replace Replace.Start)) s c l = begins
     begins Go = refl
     begins (Guess r) = refl
     begins Stop = refl
+operates z (Activity.Rebalance (Rebalance.Left Left.Start)) s c l = lefts c
+  where
+    lefts : (x : Choice) → (left_transition x (carried l)).operation ≡ (left_transition x l).operation
+    lefts (Begin call) = refl
+    lefts Go = refl
+    lefts (Guess r) = refl
+    lefts Stop = refl
 operates z (Activity.Read Read.Start) s c l = firsts c l
 operates z (Activity.Insert Insert.Start) s c l = firsts c l
 operates z (Activity.Enter Enter.Announce) s c l = refl
@@ -307,6 +275,7 @@ operates z (Activity.Read Read.Link) s c l = refl
 operates z (Activity.Put Put.Count) s c l = refl
 operates z (Activity.Insert Insert.Link) s c l = refl
 operates z (Activity.Rebalance (Rebalance.Engage Engage.Clock)) s c l = refl
+operates z (Activity.Rebalance (Rebalance.Claim Claim.Count)) s c l = refl
 operates z (Activity.Rebalance (Rebalance.Freeze Freeze.Count)) s c l = refl
 operates z (Activity.Rebalance (Rebalance.Gather Gather.Link)) s c l = refl
 operates z (Activity.Rebalance (Rebalance.Write Write.Count)) s c l = refl

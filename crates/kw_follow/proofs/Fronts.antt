@@ -22,6 +22,8 @@ use Rattle.kw_core.specs.Run.{history}
 use Rattle.kw_core.proofs.Events.{valid_front}
 use Rattle.kw_laws.proofs.LawProofs.{laws_hold}
 use Rattle.kw_core.proofs.Runs.{history-world}
+use Rattle.kw_reads.proofs.Keeps.{inv_holds}
+use Rattle.kw_shape.specs.Shape.{IsKind}
 use Rattle.kw_shape.proofs.Worlds.{world-local, world-rows}
 use Rattle.kw_table.specs.declared.pass.Pass.{Pass}
 use Rattle.kw_table.specs.declared.shared.Shared.{Shared}
@@ -55,6 +57,12 @@ pub saw_local : (p q : Pass) (a : Activity) (c : Choice) (told : ℕ) → (m : S
 saw_local p q a c told m =
     ap (λ (w : WorldView). slice_get w.locals (view p).number) (history-world product (view p).opening m.front)
     ∙ world-local product (view p).opening m.front (view p).number (seat_within p)
+
+-- the activity fits its call
+pub saw_kind : (s : Shared) (p q : Pass) (a : Activity) (c : Choice) (told : ℕ) → GoesTo s p q → (m : Saw p q a c told) → IsKind a (local_at p m.front)
+saw_kind s p q a c told goes m =
+    let kinds = (inv_holds product (view p).opening p.known.opens m.front (saw_valid s p q a c told goes m)).shape.kinds (view p).number (local_at p m.front) (saw_local p q a c told m) in
+    subst (λ (b : Activity). IsKind b (local_at p m.front)) m.activity kinds.kind
 
 -- the line of the event, by the activity at which it was made
 pub saw_transition : (p q : Pass) (a : Activity) (c : Choice) (told : ℕ) → (m : Saw p q a c told) → transition_after (view p).opening m.front (view p).number c ≡ transition product a (view p).number (offered (view p).opening.rows c) (local_at p m.front)

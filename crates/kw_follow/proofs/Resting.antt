@@ -14,6 +14,7 @@ use Rattle.kw_reads.specs.Inv.{Inv}
 use Rattle.kw_core.specs.Run.{Run, goes_on, history, start}
 use Rattle.kw_shape.specs.Shape.{Words}
 use Rattle.kw_core.proofs.Arrows.{Arrow, builds, NextLook, NextLeftOver, goes_to_left_over, answers, ends_scan, scans_on, looks, lists, leaves, sees_stamped, sees_neither, is_gone_by, helps, finds_stamped, finds_other, list_ends, key_above, left_over_gone_by, gathers_left_over, first_ends}
+use Rattle.kw_core.proofs.Arrows.{decides, freezes_last, keeps_no_more, marks_led, remembers_last, sees_frozen_last, takes_no_more}
 use Rattle.kw_core.proofs.BuiltNext.{IsAfterBuilding, built_next}
 use Rattle.kw_core.proofs.Events.{may_come}
 use Rattle.kw_core.proofs.Happens.{happens, each_seat}
@@ -22,6 +23,7 @@ use Rattle.kw_shape.proofs.ShapeOpens.{all_resting}
 use Rattle.kw_reads.proofs.Opens.{inv_start}
 use Rattle.kw_core.proofs.Runs.{goes_on-moved, history-world, holds_of_history}
 use Rattle.kw_shape.proofs.Worlds.{world-local}
+use Rattle.kw_core.proofs.Grouping.{counted_leads, frozen_leads, gathered_leads}
 use Rattle.kw_table.specs.declared.pass.Pass.{Pass}
 use Rattle.kw_table.specs.Passes.{view}
 use Rattle.kw_table.specs.Views.{local_in}
@@ -61,6 +63,13 @@ arrow_rests z v s choice l a k (list_ends next e n) = left_over_rests _ _ n
 arrow_rests z v s choice l a k (key_above next e n) = left_over_rests _ _ n
 arrow_rests z v s choice l a k (left_over_gone_by next e n) = left_over_rests _ _ n
 arrow_rests z v s choice l a k (gathers_left_over next n) = left_over_rests _ _ n
+arrow_rests z v s choice l a k (remembers_last i c version next e o n) = frozen_leads (λ b. Rests b next) tt tt _ next n
+arrow_rests z v s choice l a k (sees_frozen_last i next e o n) = frozen_leads (λ b. Rests b next) tt tt _ next n
+arrow_rests z v s choice l a k (freezes_last i next e o n) = frozen_leads (λ b. Rests b next) tt tt _ next n
+arrow_rests z v s choice l a k (takes_no_more next e none n) = gathered_leads (λ b. Rests b next) tt tt z _ next n
+arrow_rests z v s choice l a k (keeps_no_more next none n) = gathered_leads (λ b. Rests b next) tt tt z _ next n
+arrow_rests z v s choice l a k (marks_led count next d n) = counted_leads (λ b. Rests b next) tt tt _ _ next n
+arrow_rests z v s choice l a k (decides count m next e n) = counted_leads (λ b. Rests b next) tt tt _ _ next n
 arrow_rests z v s choice l a k _ = tt
 
 -- every seat of a run rests where it is idle

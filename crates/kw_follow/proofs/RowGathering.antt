@@ -1,8 +1,9 @@
--- The events that gather a full row along its list, by a cursor: what follows from each.
-use Rattle.std.proofs.Common.{◌≡◌, ◌∙◌, ℕ, ◌≤◌, Option, Some, None, unwrap_or, nat_lt, if◌then◌else◌, List, refl, sym, ap, subst, length}
+-- The events that gather a row of a group along its list, by a cursor: what follows from each.
+use Rattle.std.proofs.Common.{◌≡◌, ◌∙◌, ℕ, ◌≤◌, Bool, true, false, Option, Some, None, unwrap_or, nat_lt, if◌then◌else◌, List, refl, sym, ap, subst, length}
 use Rattle.kw_words.specs.Plain.{cell_of_link_word, key_of_word, value_of_word, version_of_word}
 use Rattle.kw_words.specs.declared.sizes.TheConstants.{CELLS, SEATS}
 use Rattle.kw_cells.specs.declared.cell.Cell.{Cell}
+use Rattle.kw_cells.specs.declared.limits.TheConstants.{MOST_GATHERED}
 use Rattle.kw_cells.specs.InOrder.{with_cell}
 use Rattle.kw_world.specs.declared.activity.Activity.{Activity}
 use Rattle.kw_world.specs.declared.activity.rebalance.Rebalance.TheVariants as Rebalance
@@ -13,14 +14,15 @@ use Rattle.kw_world.specs.declared.local.Local.{Local}
 use Rattle.kw_world.specs.declared.marks.Mark.{Mark}
 use Rattle.kw_world.specs.Marks.{least_mark}
 use Rattle.kw_world.specs.Sizes.{product}
-use Rattle.kw_world.specs.TakeTransitions.{keeping, left_of, take_reached}
-use Rattle.kw_world.specs.Transition.{Outcome, outcome}
+use Rattle.kw_world.specs.GroupPlaces.{place_in_group}
+use Rattle.kw_world.specs.TakeTransitions.{keeping, leaving_over, left_of, row_gathered, take_reached}
+use Rattle.kw_world.specs.Transition.{Outcome, outcome, to}
 use Rattle.kw_table.specs.declared.pass.Pass.{Pass}
 use Rattle.kw_table.specs.declared.shared.Shared.{Shared}
 use Rattle.kw_table.specs.Passes.{Makes}
 use Rattle.kw_follow.specs.declared.cursor.Cursor.{Cursor}
-use Rattle.kw_follow.specs.BuildsOn.{forgetting_mark, past_list, taking_at}
-use Rattle.kw_follow.specs.Cursors.{cell_at, past, reached, with_cursor}
+use Rattle.kw_follow.specs.BuildsOn.{forgetting_mark, group_cell, past_list, taking_at}
+use Rattle.kw_follow.specs.Cursors.{past, reached, with_cursor}
 use Rattle.kw_follow.specs.Following.{Follows}
 use Rattle.kw_follow.specs.Reaching.{Advances}
 use Rattle.kw_follow.proofs.BuildEvents.{needed_few}
@@ -35,7 +37,7 @@ with_gathered cells l = record l { rebalance = record l.rebalance { gathered = c
 -- what the code that goes on after the list may count on
 pub record HasPlace (l : Local) : Type 0 where
   pub walked : l.walked ≤ CELLS
-  pub gathered : length l.rebalance.gathered ≤ CELLS
+  pub gathered : length l.rebalance.gathered ≤ MOST_GATHERED
   pub needed : length l.rebalance.needed ≤ SEATS
 
 module _ {s : Shared} {p : Pass} (l : Local) (w : Cursor) (f : Follows s p (taking_at Gather.Link w l)) where
@@ -78,13 +80,21 @@ module _ {s : Shared} {p q : Pass} {told : ℕ} (l : Local) (w : Cursor) where
       (ap (λ (y : Cursor). taking_at Gather.Link y (with_gathered cells l)) is ∙ ap (λ (cs : List Cell). taking_at Gather.Link (past w) (with_gathered cs l)) kept)
 
 -- the cell at hand is the one that is gathered
-pub cell_kept : {cells : List Cell} {cell : Cell} {value : Option ℕ} (l : Local) (w : Cursor) → cell ≡ cell_at w value → cells ≡ (if nat_lt (length l.rebalance.gathered) CELLS then with_cell cell l.rebalance.gathered else l.rebalance.gathered) → cells ≡ (keeping product value (taking_at Gather.Value w l)).rebalance.gathered
-cell_kept {cells} {cell} {value} l w is put = put ∙ ap (λ (c : Cell). if nat_lt (length l.rebalance.gathered) CELLS then with_cell c l.rebalance.gathered else l.rebalance.gathered) is
+pub cell_kept : {cells : List Cell} {cell : Cell} {value : Option ℕ} (l : Local) (w : Cursor) → cell ≡ group_cell w value l → cells ≡ (if nat_lt (length l.rebalance.gathered) MOST_GATHERED then with_cell cell l.rebalance.gathered else l.rebalance.gathered) → cells ≡ (keeping product value (taking_at Gather.Value w l)).rebalance.gathered
+cell_kept {cells} {cell} {value} l w is put = put ∙ ap (λ (c : Cell). if nat_lt (length l.rebalance.gathered) MOST_GATHERED then with_cell c l.rebalance.gathered else l.rebalance.gathered) is
 
 -- where the seat stands once the list is over
+row_ends : (ahead : Option ℕ) (l : Local) → Ends l (row_gathered product ahead l).local
+row_ends (Some r) l = record { stands = tt; tidies = refl }
+row_ends None l = record { stands = tt; tidies = refl }
+
 left_ends : (x : Option Mark) (l : Local) → Ends l (left_of product x l).local
-left_ends (Some m) l = record { stands = tt; tidies = refl }
-left_ends None l = record { stands = tt; tidies = refl }
+left_ends (Some m) l = which (nat_lt m.cell (place_in_group product l.rebalance product.cells))
+  where
+    which : (b : Bool) → Ends l (let x : Outcome = if b then to (Activity.Rebalance (Rebalance.Gather Gather.LeftOverKey)) (leaving_over product m l) else row_gathered product l.rebalance.ahead l in x).local
+    which true = record { stands = tt; tidies = refl }
+    which false = row_ends l.rebalance.ahead l
+left_ends None l = row_ends l.rebalance.ahead l
 
 pub past_list_ends : (w : Cursor) (l : Local) → Ends l (past_list w l)
 past_list_ends w l = let e = left_ends (least_mark l.rebalance.marks) (taking_at Gather.Link w l) in record { stands = e.stands; tidies = e.tidies }

@@ -2,6 +2,7 @@
 -- seat tidies: one walk over these lines of the table. Only a put that is done begins to tidy, by a
 -- choice that names its row, and only the end of the call ends it.
 use Rattle.std.proofs.Common.{ℕ, ◌≡◌, ◌⊎◌, refl, sym, ◌∙◌, ◌+◌, ap, slice_get, Option, Some, None, Bool, true, false, nat_lt, nat_le, ◌==◌, if◌then◌else◌, unwrap_or, subst, length}
+use Rattle.kw_words.specs.declared.count.Count.{Count}
 use Rattle.kw_words.specs.declared.pend.Pend.{Pend}
 use Rattle.kw_words.specs.declared.pend.Pend.TheVariants as pend
 use Rattle.kw_words.specs.declared.state.State.{State}
@@ -12,11 +13,13 @@ use Rattle.kw_words.specs.Pend.{pend_of, pend_word}
 use Rattle.kw_words.specs.Plain.{version_of_word, key_of_word, value_of_word, pass_of_word, cell_of_link_word, cell_link_word}
 use Rattle.kw_words.specs.Count.{count_of}
 use Rattle.kw_words.specs.Scan.{scan_of}
-use Rattle.kw_words.specs.declared.sizes.TheConstants.{SPENT}
+use Rattle.kw_words.specs.declared.sizes.TheConstants.{MOST_GROUP, SPENT}
 use Rattle.kw_world.specs.declared.answer.Answer.TheVariants.{Spent}
 use Rattle.kw_world.specs.Calls.{first_key}
 use Rattle.kw_world.specs.declared.activity.Activity.{Activity}
+use Rattle.kw_world.specs.declared.activity.rebalance.claim.Claim.TheVariants as Claim
 use Rattle.kw_world.specs.declared.activity.rebalance.engage.Engage.TheVariants as Engage
+use Rattle.kw_world.specs.declared.activity.rebalance.left.Left.TheVariants as Left
 use Rattle.kw_world.specs.declared.activity.rebalance.freeze.Freeze.TheVariants as Freeze
 use Rattle.kw_world.specs.declared.activity.rebalance.gather.Gather.TheVariants as Gather
 use Rattle.kw_world.specs.declared.activity.insert.Insert.TheVariants as Insert
@@ -40,12 +43,15 @@ use Rattle.kw_words.specs.declared.link.Link.{Link}
 use Rattle.kw_words.specs.State.{state_word}
 use Rattle.kw_world.specs.declared.rebalance.Afterwards.{Afterwards}
 use Rattle.kw_world.specs.declared.rebalance.Afterwards.TheVariants.{TryAgain, Refuse, MoveLeft}
-use Rattle.kw_world.specs.EngageTransitions.{again, refuse, to_rebalance, is_alone, state_seen, engaged, followed_by, link_marked, decided}
-use Rattle.kw_world.specs.FreezeTransitions.{to_scans, to_freeze_look, marking, freeze_seen, entry_tried, to_scan_look, needing, scan_seen, scan_helped}
-use Rattle.kw_world.specs.TakeTransitions.{to_take, left_of, take_reached, keeping}
+use Rattle.kw_world.specs.EngageTransitions.{again, claiming, counted, decided, engaged, followed_by, link_marked, refuse, state_seen, to_group, to_rebalance, undecided}
+use Rattle.kw_world.specs.ClaimTransitions.{claimed, next_counted, to_mark_next}
+use Rattle.kw_world.specs.LeftTransitions.{first_left, left_transition, link_left, to_leader}
+use Rattle.kw_world.specs.GroupPlaces.{at_first_row, place_in_group}
+use Rattle.kw_world.specs.FreezeTransitions.{row_frozen, to_freeze_look, marking, freeze_seen, entry_tried, to_scan_look, needing, scan_seen, scan_helped}
+use Rattle.kw_world.specs.TakeTransitions.{to_take, leaving_over, left_of, row_gathered, take_reached, keeping}
 use Rattle.kw_world.specs.SeekTransitions.{given_back, give_back, gave_back, at_infant, has_more, row_behind, to_seek, to_pass, seek_seen, pass_seen, seeking, seek_first_transition, with_row, take_row}
 use Rattle.kw_world.specs.WriteTransitions.{infant_cells, row_written, to_write_after, to_write_cell, to_write_entry}
-use Rattle.kw_world.specs.ReplaceTransitions.{at_before, first_before, guess_before, before_transition, row_before, link_before, row_replaced, replaced}
+use Rattle.kw_world.specs.ReplaceTransitions.{at_before, first_before, guess_before, before_transition, row_before, link_before, row_replaced, replaced, retired}
 use Rattle.kw_world.specs.Table.{transition}
 use Rattle.kw_core.specs.declared.stage.Stage.{Stage}
 use Rattle.kw_core.specs.declared.stage.Stage.TheVariants.{Putting, Rebalancing}
@@ -93,7 +99,7 @@ state_tidies : (state : Option State) (l : Local) → (state_seen state l).local
 state_tidies (Some Free) l = refl
 state_tidies (Some (Infant seat)) l = refl
 state_tidies (Some Normal) l = refl
-state_tidies (Some (Leader count)) l = either (is_alone count) (to (Activity.Rebalance (Rebalance.Engage (Engage.MarkLink count))) l) (again l) refl refl
+state_tidies (Some (Leader count)) l = refl
 state_tidies (Some (Follower leader)) l = refl
 state_tidies (Some (Retired number)) l = refl
 state_tidies None l = refl
@@ -102,25 +108,67 @@ engaged_tidies : (b : Bool) (l : Local) → (engaged b l).local.tidies ≡ l.tid
 engaged_tidies true l = refl
 engaged_tidies false l = refl
 
-marked_tidies : (count : ℕ) (after : Option ℕ) (l : Local) → (link_marked count after l).local.tidies ≡ l.tidies
-marked_tidies count after l = either (count == 0) (to (Activity.Rebalance (Rebalance.Engage (Engage.Decide 1))) (followed_by after l)) (to (Activity.Rebalance (Rebalance.Freeze Freeze.Count)) (followed_by after l)) refl refl
+claiming_tidies : (after : Option ℕ) (l : Local) → (claiming after l).local.tidies ≡ l.tidies
+claiming_tidies (Some r) l = refl
+claiming_tidies None l = refl
 
-decided_tidies : (state : Option State) (l : Local) → (decided state l).local.tidies ≡ l.tidies
-decided_tidies (Some Free) l = refl
-decided_tidies (Some (Infant seat)) l = refl
-decided_tidies (Some Normal) l = refl
-decided_tidies (Some (Leader count)) l = either (is_alone count) (to (Activity.Rebalance (Rebalance.Freeze Freeze.Count)) l) (again l) refl refl
-decided_tidies (Some (Follower leader)) l = refl
-decided_tidies (Some (Retired number)) l = refl
-decided_tidies None l = refl
+-- so many rows are led
+group_tidies : (count : ℕ) (l : Local) → (counted count l).local.tidies ≡ l.tidies
+group_tidies count l = either (count == MOST_GROUP) (claiming l.rebalance.after l) (to_group l) (claiming_tidies l.rebalance.after l) refl
+
+undecided_tidies : (after : Option ℕ) (l : Local) → (undecided after l).local.tidies ≡ l.tidies
+undecided_tidies (Some r) l = refl
+undecided_tidies None l = refl
+
+marked_tidies : (count : ℕ) (after : Option ℕ) (l : Local) → (link_marked count after l).local.tidies ≡ l.tidies
+marked_tidies count after l = either (count == 0) (undecided after (followed_by after l)) (counted count (followed_by after l)) (undecided_tidies after (followed_by after l)) (group_tidies count (followed_by after l))
+
+decided_tidies : (count : ℕ) (state : Option State) (l : Local) → (decided count state l).local.tidies ≡ l.tidies
+decided_tidies count (Some Free) l = refl
+decided_tidies count (Some (Infant seat)) l = refl
+decided_tidies count (Some Normal) l = refl
+decided_tidies count (Some (Leader found)) l = group_tidies (if found == 0 then count else found) l
+decided_tidies count (Some (Follower leader)) l = refl
+decided_tidies count (Some (Retired number)) l = refl
+decided_tidies count None l = refl
+
+-- whatever the count of the next row says of it
+counted_tidies : (count : Option Count) (l : Local) → (next_counted count l).local.tidies ≡ l.tidies
+counted_tidies count l = refl
+
+claimed_tidies : (state : Option State) (l : Local) → (claimed state l).local.tidies ≡ l.tidies
+claimed_tidies (Some Free) l = refl
+claimed_tidies (Some (Infant seat)) l = refl
+claimed_tidies (Some Normal) l = refl
+claimed_tidies (Some (Leader count)) l = refl
+claimed_tidies (Some (Follower leader)) l = either (leader == l.row) (to_mark_next l) (again l) refl refl
+claimed_tidies (Some (Retired number)) l = refl
+claimed_tidies None l = refl
+
+first_left_tidies : (r : ℕ) (l : Local) → (first_left r l).local.tidies ≡ l.tidies
+first_left_tidies r l = either (r == l.row) (again l) (to (Activity.Rebalance (Rebalance.Left Left.Next)) (at_before (Some r) 0 l)) refl refl
+
+left_tidies : (choice : Choice) (l : Local) (rows told : ℕ) → ((left_transition choice l).next rows told).local.tidies ≡ l.tidies
+left_tidies (Begin call) l rows told = first_left_tidies (row_or_first (row_linked (link_of told))) l
+left_tidies Go l rows told = first_left_tidies (row_or_first (row_linked (link_of told))) l
+left_tidies (Guess r) l rows told = refl
+left_tidies Stop l rows told = first_left_tidies (row_or_first (row_linked (link_of told))) l
+
+link_left_tidies : (r : Option ℕ) (l : Local) → (link_left r l).local.tidies ≡ l.tidies
+link_left_tidies (Some r) l = either (r == l.row) (to_leader l) (to (Activity.Rebalance (Rebalance.Left Left.NextLeast)) (record l { candidate = r })) refl refl
+link_left_tidies None l = refl
+
+row_frozen_tidies : (ahead : Option ℕ) (l : Local) → (row_frozen ahead l).local.tidies ≡ l.tidies
+row_frozen_tidies (Some r) l = refl
+row_frozen_tidies None l = refl
 
 freeze_looks : (z : Sizes) (i : ℕ) (l : Local) → (to_freeze_look z i l).local.tidies ≡ l.tidies
-freeze_looks z i l = either (nat_lt i z.seats) (to (Activity.Rebalance (Rebalance.Freeze (Freeze.Look i))) l) (to_scans l) refl refl
+freeze_looks z i l = either (nat_lt i z.seats) (to (Activity.Rebalance (Rebalance.Freeze (Freeze.Look i))) l) (row_frozen l.rebalance.ahead l) refl (row_frozen_tidies l.rebalance.ahead l)
 
 freeze_tidies : (z : Sizes) (i : ℕ) (e : Option Pend) (l : Local) → (freeze_seen z i e l).local.tidies ≡ l.tidies
 freeze_tidies z i (Some pend.Idle) l = refl
 freeze_tidies z i (Some (pend.Pending cell)) l = refl
-freeze_tidies z i (Some (pend.Stamped cell version)) l = freeze_looks z (i + 1) (marking cell version l)
+freeze_tidies z i (Some (pend.Stamped cell version)) l = freeze_looks z (i + 1) (marking z cell version l)
 freeze_tidies z i (Some pend.Frozen) l = freeze_looks z (i + 1) l
 freeze_tidies z i None l = freeze_looks z (i + 1) l
 
@@ -148,13 +196,17 @@ helped_tidies z i (Some (scan.Waiting clock)) l = scan_looks_then z (i + 1) (if 
 helped_tidies z i (Some (scan.Drawn version)) l = scan_looks_then z (i + 1) (needing version l) refl
 helped_tidies z i None l = scan_looks_then z (i + 1) l refl
 
-left_tidies : (z : Sizes) (m : Option Mark) (l : Local) → (left_of z m l).local.tidies ≡ l.tidies
-left_tidies z (Some m) l = refl
-left_tidies z None l = refl
+row_gathered_tidies : (z : Sizes) (ahead : Option ℕ) (l : Local) → (row_gathered z ahead l).local.tidies ≡ l.tidies
+row_gathered_tidies z (Some r) l = refl
+row_gathered_tidies z None l = refl
+
+left_of_tidies : (z : Sizes) (m : Option Mark) (l : Local) → (left_of z m l).local.tidies ≡ l.tidies
+left_of_tidies z (Some m) l = either (nat_lt m.cell (place_in_group z l.rebalance z.cells)) (to (Activity.Rebalance (Rebalance.Gather Gather.LeftOverKey)) (leaving_over z m l)) (row_gathered z l.rebalance.ahead l) refl (row_gathered_tidies z l.rebalance.ahead l)
+left_of_tidies z None l = row_gathered_tidies z l.rebalance.ahead l
 
 take_tidies : (z : Sizes) (cell : Option ℕ) (l : Local) → (take_reached z cell l).local.tidies ≡ l.tidies
 take_tidies z (Some cell) l = refl
-take_tidies z None l = left_tidies z (least_mark l.rebalance.marks) l
+take_tidies z None l = left_of_tidies z (least_mark l.rebalance.marks) l
 
 given_back_tidies : (a : Afterwards) (l : Local) → (given_back a l).local.tidies ≡ l.tidies
 given_back_tidies TryAgain l = refl
@@ -242,6 +294,10 @@ replaced_tidies : (link : Option Link) (l : Local) → (replaced link l).local.t
 replaced_tidies (Some link) l = row_replaced_tidies link.row link.marked l
 replaced_tidies None l = give_back_tidies TryAgain l
 
+retired_tidies : (ahead : Option ℕ) (l : Local) → (retired ahead l).local.tidies ≡ l.tidies
+retired_tidies (Some r) l = refl
+retired_tidies None l = refl
+
 abbrev IsWorkStage : Stage → Type 0
 IsWorkStage Putting = Unit {0}
 IsWorkStage Rebalancing = Unit {0}
@@ -274,7 +330,13 @@ keeps z (Activity.Rebalance (Rebalance.Engage Engage.State)) s choice l rows tol
 keeps z (Activity.Rebalance (Rebalance.Engage (Engage.Normal seat))) s choice l rows told u = refl
 keeps z (Activity.Rebalance (Rebalance.Engage Engage.Lead)) s choice l rows told u = engaged_tidies (told == state_word Normal) l
 keeps z (Activity.Rebalance (Rebalance.Engage (Engage.MarkLink count))) s choice l rows told u = marked_tidies count (row_linked (link_of told)) l
-keeps z (Activity.Rebalance (Rebalance.Engage (Engage.Decide count))) s choice l rows told u = decided_tidies (state_of told) l
+keeps z (Activity.Rebalance (Rebalance.Engage (Engage.Decide count))) s choice l rows told u = decided_tidies count (state_of told) l
+keeps z (Activity.Rebalance (Rebalance.Claim Claim.Count)) s choice l rows told u = counted_tidies (count_of told) l
+keeps z (Activity.Rebalance (Rebalance.Claim Claim.Exchange)) s choice l rows told u = claimed_tidies (state_of told) l
+keeps z (Activity.Rebalance (Rebalance.Claim _)) s choice l rows told u = refl
+keeps z (Activity.Rebalance (Rebalance.Left Left.Start)) s choice l rows told u = left_tidies choice l rows told
+keeps z (Activity.Rebalance (Rebalance.Left Left.Next)) s choice l rows told u = link_left_tidies (row_linked (link_of told)) l
+keeps z (Activity.Rebalance (Rebalance.Left Left.NextLeast)) s choice l rows told u = either (nat_lt (key_of_word told) l.lower) (to (Activity.Rebalance (Rebalance.Left Left.Next)) (at_before (Some l.candidate) (key_of_word told) l)) (again l) refl refl
 keeps z (Activity.Rebalance (Rebalance.Freeze Freeze.Count)) s choice l rows told u = refl
 keeps z (Activity.Rebalance (Rebalance.Freeze (Freeze.Look i))) s choice l rows told u = freeze_tidies z i (pend_of told) l
 keeps z (Activity.Rebalance (Rebalance.Freeze (Freeze.Entry i))) s choice l rows told u = entry_tidies z i (told == pend_word l.rebalance.entry) l
@@ -282,7 +344,7 @@ keeps z (Activity.Rebalance (Rebalance.Freeze (Freeze.Scan i))) s choice l rows 
 keeps z (Activity.Rebalance (Rebalance.Freeze (Freeze.Draw i))) s choice l rows told u = refl
 keeps z (Activity.Rebalance (Rebalance.Freeze (Freeze.Settle i))) s choice l rows told u = helped_tidies z i (scan_of told) l
 keeps z (Activity.Rebalance (Rebalance.Gather Gather.Link)) s choice l rows told u = take_tidies z (cell_of_link_word told) l
-keeps z (Activity.Rebalance (Rebalance.Gather Gather.LeftOverValue)) s choice l rows told u = left_tidies z (least_mark l.rebalance.marks) (keeping z (value_of_word told) l)
+keeps z (Activity.Rebalance (Rebalance.Gather Gather.LeftOverValue)) s choice l rows told u = left_of_tidies z (least_mark l.rebalance.marks) (keeping z (value_of_word told) l)
 keeps z (Activity.Rebalance (Rebalance.Gather _)) s choice l rows told u = refl
 keeps z (Activity.Rebalance (Rebalance.Seek Seek.First)) s choice l rows told u = seek_first_tidies choice l rows told
 keeps z (Activity.Rebalance (Rebalance.Seek Seek.Next)) s choice l rows told u = seek_tidies rows (state_of told) (seeking l.rebalance.sought l)
@@ -301,9 +363,9 @@ keeps z (Activity.Rebalance (Rebalance.Replace Replace.First)) s choice l rows t
 keeps z (Activity.Rebalance (Rebalance.Replace Replace.Next)) s choice l rows told u = link_before_tidies (link_of told) l
 keeps z (Activity.Rebalance (Rebalance.Replace Replace.NextLeast)) s choice l rows told u = either (nat_lt (key_of_word told) l.lower) (to (Activity.Rebalance (Rebalance.Replace Replace.Next)) (at_before (Some l.candidate) (key_of_word told) l)) (give_back TryAgain l) refl (give_back_tidies TryAgain l)
 keeps z (Activity.Rebalance (Rebalance.Replace Replace.Exchange)) s choice l rows told u = replaced_tidies (link_of told) l
-keeps z (Activity.Rebalance (Rebalance.Replace Replace.Normalise)) s choice l rows told u = either (has_more l) (to (Activity.Rebalance (Rebalance.Replace Replace.Normalise)) (at_infant (l.rebalance.at + 1) l)) (to (Activity.Rebalance (Rebalance.Replace Replace.Number)) l) refl refl
+keeps z (Activity.Rebalance (Rebalance.Replace Replace.Normalise)) s choice l rows told u = either (has_more l) (to (Activity.Rebalance (Rebalance.Replace Replace.Normalise)) (at_infant (l.rebalance.at + 1) l)) (to (Activity.Rebalance (Rebalance.Replace Replace.Number)) (at_first_row l)) refl refl
 keeps z (Activity.Rebalance (Rebalance.Replace Replace.Number)) s choice l rows told u = refl
-keeps z (Activity.Rebalance (Rebalance.Replace Replace.Retire)) s choice l rows told u = refl
+keeps z (Activity.Rebalance (Rebalance.Replace Replace.Retire)) s choice l rows told u = retired_tidies l.rebalance.ahead l
 keeps z _ s choice l rows told u = absurd u
 
 stage_works : (st : Stage) → IsBalancingStage st → IsWorkStage st

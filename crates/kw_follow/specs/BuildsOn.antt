@@ -1,6 +1,7 @@
--- How a rebalance gathers a full row and writes a new one while code leaves most of its local where
--- it was, and which local the pass follows meanwhile.
-use Rattle.std.specs.Prelude.{ℕ}
+-- How a rebalance gathers the rows of its group and writes a new one while code leaves most of its
+-- local where it was, and which local the pass follows meanwhile.
+use Rattle.std.specs.Prelude.{ℕ, Option}
+use Rattle.kw_cells.specs.declared.cell.Cell.{Cell}
 use Rattle.kw_world.specs.declared.activity.Activity.{Activity}
 use Rattle.kw_world.specs.declared.activity.rebalance.Rebalance.TheVariants as Rebalance
 use Rattle.kw_world.specs.declared.activity.rebalance.gather.Gather.{Gather}
@@ -8,15 +9,16 @@ use Rattle.kw_world.specs.declared.activity.rebalance.replace.Replace.TheVariant
 use Rattle.kw_world.specs.declared.activity.rebalance.seek.Seek.TheVariants as Seek
 use Rattle.kw_world.specs.declared.activity.rebalance.write.Write.{Write}
 use Rattle.kw_world.specs.declared.local.Local.{Local}
+use Rattle.kw_world.specs.GroupPlaces.{place_in_group}
 use Rattle.kw_world.specs.Marks.{unmarked}
 use Rattle.kw_world.specs.Sizes.{product}
 use Rattle.kw_world.specs.TakeTransitions.{to_left}
 use Rattle.kw_world.specs.WriteTransitions.{to_write_cell, to_write_entry}
 use Rattle.kw_follow.specs.declared.cursor.Cursor.{Cursor}
-use Rattle.kw_follow.specs.Cursors.{with_cursor}
+use Rattle.kw_follow.specs.Cursors.{cell_at, with_cursor}
 
--- it stands where it gathers the full row or writes a new one, or is about to seek free rows or the
--- row before the full one
+-- it stands where it gathers a row or writes a new one, or is about to seek free rows or the row
+-- before the full one
 abbrev pub IsBuildingOn : Activity → Type 0
 IsBuildingOn (Activity.Rebalance (Rebalance.Gather _)) = Unit {0}
 IsBuildingOn (Activity.Rebalance (Rebalance.Write _)) = Unit {0}
@@ -37,16 +39,20 @@ at_entry i l = (to_write_entry product i l).local
 abbrev pub at_cell : ℕ → Local → Local
 at_cell j l = (to_write_cell product j l).local
 
--- the local of a seat that does this next as it gathers a full row, whose cursor is here
+-- the local of a seat that does this next as it gathers the row at hand, whose cursor is here
 abbrev pub taking_at : Gather → Cursor → Local → Local
 taking_at g c l = with_cursor (Activity.Rebalance (Rebalance.Gather g)) c l
 
--- the cell need not be remembered any more
+-- the cell of the row at hand need not be remembered any more
 abbrev pub forgetting_mark : ℕ → Local → Local
-forgetting_mark cell l = record l { rebalance = record l.rebalance { marks = unmarked cell l.rebalance.marks } }
+forgetting_mark cell l = record l { rebalance = record l.rebalance { marks = unmarked (place_in_group product l.rebalance cell) l.rebalance.marks } }
 
--- the local of a seat whose cursor stood at the last link of the full row's list, once it has seen
--- that no cell is behind it
+-- the cell at hand, with this value, and with its place in the group
+abbrev pub group_cell : Cursor → Option ℕ → Local → Cell
+group_cell c value l = record (cell_at c value) { place = place_in_group product l.rebalance c.place }
+
+-- the local of a seat whose cursor stood at the last link of the row's list, once it has seen that
+-- no cell is behind it
 abbrev pub past_list : Cursor → Local → Local
 past_list c l = (to_left product (taking_at Gather.Link c l)).local
 

@@ -1,11 +1,12 @@
 //! The events of a rebalance.
 //!
-//! Those by which the full row gets its leader (`engaging`), that freeze it and gather the cells
-//! that were not reached in its list (`gathering`), that take a free row (`seeking`), and that link
-//! the new rows in place of the full one (`replacing`) have a step of their own each. What most
-//! rebalances do not need, as giving rows back, is put together in `going`; the cells in the list
-//! are gathered as `row_gathering` says, rows are asked for their state as `seeking` does, and new
-//! ones written as `row_writing` does.
+//! Those by which the full row gets its leader (`engaging`), that freeze the row at hand and gather
+//! the cells that were not reached in its list (`gathering`), that take a free row (`seeking`), and
+//! that link the new rows in place of the group (`replacing`) have a step of their own each. What
+//! most rebalances do not need, as taking the next row along, going left to a leader, or giving
+//! rows back, is put together in `going`; the cells in the list are gathered as `row_gathering`
+//! says, rows are asked for their state as `seeking` does, and new ones written as `row_writing`
+//! does.
 ghost use Rattle.std.specs.Prelude.{◌<◌};
 ghost use Rattle.kw_follow.specs.Following.{Follows};
 ghost use Rattle.kw_follow.specs.Moving.{Moves, WentOn};

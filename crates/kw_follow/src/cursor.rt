@@ -32,7 +32,8 @@ use kw_world::local::Local;
 /// How far a reader or a put has come along the list of its row, and the cell that it has at hand.
 #[derive(Clone, Copy, Debug, PartialEq, Eq)]
 pub struct Cursor {
-    /// The row whose list it is.
+    /// The row of the reader or the put, whose list it is. A rebalance goes along the list of the
+    /// row at hand, which its local has.
     pub row: u32,
     /// The cell after whose link the walk goes on; none at the row's first link.
     pub link: Option<u32>,

@@ -1,8 +1,9 @@
 //! The events by which a rebalance begins, each by its own step of the table.
 //!
 //! A rebalance loads the clock, the epoch and the state of the full row; it makes the row a leader,
-//! marks the link after it, decides that the row is replaced alone, and freezes its count. What the
-//! local does next says which step it is, as in `putting`; `building` asks for it.
+//! marks the link after it, decides whether the row after it goes along, and freezes the count of
+//! the row at hand. What the local does next says which step it is, as in `putting`; `building`
+//! asks for it.
 ghost use Rattle.std.specs.Prelude.{◌≡◌};
 ghost use Rattle.kw_world.specs.Parts.{part_of};
 ghost use Rattle.kw_world.specs.Sane.{HasRoom, IsLocal};
@@ -126,13 +127,14 @@ pub(crate) fn decide_count(
     rebalance_on(shared, local, Choice::Go, told)
 }
 
-// Sets the frozen bit of the full row's count.
+// Sets the frozen bit of the count of the row at hand.
 #[inline(always)]
 pub(crate) fn freeze_row_count(shared: &Shared, pass: &mut Pass, local: &mut Local) -> StepDone
     requires { FollowsAt shared.now pass.old local.old
         (Activity.Rebalance (Rebalance.Freeze Freeze.Count)) }
     ensures { Moves shared.now pass.old local.old Choice.Go pass.new local.new result }
 {
-    let told = freeze_count(shared, pass, Name::Count(local.row), FROZEN_BIT);
+    let count = Name::Count(local.rebalance.hand);
+    let told = freeze_count(shared, pass, count, FROZEN_BIT);
     rebalance_on(shared, local, Choice::Go, told)
 }

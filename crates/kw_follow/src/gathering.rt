@@ -1,10 +1,10 @@
-//! The events that freeze a full row and gather the cells that were not reached in its list, each
-//! by its own step of the table.
+//! The events that freeze the rows of a group and gather the cells that were not reached in their
+//! lists, each by its own step of the table.
 //!
-//! A rebalance looks at each entry of the full row, and freezes it where no version is stamped
-//! there; it looks at each scan; and then it goes along the row's list, as `row_gathering` says.
-//! What it remembers of the entries and did not reach there it reads after it. What the local does
-//! next says which step it is, as in `putting`; `building` asks for it.
+//! A rebalance looks at each entry of the row at hand, and freezes it where no version is stamped
+//! there; it looks at each scan; and then it goes along the list of each row, as `row_gathering`
+//! says. What it remembers of the row's entries and did not reach there it reads after it. What the
+//! local does next says which step it is, as in `putting`; `building` asks for it.
 ghost use Rattle.kw_follow.specs.Moving.{FollowsAt, Moves};
 
 use kw_step_rebal::resume_freeze::{entry_tried, look, scan};
@@ -19,7 +19,7 @@ use kw_world::activity::rebalance::gather::Gather;
 use kw_world::event::{Choice, StepDone};
 use kw_world::local::Local;
 
-// Loads an entry of the full row.
+// Loads an entry of the row at hand.
 #[inline(always)]
 pub(crate) fn look_at_entry(
     shared: &Shared,
@@ -31,7 +31,7 @@ pub(crate) fn look_at_entry(
         (Activity.Rebalance (Rebalance.Freeze (Freeze.Look entry))) }
     ensures { Moves shared.now pass.old local.old Choice.Go pass.new local.new result }
 {
-    let word = Name::Pend(local.row, entry);
+    let word = Name::Pend(local.rebalance.hand, entry);
     let told = load_pend(shared, pass, word);
     look(local, entry, told)
 }
@@ -48,7 +48,7 @@ pub(crate) fn freeze_entry(
         (Activity.Rebalance (Rebalance.Freeze (Freeze.Entry entry))) }
     ensures { Moves shared.now pass.old local.old Choice.Go pass.new local.new result }
 {
-    let word = Name::Pend(local.row, entry);
+    let word = Name::Pend(local.rebalance.hand, entry);
     let found = local.rebalance.entry.pack();
     let frozen = Pend::Frozen.pack();
     let told = freeze_pend(shared, pass, word, found, frozen);
@@ -78,7 +78,7 @@ pub(crate) fn load_left_key(shared: &Shared, pass: &mut Pass, local: &mut Local)
         (Activity.Rebalance (Rebalance.Gather Gather.LeftOverKey)) }
     ensures { Moves shared.now pass.old local.old Choice.Go pass.new local.new result }
 {
-    let key = Name::Key(local.row, local.place);
+    let key = Name::Key(local.rebalance.hand, local.place);
     let told = load_key(shared, pass, Choice::Go, key);
     take_left_over_key(local, told)
 }
@@ -90,7 +90,7 @@ pub(crate) fn load_left_value(shared: &Shared, pass: &mut Pass, local: &mut Loca
         (Activity.Rebalance (Rebalance.Gather Gather.LeftOverValue)) }
     ensures { Moves shared.now pass.old local.old Choice.Go pass.new local.new result }
 {
-    let value = Name::Value(local.row, local.place);
+    let value = Name::Value(local.rebalance.hand, local.place);
     let told = load_value(shared, pass, value);
     left_over_value(local, told)
 }

@@ -9,7 +9,7 @@
 //! row, `Cursor` those of a reader along the list of its row and of a put that goes by cells there,
 //! `go_remembered` those at the cells that a reader remembers and did not reach there, `go_build`,
 //! `go_build_guess` and `go_finish` those that most rebalances have, and `go_anew` those by which a
-//! call enters anew: each by its own step of the table. A rebalance gathers the full row by
+//! call enters anew: each by its own step of the table. A rebalance gathers the row at hand by
 //! `reach_next` and `gather_cell`, asks rows by a `Search`, and writes a new row by `write_row`,
 //! many events at once. A get that sees nothing on its way leaves its local at rest and goes by a
 //! `Way`, which `end_resting` ends.

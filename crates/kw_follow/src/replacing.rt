@@ -1,5 +1,5 @@
 //! The events that find the row before the full one, link the new rows in place of the full one,
-//! make them normal and retire it, each by its own step of the table.
+//! make them normal and retire the rows of its group, each by its own step of the table.
 //!
 //! What the local does next says which step it is, as in `putting`; up to the exchange of the link
 //! `building` asks for it, and behind that `go_finish`. The walk to the row before begins at a
@@ -151,14 +151,14 @@ fn draw_number(shared: &Shared, pass: &mut Pass, local: &mut Local) -> StepDone
     rebalance_on(shared, local, Choice::Go, told)
 }
 
-// Stores that the full row is retired with that number.
+// Stores that the row at hand is retired with that number.
 #[inline(always)]
 fn retire_row(shared: &Shared, pass: &mut Pass, local: &mut Local) -> StepDone
     requires { FollowsAt shared.now pass.old local.old
         (Activity.Rebalance (Rebalance.Replace Replace.Retire)) }
     ensures { Moves shared.now pass.old local.old Choice.Go pass.new local.new result }
 {
-    let state = Name::State(local.row);
+    let state = Name::State(local.rebalance.hand);
     let retired = State::Retired(local.rebalance.number).pack();
     let told = retire(shared, pass, state, retired);
     rebalance_on(shared, local, Choice::Go, told)

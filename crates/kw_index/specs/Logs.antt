@@ -35,7 +35,7 @@ later seen count = (seen + count) % numbers
 
 -- the change of a number, where it is kept
 abbrev pub change_of : Account → ℕ → Replacement
-change_of account number = slice_index_or account.changes (place number) (record { placed = []; gone = zero })
+change_of account number = slice_index_or account.changes (place number) (record { placed = []; gone = zero; second = None })
 
 -- entries once so many changes behind a number were made, in the order of their numbers
 unfoldable pub after : Account → ℕ → ℕ → Listing → Listing

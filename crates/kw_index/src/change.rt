@@ -1,8 +1,8 @@
 //! What a publication changes of the entries before it.
 //!
-//! A rebalance puts new rows in the place of one: each of them comes with its least key, and the
-//! one goes. The same change is made in several lists of entries, one after the other, so it is a
-//! value of its own. It has room for `MOST_PLACED` rows.
+//! A rebalance puts new rows in the place of one, or of two neighbours: each of them comes with its
+//! least key, and the others go. The same change is made in several lists of entries, one after the
+//! other, so it is a value of its own. It has room for `MOST_PLACED` rows.
 ghost use Rattle.std.specs.Prelude.{◌≡◌, ◌<◌, ◌≤◌, [], ◌∷◌, ◌++◌, length};
 ghost use Rattle.kw_index.specs.Changes.{with_change};
 
@@ -18,14 +18,15 @@ pub const MOST_PLACED: usize = 8;
 /// place.
 pub const MOST_UNTOLD: usize = 64;
 
-/// New rows in the place of one.
+/// New rows in the place of one, or of two neighbours.
 ///
-/// Seen as the list of the entries of the new rows, in the order in which they are placed, and the
-/// row that goes.
+/// Seen as the list of the entries of the new rows, in the order in which they are placed, the row
+/// that goes, and the row that goes with it, if there is one.
 #[derive(Debug, Default, Drop)]
 pub struct Change {
     placed: ArrayVec<IndexEntry, MOST_PLACED>,
     gone: u32,
+    second: Option<u32>,
 }
 
 impl Model for Change {
@@ -33,17 +34,22 @@ impl Model for Change {
 
     ghost Value = { Replacement };
 
-    ghost view = { λ change. record { placed = change.placed.items; gone = change.gone } };
+    ghost view = { λ change. record {
+      placed = change.placed.items;
+      gone = change.gone;
+      second = change.second;
+    } };
 }
 
 impl Change {
-    /// This row goes, and no row comes as yet.
-    pub fn without(gone: u32) -> Change
-        ensures { result ≡ record { placed = []; gone = gone } }
+    /// This row goes, and with it the second one, if there is one; no row comes as yet.
+    pub fn without(gone: u32, second: Option<u32>) -> Change
+        ensures { result ≡ record { placed = []; gone = gone; second = second } }
     {
         Change {
             placed: ArrayVec::new(),
             gone,
+            second,
         }
     }
 
@@ -53,6 +59,7 @@ impl Change {
         ensures room { length self.old.placed < MOST_PLACED → self.new ≡ record {
           placed = self.old.placed ++ entry ∷ [];
           gone = self.old.gone;
+          second = self.old.second;
         } }
         ensures full { MOST_PLACED ≤ length self.old.placed → self.new ≡ self.old }
     {
@@ -63,11 +70,11 @@ impl Change {
 }
 
 impl Entries {
-    /// Makes the change: the new rows come, each with its least key, and the one row goes. Takes no
+    /// Makes the change: the new rows come, each with its least key, and the others go. Takes no
     /// memory.
     ///
-    /// In this order nothing is searched for: the first new row takes the place of the one that
-    /// goes, which then has no entry any more.
+    /// In this order one row at most is searched for: the first new row takes the place of the one
+    /// that goes, which then has no entry any more.
     pub fn apply(&mut self, change: &Change)
         ensures { self.new ≡ with_change change.now self.old }
     {
@@ -75,5 +82,8 @@ impl Entries {
             self.place(*entry);
         }
         self.remove(change.gone);
+        if let Some(row) = change.second {
+            self.remove(row);
+        }
     }
 }

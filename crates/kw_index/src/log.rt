@@ -192,7 +192,7 @@ fn no_changes(alloc: Global) -> Result<Vec<Change>, Memory>
 {
     let mut changes = Vec::with_capacity(alloc, CHANGES_KEPT as usize)?;
     for _count in 0..CHANGES_KEPT {
-        changes.push(Change::without(0))?;
+        changes.push(Change::without(0, None))?;
     }
     Ok(changes)
 }

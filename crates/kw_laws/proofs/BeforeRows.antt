@@ -1,4 +1,6 @@
--- Where the walk to the row before a full one ends, the full row is in the list no more.
+-- Where the walk to the row before a full one ends, or that to the leader of a follower, the seat's
+-- own row is in the list no more. Both walks are spoken of as one here, and the own row as the full
+-- one.
 --
 -- Each row that the walk names was in the list after the full row came to it, or the full row is in
 -- it no more: a row that was reached along the link of a dead one went no sooner than that one. Of
@@ -18,6 +20,7 @@ use Rattle.kw_rows.specs.Rows.{Chain, HoldsKey, IsBefore, WasLinked}
 use Rattle.kw_rows.specs.Structure.{Structure}
 use Rattle.kw_rows.proofs.Named.{above_least, ends_at, held_by, normal_live, one_beginning}
 use Rattle.kw_world.specs.declared.activity.Activity.{Activity}
+use Rattle.kw_world.specs.declared.activity.rebalance.left.Left.TheVariants as Left
 use Rattle.kw_world.specs.declared.activity.rebalance.Rebalance.TheVariants as Rebalance
 use Rattle.kw_world.specs.declared.activity.rebalance.replace.Replace.TheVariants as Replace
 use Rattle.kw_world.specs.declared.event.Choice.{Choice}
@@ -43,10 +46,10 @@ use Rattle.kw_core.proofs.NextBuilt.{GivenBack, is_refused_rows, moves_left, tri
 use Rattle.kw_core.proofs.Runs.{goes_on-moved, holds_of_history}
 use Rattle.kw_shape.specs.ReachedRows.{IsReached, is_first as reached_first, is_next as reached_next}
 use Rattle.kw_shape.specs.RowsIn.{rows_in, state_seen}
-use Rattle.kw_shape.specs.Search.{HasReachedNext, IsLeft, IsSearching, Search}
+use Rattle.kw_shape.specs.Search.{HasBefore, HasReachedNext, IsLeft, IsMeasured, IsSearching, Search}
 use Rattle.kw_shape.specs.Shape.{Shape}
 use Rattle.kw_shape.proofs.AfterBuilding.{built_balancing}
-use Rattle.kw_shape.proofs.Comings.{Comes, comes, goes_on as builds_on, seeks, stays_out}
+use Rattle.kw_shape.proofs.Comings.{Comes, IsGoingLeft, LeftBy, comes, goes_by, goes_on as builds_on, is_at_first, knows_leader, left_by, left_search, saw_next, seeks, stays_out}
 use Rattle.kw_shape.proofs.LinkedRows.{GoesNow, balance_at, dead_before, fresh_linked, linked_keeps, search_at}
 use Rattle.kw_shape.proofs.SearchKeep.{search_by}
 use Rattle.kw_shape.proofs.ShapeOpens.{each_rests}
@@ -55,14 +58,18 @@ use Rattle.kw_reads.specs.Inv.{Inv, lower}
 use Rattle.kw_reads.proofs.Keeps.{inv_goes_on}
 use Rattle.kw_reads.proofs.KeptKeeps.{live_was}
 use Rattle.kw_reads.proofs.Opens.{inv_start}
+use Rattle.kw_laws.specs.Laws.{IsLeavingBefore, IsReachingNext}
 
 -- What a seat knows of the rows of its walk.
 
--- the seat knows a row on the way to that before its full one
+-- the seat knows a row on the way to that before its full one; a leader that a state named is none
+-- of a walk
 abbrev IsWalkingBefore : Activity → Type 0
 IsWalkingBefore (Activity.Rebalance (Rebalance.Replace Replace.GuessedLeast)) = Unit {0}
 IsWalkingBefore (Activity.Rebalance (Rebalance.Replace Replace.Next)) = Unit {0}
 IsWalkingBefore (Activity.Rebalance (Rebalance.Replace Replace.NextLeast)) = Unit {0}
+IsWalkingBefore (Activity.Rebalance (Rebalance.Left Left.Next)) = Unit {0}
+IsWalkingBefore (Activity.Rebalance (Rebalance.Left Left.NextLeast)) = Unit {0}
 IsWalkingBefore _ = ⊥
 
 -- if the full row q is in the list, and x is so no more, x went after q came
@@ -79,29 +86,38 @@ record WalksBefore (v : Words) (g : Ledger) (a : Activity) (l : Local) : Type 0 
 
 reached_walks : (a : Activity) → HasReachedNext a → IsWalkingBefore a
 reached_walks (Activity.Rebalance (Rebalance.Replace Replace.NextLeast)) x = tt
+reached_walks (Activity.Rebalance (Rebalance.Left Left.NextLeast)) x = tt
 reached_walks _ x = absurd x
 
 reached_searches : (a : Activity) (l : Local) → HasReachedNext a → IsSearching a l
 reached_searches (Activity.Rebalance (Rebalance.Replace Replace.NextLeast)) l x = tt
+reached_searches (Activity.Rebalance (Rebalance.Left Left.NextLeast)) l x = tt
 reached_searches _ l x = absurd x
 
 walking_balances : (a : Activity) → IsWalkingBefore a → IsBalancing a
 walking_balances (Activity.Rebalance (Rebalance.Replace Replace.GuessedLeast)) x = tt
 walking_balances (Activity.Rebalance (Rebalance.Replace Replace.Next)) x = tt
 walking_balances (Activity.Rebalance (Rebalance.Replace Replace.NextLeast)) x = tt
+walking_balances (Activity.Rebalance (Rebalance.Left Left.Next)) x = tt
+walking_balances (Activity.Rebalance (Rebalance.Left Left.NextLeast)) x = tt
 walking_balances _ x = absurd x
 
-walking_builds : (a : Activity) → IsWalkingBefore a → IsBuilding a
-walking_builds (Activity.Rebalance (Rebalance.Replace Replace.GuessedLeast)) x = tt
-walking_builds (Activity.Rebalance (Rebalance.Replace Replace.Next)) x = tt
-walking_builds (Activity.Rebalance (Rebalance.Replace Replace.NextLeast)) x = tt
-walking_builds _ x = absurd x
+-- it builds rows, or goes left
+walking_builds : (a : Activity) → IsWalkingBefore a → (IsBuilding a → ⊥) → IsGoingLeft a
+walking_builds (Activity.Rebalance (Rebalance.Replace Replace.GuessedLeast)) x n = absurd (n tt)
+walking_builds (Activity.Rebalance (Rebalance.Replace Replace.Next)) x n = absurd (n tt)
+walking_builds (Activity.Rebalance (Rebalance.Replace Replace.NextLeast)) x n = absurd (n tt)
+walking_builds (Activity.Rebalance (Rebalance.Left Left.Next)) x n = tt
+walking_builds (Activity.Rebalance (Rebalance.Left Left.NextLeast)) x n = tt
+walking_builds _ x n = absurd x
 
 -- a seat is on its walk, or is not
 is_walking : (a : Activity) → IsWalkingBefore a ⊎ (IsWalkingBefore a → ⊥)
 is_walking (Activity.Rebalance (Rebalance.Replace Replace.GuessedLeast)) = inl tt
 is_walking (Activity.Rebalance (Rebalance.Replace Replace.Next)) = inl tt
 is_walking (Activity.Rebalance (Rebalance.Replace Replace.NextLeast)) = inl tt
+is_walking (Activity.Rebalance (Rebalance.Left Left.Next)) = inl tt
+is_walking (Activity.Rebalance (Rebalance.Left Left.NextLeast)) = inl tt
 is_walking _ = inr (λ x. x)
 
 -- elsewhere it knows nothing of it
@@ -118,6 +134,9 @@ data StepsBefore (v : Words) (l : Local) : Activity → Local → Type 0 where
   serves : StepsBefore v l (Activity.Rebalance (Rebalance.Replace Replace.GuessedLeast)) (record l { rebalance = record l.rebalance { least = least_in v (row_or_first l.rebalance.before) }; activity = Activity.Rebalance (Rebalance.Replace Replace.Next) })
   reaches : (q : ℕ) → next_in v (row_or_first l.rebalance.before) ≡ Some q → q ≢ l.row → StepsBefore v l (Activity.Rebalance (Rebalance.Replace Replace.Next)) (record l { candidate = q; activity = Activity.Rebalance (Rebalance.Replace Replace.NextLeast) })
   moves : StepsBefore v l (Activity.Rebalance (Rebalance.Replace Replace.NextLeast)) (record (at_before (Some l.candidate) (least_in v l.candidate) l) { activity = Activity.Rebalance (Rebalance.Replace Replace.Next) })
+  left_from_first : (q : ℕ) → row_or_first (row_linked (link_of (v name.Head))) ≡ q → StepsBefore v l (Activity.Rebalance (Rebalance.Left Left.Start)) (record (at_before (Some q) 0 l) { activity = Activity.Rebalance (Rebalance.Left Left.Next) })
+  left_reaches : (q : ℕ) → next_in v (row_or_first l.rebalance.before) ≡ Some q → q ≢ l.row → StepsBefore v l (Activity.Rebalance (Rebalance.Left Left.Next)) (record l { candidate = q; activity = Activity.Rebalance (Rebalance.Left Left.NextLeast) })
+  left_moves : StepsBefore v l (Activity.Rebalance (Rebalance.Left Left.NextLeast)) (record (at_before (Some l.candidate) (least_in v l.candidate) l) { activity = Activity.Rebalance (Rebalance.Left Left.Next) })
 
 -- its full row stays the same
 row_same : (v : Words) (l : Local) (a : Activity) (k : Local) → StepsBefore v l a k → k.row ≡ l.row
@@ -126,6 +145,9 @@ row_same v l a k (from_guess q e) = refl
 row_same v l a k serves = refl
 row_same v l a k (reaches q e d) = refl
 row_same v l a k moves = refl
+row_same v l a k (left_from_first q e) = refl
+row_same v l a k (left_reaches q e d) = refl
+row_same v l a k left_moves = refl
 
 -- no other part of a rebalance leads there
 
@@ -196,6 +218,20 @@ steps_by z v choice l a k (is_marked_before next e y) x = absurd (back_off MoveL
 steps_by z v choice l a k (is_replaced next d y) x = absurd (back_off TryAgain l next y x)
 steps_by z v choice l a k _ x = absurd x
 
+-- and so on the way left
+left_steps : (v : Words) (l : Local) (a : Activity) (k : Local) → LeftBy v l a k → IsWalkingBefore k.activity → StepsBefore v l a k
+left_steps v l a k (knows_leader leader e) x = absurd x
+left_steps v l a k (is_at_first q e d) x = left_from_first q e
+left_steps v l a k (saw_next q e d) x = left_reaches q e d
+left_steps v l a k (goes_by o) x = left_moves
+
+-- on that way it rebalances a row
+left_balancing : (v : Words) (l : Local) (a : Activity) (k : Local) → LeftBy v l a k → IsBalancing a
+left_balancing v l a k (knows_leader leader e) = tt
+left_balancing v l a k (is_at_first q e d) = tt
+left_balancing v l a k (saw_next q e d) = tt
+left_balancing v l a k (goes_by o) = tt
+
 -- What it knows by the step that it takes, in the words and the ledger before.
 
 -- no row is in the list and dead
@@ -211,20 +247,40 @@ module _ (v : Words) (g : Ledger) (t now : ℕ) (i : Structure (rows_in v) g now
   next_late : (p q : ℕ) → IsFresh g t p → next_in v p ≡ Some q → IsLate g l.row p → IsLate g l.row q
   next_late p q f e late = λ c d. let k = i.closed.later p q (held_by g t p f) e d in let o = late c k.0 in omega (arith, o, k.1)
 
-  knows : (a : Activity) (k : Local) → StepsBefore v l a k → Search v g t a l → WalksBefore v g a l → WalksBefore v g k.activity k
-  knows a k (from_first b) s w = record { late = λ p x e. subst (λ q. IsLate g l.row q) (first ∙ same_Some _ p e) (live_late i.chain.first i.chain.first_live); late_next = λ x. absurd x; ends = λ p x. absurd x; other = λ x. absurd x }
-    where
-      first : i.chain.first ≡ row_or_first (row_linked (link_of (v name.Head)))
-      first = sym (ap row_or_first i.chain.leads)
-  knows a k (from_guess q e) s w = record { late = λ p x f. subst (λ y. IsLate g l.row y) (same_Some q p f) (live_late q (normal_live (rows_in v) g q i.states (ap state_seen e))); late_next = λ x. absurd x; ends = λ p x. absurd x; other = λ x. absurd x }
-  knows a k serves s w = record { late = λ p x e. w.late p tt e; late_next = λ x. absurd x; ends = λ p x. absurd x; other = λ x. absurd x }
-  knows a k (reaches q e d) s w = record {
-    late = λ p x f. w.late p tt f;
-    late_next = λ x. let p = s.some tt in next_late p.0 q (s.fresh p.0 tt p.1) (subst (λ b. next_in v (row_or_first b) ≡ Some q) p.1 e) (w.late p.0 tt p.1);
-    ends = λ p x f. ends_at (rows_in v) g i.closed p q (held_by g t p (s.fresh p tt f)) (subst (λ b. next_in v (row_or_first b) ≡ Some q) f e);
-    other = λ x. d;
+  -- it is at a row that went late, if it went, and has reached none behind that
+  is_at : (a : Activity) (k : Local) (q : ℕ) → (HasReachedNext a → ⊥) → k.row ≡ l.row → k.rebalance.before ≡ Some q → IsLate g l.row q → WalksBefore v g a k
+  is_at a k q n same b late = record {
+    late = λ p x e. subst (λ y. IsLate g y p) (sym same) (subst (λ y. IsLate g l.row y) (same_Some q p (sym b ∙ e)) late);
+    late_next = λ x. absurd (n x);
+    ends = λ p x. absurd (n x);
+    other = λ x. absurd (n x);
   }
-  knows a k moves s w = record { late = λ p x e. subst (λ q. IsLate g l.row q) (same_Some l.candidate p e) (w.late_next tt); late_next = λ x. absurd x; ends = λ p x. absurd x; other = λ x. absurd x }
+
+  -- it has reached one behind that
+  reached : (a : Activity) (k : Local) (q : ℕ) → k.row ≡ l.row → k.candidate ≡ q → k.rebalance.before ≡ l.rebalance.before → (p : ℕ) × (l.rebalance.before ≡ Some p) × IsFresh g t p × IsLate g l.row p → next_in v (row_or_first l.rebalance.before) ≡ Some q → q ≢ l.row → WalksBefore v g a k
+  reached a k q same c b p e d = record {
+    late = λ o x f. subst (λ y. IsLate g y o) (sym same) (subst (λ y. IsLate g l.row y) (same_Some p.0 o (sym p.1 ∙ sym b ∙ f)) p.3);
+    late_next = λ x. subst (λ y. IsLate g y k.candidate) (sym same) (subst (λ y. IsLate g l.row y) (sym c) (next_late p.0 q p.2 next p.3));
+    ends = λ o x f. subst (λ y. (g.fates y).upper ≡ Some (least_in v k.candidate)) (same_Some p.0 o (sym p.1 ∙ sym b ∙ f)) (ends_at (rows_in v) g i.closed p.0 q (held_by g t p.0 p.2) next ∙ ap (λ y. Some (least_in v y)) (sym c));
+    other = λ x f. d (sym c ∙ f ∙ same);
+  }
+    where
+      next : next_in v p.0 ≡ Some q
+      next = subst (λ o. next_in v (row_or_first o) ≡ Some q) p.1 e
+
+  -- the first row is such a one
+  first_late : (q : ℕ) → row_or_first (row_linked (link_of (v name.Head))) ≡ q → IsLate g l.row q
+  first_late q e = subst (λ x. IsLate g l.row x) (sym (ap row_or_first i.chain.leads) ∙ e) (live_late i.chain.first i.chain.first_live)
+
+  knows : (a : Activity) (k : Local) → StepsBefore v l a k → Search v g t a l → WalksBefore v g a l → WalksBefore v g k.activity k
+  knows a k (from_first b) s w = is_at k.activity k _ (λ x. x) refl refl (first_late _ refl)
+  knows a k (from_guess q e) s w = is_at k.activity k q (λ x. x) refl refl (live_late q (normal_live (rows_in v) g q i.states (ap state_seen e)))
+  knows a k serves s w = let p = s.some tt in is_at k.activity k p.0 (λ x. x) refl p.1 (w.late p.0 tt p.1)
+  knows a k (reaches q e d) s w = let p = s.some tt in reached k.activity k q refl refl refl (p.0, p.1, s.fresh p.0 tt p.1, w.late p.0 tt p.1) e d
+  knows a k moves s w = is_at k.activity k l.candidate (λ x. x) refl refl (w.late_next tt)
+  knows a k (left_from_first q e) s w = is_at k.activity k q (λ x. x) refl refl (first_late q e)
+  knows a k (left_reaches q e d) s w = let p = s.some tt in reached k.activity k q refl refl refl (p.0, p.1, s.fresh p.0 tt p.1, w.late p.0 tt p.1) e d
+  knows a k left_moves s w = is_at k.activity k l.candidate (λ x. x) refl refl (w.late_next tt)
 
 -- It stays so over an event.
 
@@ -251,21 +307,24 @@ module _ {z : Sizes} {r r' : Run} {s : ℕ} {choice : Choice} {l l' : Local} (a 
 
   -- the acting seat
   walk_own : WalksBefore (word z r.world) r.ledger.rows a l → WalksBefore (word z r'.world) r'.ledger.rows l'.activity l'
-  walk_own w = which (comes z (word z r.world) s choice l a l' h.arrow)
+  walk_own w = which (is_walking l'.activity) (left_by z (word z r.world) s choice l a l' h.arrow) (comes z (word z r.world) s choice l a l' h.arrow)
     where
-      which : Comes z (word z r.world) choice l a l' → WalksBefore (word z r'.world) r'.ledger.rows l'.activity l'
-      which (stays_out n) = elsewhere _ _ l'.activity l' (λ x. n (walking_builds l'.activity x))
-      which (seeks e t) = elsewhere _ _ l'.activity l' (λ x. subst IsWalkingBefore e x)
-      which (builds_on o t) = walks (is_walking l'.activity)
-        where
-          walks : IsWalkingBefore l'.activity ⊎ (IsWalkingBefore l'.activity → ⊥) → WalksBefore (word z r'.world) r'.ledger.rows l'.activity l'
-          walks (inl x) =
-              let y = balance_at a h i.shape in
-              let step = steps_by z (word z r.world) choice l a l' t x in
-              let fresh = y.fresh (built_balancing a o) in
-              let search = search_by (word z r.world) r.ledger.rows s _ i.shape.rows l fresh (y.lower (built_balancing a o)) z choice a l' t (head_open z r i.shape l.row) (search_at a h i.shape) in
-              walk_stays s l' search (λ u. subst (WasLinked r.ledger.rows) (sym (row_same (word z r.world) l a l' step)) (fresh_linked r.ledger.rows s l.row fresh)) (knows (word z r.world) r.ledger.rows s _ i.shape.rows l a l' step (search_at a h i.shape) w)
-          walks (inr n) = elsewhere _ _ l'.activity l' n
+      -- by a step of the walk, in the rebalance of the full row
+      stays : StepsBefore (word z r.world) l a l' → IsFresh r.ledger.rows s l.row → Search (word z r.world) r.ledger.rows s l'.activity l' → WalksBefore (word z r'.world) r'.ledger.rows l'.activity l'
+      stays step fresh search = walk_stays s l' search (λ u. subst (WasLinked r.ledger.rows) (sym (row_same (word z r.world) l a l' step)) (fresh_linked r.ledger.rows s l.row fresh)) (knows (word z r.world) r.ledger.rows s _ i.shape.rows l a l' step (search_at a h i.shape) w)
+
+      which : IsWalkingBefore l'.activity ⊎ (IsWalkingBefore l'.activity → ⊥) → LeftBy (word z r.world) l a l' ⊎ (IsGoingLeft l'.activity → ⊥) → Comes z (word z r.world) choice l a l' → WalksBefore (word z r'.world) r'.ledger.rows l'.activity l'
+      which (inr n) y t = elsewhere _ _ l'.activity l' n
+      which (inl x) (inl y) t =
+          let b = balance_at a h i.shape in
+          let fresh = b.fresh (left_balancing (word z r.world) l a l' y) in
+          stays (left_steps (word z r.world) l a l' y x) fresh (left_search (word z r.world) r.ledger.rows s _ i.shape.rows l fresh (b.lower (left_balancing (word z r.world) l a l' y)) a l' y (search_at a h i.shape))
+      which (inl x) (inr y) (stays_out n) = absurd (y (walking_builds l'.activity x n))
+      which (inl x) (inr y) (seeks e t) = absurd (subst IsWalkingBefore e x)
+      which (inl x) (inr y) (builds_on o t) =
+          let b = balance_at a h i.shape in
+          let fresh = b.fresh (built_balancing a o) in
+          stays (steps_by z (word z r.world) choice l a l' t x) fresh (search_by (word z r.world) r.ledger.rows s _ i.shape.rows l fresh (b.lower (built_balancing a o)) z choice a l' t (head_open z r i.shape l.row) (search_at a h i.shape))
 
   -- any other seat
   walk_other : (t : ℕ) (k : Local) → slice_get r.world.locals t ≡ Some k → WalksBefore (word z r.world) r.ledger.rows k.activity k → WalksBefore (word z r'.world) r'.ledger.rows k.activity k
@@ -327,30 +386,72 @@ module _ (v : Words) (g : Ledger) (t now : ℕ) (i : Structure (rows_in v) g now
   none_shares q (inl a) late d e = d (one_beginning (rows_in v) g q l.row i.chain a live (e ∙ lower))
   none_shares q (inr a) late d e = none_holds q a.dead late (record { from = omega (arith, e); below = λ u f. omega (arith, e, above_least (rows_in v) g i.closed q u (inr (t, a)) f) })
 
+-- where the seat is on the walk, and has the least key of its row
+record Measures (a : Activity) (l : Local) : Type 0 where
+  some : HasBefore a l
+  searches : IsSearching a l
+  measured : IsMeasured a l
+  walks : IsWalkingBefore a
+
+-- so it is where it loads the link of its row
+leaving_measures : (a : Activity) (l : Local) → IsLeavingBefore a → Measures a l
+leaving_measures (Activity.Rebalance (Rebalance.Replace Replace.Next)) l x = record { some = tt; searches = tt; measured = tt; walks = tt }
+leaving_measures (Activity.Rebalance (Rebalance.Left Left.Next)) l x = record { some = tt; searches = tt; measured = tt; walks = tt }
+leaving_measures _ l x = absurd x
+
+-- and where it has reached the row behind that
+reaching_measures : (a : Activity) (l : Local) → IsReachingNext a → Measures a l
+reaching_measures (Activity.Rebalance (Rebalance.Replace Replace.NextLeast)) l x = record { some = tt; searches = tt; measured = tt; walks = tt }
+reaching_measures (Activity.Rebalance (Rebalance.Left Left.NextLeast)) l x = record { some = tt; searches = tt; measured = tt; walks = tt }
+reaching_measures _ l x = absurd x
+
+reaching_reached : (a : Activity) → IsReachingNext a → HasReachedNext a
+reaching_reached (Activity.Rebalance (Rebalance.Replace Replace.NextLeast)) x = tt
+reaching_reached (Activity.Rebalance (Rebalance.Left Left.NextLeast)) x = tt
+reaching_reached _ x = absurd x
+
 -- at the end of the list that the walk reaches the full row is reached no more
 abbrev pub EndsBefore : Sizes → Run → Type 0
-EndsBefore z r = (t : ℕ) (l : Local) → slice_get r.world.locals t ≡ Some l → l.activity ≡ Activity.Rebalance (Rebalance.Replace Replace.Next) → next_in (word z r.world) (row_or_first l.rebalance.before) ≡ None → IsReached (word z r.world) l.row → ⊥
+EndsBefore z r = (t : ℕ) (l : Local) → slice_get r.world.locals t ≡ Some l → IsLeavingBefore l.activity → next_in (word z r.world) (row_or_first l.rebalance.before) ≡ None → IsReached (word z r.world) l.row → ⊥
 
 -- nor is it where the walk reaches a row whose least key is not below that of the full one
 abbrev pub GoesByFull : Sizes → Run → Type 0
-GoesByFull z r = (t : ℕ) (l : Local) → slice_get r.world.locals t ≡ Some l → l.activity ≡ Activity.Rebalance (Rebalance.Replace Replace.NextLeast) → l.lower ≤ least_in (word z r.world) l.candidate → IsReached (word z r.world) l.row → ⊥
+GoesByFull z r = (t : ℕ) (l : Local) → slice_get r.world.locals t ≡ Some l → IsReachingNext l.activity → l.lower ≤ least_in (word z r.world) l.candidate → IsReached (word z r.world) l.row → ⊥
 
 -- the invariant, and what each seat knows of the rows of its walk
 record Walking (z : Sizes) (r : Run) : Type 0 where
   inv : Inv z r
   walks : (t : ℕ) (l : Local) → slice_get r.world.locals t ≡ Some l → WalksBefore (word z r.world) r.ledger.rows l.activity l
 
+-- what the seat knows of the row of its walk
+record AtRow (z : Sizes) (r : Run) (t : ℕ) (l : Local) : Type 0 where
+  row : ℕ
+  is : l.rebalance.before ≡ Some row
+  fresh : IsFresh r.ledger.rows t row
+  left : IsLeft (word z r.world) r.ledger.rows l row
+  late : IsLate r.ledger.rows l.row row
+  lower : l.lower ≡ least_in (word z r.world) l.row
+
+row_known : (z : Sizes) (r : Run) → Walking z r → (t : ℕ) (l : Local) → slice_get r.world.locals t ≡ Some l → Measures l.activity l → AtRow z r t l
+row_known z r k t l g x =
+    let s = k.inv.shape.search t l g in
+    let p = s.some x.some in
+    record {
+      row = p.0;
+      is = p.1;
+      fresh = s.fresh p.0 x.searches p.1;
+      left = s.left p.0 x.measured p.1;
+      late = (k.walks t l g).late p.0 x.walks p.1;
+      lower = (k.inv.shape.balances t l g).lower (walking_balances l.activity x.walks);
+    }
+
 ends_by : (z : Sizes) (r : Run) → Walking z r → EndsBefore z r
 ends_by z r k t l g a e m =
     let i = k.inv.shape in
-    let b = i.balances t l g in
-    let x : IsBalancing l.activity = subst IsBalancing (sym a) tt in
+    let p = row_known z r k t l g (leaving_measures l.activity l a) in
     let live = reached_live (word z r.world) r.ledger.rows i.rows.chain l.row m in
-    let s = subst (λ c. Search (word z r.world) r.ledger.rows t c l) a (i.search t l g) in
-    let w = subst (λ c. WalksBefore (word z r.world) r.ledger.rows c l) a (k.walks t l g) in
-    let p = s.some tt in
-    let o = left_of (word z r.world) r.ledger.rows t _ i.rows l (b.lower x) live p.0 (s.left p.0 tt p.1) in
-    none_ends (word z r.world) r.ledger.rows t _ i.rows l (b.lower x) live p.0 (s.fresh p.0 tt p.1) o (w.late p.0 tt p.1) (subst (λ c. next_in (word z r.world) (row_or_first c) ≡ None) p.1 e)
+    let o = left_of (word z r.world) r.ledger.rows t _ i.rows l p.lower live p.row p.left in
+    none_ends (word z r.world) r.ledger.rows t _ i.rows l p.lower live p.row p.fresh o p.late (subst (λ c. next_in (word z r.world) (row_or_first c) ≡ None) p.is e)
 
 full_goes_by : (z : Sizes) (r : Run) → Walking z r → GoesByFull z r
 full_goes_by z r k t l g a o m = which (cases_lt l.lower (least_in (word z r.world) l.candidate))
@@ -358,26 +459,25 @@ full_goes_by z r k t l g a o m = which (cases_lt l.lower (least_in (word z r.wor
     i : Shape z r
     i = k.inv.shape
 
-    lower_is : l.lower ≡ least_in (word z r.world) l.row
-    lower_is = (i.balances t l g).lower (subst IsBalancing (sym a) tt)
+    p : AtRow z r t l
+    p = row_known z r k t l g (reaching_measures l.activity l a)
+
+    w : WalksBefore (word z r.world) r.ledger.rows l.activity l
+    w = k.walks t l g
 
     live : IsLive r.ledger.rows l.row
     live = reached_live (word z r.world) r.ledger.rows i.rows.chain l.row m
 
-    s : Search (word z r.world) r.ledger.rows t (Activity.Rebalance (Rebalance.Replace Replace.NextLeast)) l
-    s = subst (λ c. Search (word z r.world) r.ledger.rows t c l) a (i.search t l g)
-
-    w : WalksBefore (word z r.world) r.ledger.rows (Activity.Rebalance (Rebalance.Replace Replace.NextLeast)) l
-    w = subst (λ c. WalksBefore (word z r.world) r.ledger.rows c l) a (k.walks t l g)
+    saw : HasReachedNext l.activity
+    saw = reaching_reached l.activity a
 
     which : (l.lower < least_in (word z r.world) l.candidate) ⊎ (least_in (word z r.world) l.candidate ≤ l.lower) → ⊥
     which (inl y) =
-        let p = s.some tt in
-        let u = left_of (word z r.world) r.ledger.rows t _ i.rows l lower_is live p.0 (s.left p.0 tt p.1) in
-        none_spans (word z r.world) r.ledger.rows t _ i.rows l lower_is live p.0 _ (s.fresh p.0 tt p.1) u (w.late p.0 tt p.1) (w.ends p.0 tt p.1) y
+        let u = left_of (word z r.world) r.ledger.rows t _ i.rows l p.lower live p.row p.left in
+        none_spans (word z r.world) r.ledger.rows t _ i.rows l p.lower live p.row _ p.fresh u p.late (w.ends p.row saw p.is) y
     which (inr y) =
         let same : least_in (word z r.world) l.candidate ≡ l.lower = omega (arith, o, y) in
-        none_shares (word z r.world) r.ledger.rows t _ i.rows l lower_is live l.candidate (s.saw tt) (w.late_next tt) (w.other tt) same
+        none_shares (word z r.world) r.ledger.rows t _ i.rows l p.lower live l.candidate ((i.search t l g).saw saw) (w.late_next saw) (w.other saw) same
 
 -- All of it holds of every list.
 

@@ -95,7 +95,7 @@ given_below z Activity.Idle s choice l found g o rows below = begins choice
 given_below z (Activity.Look Look.Help) s choice l found g o rows below = none_below z (rows * z.cells) _ (none_of (found == pend_word (pend.Pending l.saw)) (helping (o l.row l.saw) l.helping g.loaded) Nothing (none_helping (o l.row l.saw) l.helping g.loaded) tt)
 given_below z (Activity.Put Put.Announce) s choice l found g o rows below = none_below z (rows * z.cells) _ (none_of (found == pend_word pend.Idle) (Announces g.own) Nothing tt tt)
 given_below z (Activity.Put Put.Stamp) s choice l found g o rows below = none_below z (rows * z.cells) _ (none_of (found == pend_word (pend.Pending l.cell)) (Stamps g.own l.version g.loaded) Nothing tt tt)
-given_below z (Activity.Rebalance (Rebalance.Freeze (Freeze.Entry i))) s choice l found g o rows below = none_below z (rows * z.cells) _ (none_of (found == pend_word l.rebalance.entry) (freezing l.rebalance.entry l.row o) Nothing (none_freezing l.rebalance.entry l.row o) tt)
+given_below z (Activity.Rebalance (Rebalance.Freeze (Freeze.Entry i))) s choice l found g o rows below = none_below z (rows * z.cells) _ (none_of (found == pend_word l.rebalance.entry) (freezing l.rebalance.entry l.rebalance.hand o) Nothing (none_freezing l.rebalance.entry l.rebalance.hand o) tt)
 given_below z _ s choice l found g o rows below = tt
 
 -- a cell of the table that is given has its attempt at the end of the history
@@ -175,7 +175,7 @@ can_settle z k r e l i inv begins knows moves = record {
   room = room_for z l.activity (offered r.world.rows e.choice) l (found_by z r.world e l) (origin_in z k.origins) k.history (draw_of k e.seat) (log_of k e.seat) taken;
   scan = subst (λ (n : ℕ). IsScanBelow n (settled_scan l.activity e.seat l (found_by z r.world e l) (log_of k e.seat))) (sym i.scans) (scan_below z l.activity e.seat l (found_by z r.world e l) (log_of k e.seat) (omega (arith, slice_get_within r.world.locals e.seat l knows, inv.shape.sane.seats)) known.ranges.activity);
   origin = in_table z k at _ (subst (λ (n : ℕ). IsGivenBelow z n change) (sym i.cells) (given_below z l.activity e.seat (offered r.world.rows e.choice) l (found_by z r.world e l) (log_of k e.seat) (origin_in z k.origins) r.world.rows known.below.row));
-  copy = subst (λ (n : ℕ). IsCopyIn z n (copied_cell l.activity l (origin_in z k.origins))) (sym i.cells) (copy_below z l.activity l (origin_in z k.origins) r.world.rows (infant_in_range r.world.rows l known.below) known.ranges.activity);
+  copy = subst (λ (n : ℕ). IsCopyIn z n (copied_cell z l.activity l (origin_in z k.origins))) (sym i.cells) (copy_below z l.activity l (origin_in z k.origins) r.world.rows (infant_in_range r.world.rows l known.below) known.ranges.activity);
 }
   where
     at : Logged

@@ -47,9 +47,10 @@ use Rattle.kw_core.specs.Events.{event, world}
 use Rattle.kw_core.specs.Run.{Run}
 use Rattle.kw_core.specs.Stages.{IsBusy}
 use Rattle.kw_core.specs.Words.{Words}
-use Rattle.kw_core.proofs.Arrows.{Arrow, NextLook, looks, lists, NextLeftOver, goes_to_left_over, answers, ends_scan, scans_on, is_spent, sees_stamped, sees_neither, is_gone_by, helps, finds_stamped, finds_other, list_ends, key_above, left_over_gone_by, gathers_left_over, clears_scan, clock_is_spent, epoch_is_spent, takes_no_more, keeps_no_more, builds, first_ends}
+use Rattle.kw_core.proofs.Arrows.{Arrow, NextLook, looks, lists, NextLeftOver, goes_to_left_over, answers, ends_scan, scans_on, is_spent, sees_stamped, sees_neither, is_gone_by, helps, finds_stamped, finds_other, list_ends, key_above, left_over_gone_by, gathers_left_over, clears_scan, clock_is_spent, epoch_is_spent, remembers_last, sees_frozen_last, freezes_last, takes_no_more, keeps_no_more, builds, first_ends, marks_led, decides}
 use Rattle.kw_core.proofs.Building.{Building, first_is_free, first_is_taken, first_is_retired, sought_is_free, sought_is_taken, sought_is_retired, pass_is_old, pass_is_young, frees_row, takes_row, loses_row, gives_one_back, gives_last_back, writes_first, writes_entry, writes_no_cell, writes_after, begins_before, takes_head_before, leads_on_marked, leads_nowhere, walks_past, is_marked_before, is_replaced}
 use Rattle.kw_core.proofs.NextBuilt.{tries_again, moves_left, NextBack, gives_back, has_none, NextNewRow, writes_row, has_written, NextNewCell, fills, empties, has_cells, NextNewEntry, writes_idle, has_entries, NextBefore, is_first, is_behind, was_done}
+use Rattle.kw_core.proofs.Grouping.{NextCounted, NextFrozen, NextGathered, claims_row, goes_alone, freezes_ahead, froze_all, gathers_ahead, gathered_all}
 use Rattle.kw_core.proofs.Happens.{Happens, found_at}
 use Rattle.kw_reads.specs.Inv.{Inv}
 use Rattle.kw_rows.specs.Events.{IsIn}
@@ -208,6 +209,19 @@ module _ (z : Sizes) (o : Opening) (es : List Event) (e : Event) (r r' : Run) (l
   next_before q m k (is_first w) = tt
   next_before q m k (is_behind w) = tt
 
+  next_counted : (count : ℕ) (m k : Local) → NextCounted count m k → Then k
+  next_counted count m k (claims_row q x y) = tt
+  next_counted count m k (goes_alone x) = tt
+
+  next_frozen : (m k : Local) → NextFrozen m k → Then k
+  next_frozen m k (freezes_ahead q x) = tt
+  next_frozen m k (froze_all x) = tt
+
+  -- a search begins with the plan
+  next_gathered : (m k : Local) → NextGathered z m k → Then k
+  next_gathered m k (gathers_ahead q x) = tt
+  next_gathered m k (gathered_all x) = record { sought = refl; asked = refl; taken = refl; some = starts_some z.built _ }
+
   -- rows that are given back so that the put goes on elsewhere
   back_again : (m k : Local) → NextBack TryAgain m k → Then k
   back_again m k (gives_back w) = λ x. let y : TryAgain ≡ Refuse = x in absurd (cc)
@@ -264,8 +278,13 @@ module _ (z : Sizes) (o : Opening) (es : List Event) (e : Event) (r r' : Run) (l
   by_arrow b k is (left_over_gone_by next f n) x = next_left_over _ k n
   by_arrow b k is (gathers_left_over next n) x = next_left_over _ k n
   by_arrow b k is (clears_scan answer) x = cleared answer choice _ (kind_here (Activity.EndScan answer) is).1
-  by_arrow b k is (takes_no_more f n) x = record { sought = refl; asked = refl; taken = refl; some = starts_some z.built _ }
-  by_arrow b k is (keeps_no_more n) x = record { sought = refl; asked = refl; taken = refl; some = starts_some z.built _ }
+  by_arrow b k is (remembers_last j c version next f w n) x = next_frozen _ next n
+  by_arrow b k is (sees_frozen_last j next f w n) x = next_frozen _ next n
+  by_arrow b k is (freezes_last j next f w n) x = next_frozen _ next n
+  by_arrow b k is (takes_no_more next f none n) x = next_gathered _ next n
+  by_arrow b k is (keeps_no_more next none n) x = next_gathered _ next n
+  by_arrow b k is (marks_led count next d n) x = next_counted _ _ next n
+  by_arrow b k is (decides count m next f n) x = next_counted _ _ next n
   by_arrow b k is _ x = tt
 
   -- In a search.

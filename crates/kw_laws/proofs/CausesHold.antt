@@ -33,6 +33,7 @@ use Rattle.kw_core.specs.Run.{Run, goes_on, noted_by, start, history}
 use Rattle.kw_core.specs.Stages.{IsBusy, IsUnderway}
 use Rattle.kw_core.specs.Words.{Words}
 use Rattle.kw_core.proofs.Arrows.{Arrow, NextLook, looks, lists, NextLeftOver, goes_to_left_over, answers, ends_scan, scans_on, begins, sees_stamped, sees_neither, is_gone_by, helps, finds_stamped, finds_other, list_ends, key_above, left_over_gone_by, gathers_left_over, leaves, builds, first_ends}
+use Rattle.kw_core.proofs.Arrows.{freezes_last, keeps_no_more, remembers_last, sees_frozen_last, takes_no_more, marks_led, decides}
 use Rattle.kw_core.proofs.BuiltNext.{IsAfterBuilding, built_next}
 use Rattle.kw_core.proofs.Events.{may_come, valid-nil, valid-snoc}
 use Rattle.kw_core.proofs.Happens.{Happens, each_seat, found_at, happens, knows_next}
@@ -47,6 +48,7 @@ use Rattle.kw_laws.proofs.CausesArrows.{Since, since_lasts, since_own}
 use Rattle.kw_laws.proofs.CausesLast.{IsSearching, asked_lasts, spent_lasts}
 use Rattle.kw_laws.proofs.MirrorKeeps.{mirrors_hold}
 use Rattle.kw_laws.proofs.Occurs.{ends_lasts, ends_was, occurs_now, occurs_was, occurs_within}
+use Rattle.kw_core.proofs.Grouping.{counted_leads, frozen_leads, gathered_leads}
 use Rattle.kw_shape.proofs.Worlds.{world-rows}
 
 -- What is kept.
@@ -109,6 +111,13 @@ arrow_busy z v s choice l a k (list_ends next f n) u = next_left_over_busy _ k n
 arrow_busy z v s choice l a k (key_above next f n) u = next_left_over_busy _ k n
 arrow_busy z v s choice l a k (left_over_gone_by next f n) u = next_left_over_busy _ k n
 arrow_busy z v s choice l a k (gathers_left_over next n) u = next_left_over_busy _ k n
+arrow_busy z v s choice l a k (remembers_last i c version next e o n) u = frozen_leads IsBusy tt tt _ next n
+arrow_busy z v s choice l a k (sees_frozen_last i next e o n) u = frozen_leads IsBusy tt tt _ next n
+arrow_busy z v s choice l a k (freezes_last i next e o n) u = frozen_leads IsBusy tt tt _ next n
+arrow_busy z v s choice l a k (takes_no_more next e none n) u = gathered_leads IsBusy tt tt z _ next n
+arrow_busy z v s choice l a k (keeps_no_more next none n) u = gathered_leads IsBusy tt tt z _ next n
+arrow_busy z v s choice l a k (marks_led count next d n) u = counted_leads IsBusy tt tt _ _ next n
+arrow_busy z v s choice l a k (decides count m next e n) u = counted_leads IsBusy tt tt _ _ next n
 arrow_busy z v s choice l a k _ u = tt
 
 -- One more event.

@@ -26,13 +26,13 @@ use Rattle.kw_rows.proofs.Named.{above_least, held_by}
 use Rattle.kw_shape.specs.RowsIn.{rows_in, state_seen}
 use Rattle.kw_shape.specs.Shape.{Walks}
 use Rattle.kw_shape.proofs.LinkedRows.{fresh_linked, holds_wanted}
-use Rattle.kw_core.specs.Stages.{IsAtInsertLink, IsAtRow, IsAtListed, IsKeeping, IsWaiting, IsInserting, IsUnlisted, IsMeeting}
+use Rattle.kw_core.specs.Stages.{IsAtInsertLink, IsAtListed, IsKeeping, IsWaiting, IsInserting, IsUnlisted, IsMeeting}
 use Rattle.kw_lists.specs.Rows.{Row, IsBehind, IsSound}
 use Rattle.kw_lists.specs.Walks.{IsWalking}
 use Rattle.kw_lists.proofs.Putting.{put_lost}
 use Rattle.kw_lists.proofs.Inserting.{at_next}
 use Rattle.kw_lists.proofs.Walking.{walk_goes_on, walked_most, walked_fewer}
-use Rattle.kw_puts.specs.Lists.{list_in, Inserts, WalksList}
+use Rattle.kw_puts.specs.Lists.{Inserts, WalksList}
 use Rattle.kw_puts.specs.Positions.{IsHelped}
 use Rattle.kw_puts.proofs.ListWords.{link_is}
 use Rattle.kw_reads.specs.Readers.{IsDue, ReadsList, IsCopyOf, AreCopies}
@@ -46,8 +46,8 @@ use Rattle.kw_shape.proofs.Walking.{past}
 use Rattle.kw_shape.proofs.SoughtKeep.{retakes}
 use Rattle.kw_laws.proofs.FoundEntries.{finds_idle, finds_own}
 use Rattle.kw_laws.proofs.BeforeRows.{EndsBefore, GoesByFull, ends_before_holds, goes_by_full_holds}
+use Rattle.kw_laws.proofs.ReachedStates.{first_leads_by, stated_by}
 use Rattle.kw_laws.proofs.ShownRows.{kept_shown, of_puts, shown}
-use Rattle.kw_laws.proofs.SoloStates.{AreStated, stated_holds}
 use Rattle.kw_laws.proofs.TakenRows.{is_taken}
 use Rattle.kw_core.specs.Stages.{HasDrawn, IsPublished}
 use Rattle.kw_reads.specs.Replies.{IsCovered}
@@ -117,17 +117,18 @@ reader_less z row l c s e w =
     omega (arith, walked_most z.cells row (Some c) (l.walked + 1) (walk_goes_on z.cells row l.link l.walked c (s.below c next.listed) next.listed next.behind w))
 
 -- the laws of a run in which all of it holds
-laws_from : (z : Sizes) (r : Run) → Inv z r → AreStated z r → EndsBefore z r → GoesByFull z r → KeepsLaws z r
-laws_from z r i stated ends visits = record {
+laws_from : (z : Sizes) (r : Run) → Inv z r → EndsBefore z r → GoesByFull z r → KeepsLaws z r
+laws_from z r i ends visits = record {
   sane = i.shape.sane;
   rows = i.shape.rows;
   beyond = i.shape.beyond;
   visits = i.shape.visits;
   numbers = i.shape.numbers;
   retakes = λ t l g a n e. retakes z r i.shape t n l g a (ap state_seen e);
-  stated = stated;
+  stated = stated_by z r i.shape;
   ends_before = ends;
   goes_by_full = visits;
+  first_leads = first_leads_by z r i.shape;
   links = λ q n. i.shape.rows.closed.rises q n;
   walks = i.shape.walks;
   climbs = λ t l g a. let x = subst (λ q. Walks (word z r.world) r.ledger.rows t q l) a (i.shape.walks t l g) in omega (arith, x.lower tt, above l.row (least_in (word z r.world) l.candidate) t x.on.0 x.on.3);
@@ -181,4 +182,4 @@ laws_from z r i stated ends visits = record {
 pub laws_hold : (z : Sizes) (o : Opening) → IsOpening z o → (es : List Event) → is_valid z o es ≡ true → KeepsLaws z (history z o es)
 laws_hold z o i es v =
     let all = inv_holds z o i es v in
-    laws_from z (history z o es) all (stated_holds z o i es v) (ends_before_holds z o i es v) (goes_by_full_holds z o i es v)
+    laws_from z (history z o es) all (ends_before_holds z o i es v) (goes_by_full_holds z o i es v)

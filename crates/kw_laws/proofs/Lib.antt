@@ -4,7 +4,7 @@ pub mod CanRecord
 pub mod Records
 pub mod EndedCalls
 pub mod FoundEntries
-pub mod SoloStates
+pub mod ReachedStates
 pub mod BeforeRows
 pub mod ShownRows
 pub mod TakenRows

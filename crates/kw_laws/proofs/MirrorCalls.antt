@@ -19,7 +19,9 @@ use Rattle.kw_world.specs.declared.activity.rebalance.Rebalance.TheVariants as R
 use Rattle.kw_world.specs.declared.activity.rebalance.replace.Replace.TheVariants as Replace
 use Rattle.kw_world.specs.declared.activity.rebalance.seek.Seek.TheVariants as Seek
 use Rattle.kw_world.specs.declared.activity.walk.Walk.TheVariants as Walk
+use Rattle.kw_world.specs.declared.activity.rebalance.claim.Claim.TheVariants as Claim
 use Rattle.kw_world.specs.declared.activity.rebalance.engage.Engage.TheVariants as Engage
+use Rattle.kw_world.specs.declared.activity.rebalance.left.Left.TheVariants as Left
 use Rattle.kw_world.specs.declared.activity.enter.Enter.TheVariants as Enter
 use Rattle.kw_world.specs.declared.activity.rebalance.gather.Gather.TheVariants as Gather
 use Rattle.kw_world.specs.declared.activity.insert.Insert.TheVariants as Insert
@@ -42,6 +44,7 @@ use Rattle.kw_world.specs.ListTransitions.{cell_guess}
 use Rattle.kw_puts.proofs.PositionsKeep.{first_draws_none}
 use Rattle.kw_world.specs.WalkTransitions.{offered, start_transition, walk_transition, is_stopped}
 use Rattle.kw_world.specs.SeekTransitions.{seek_first_transition}
+use Rattle.kw_world.specs.LeftTransitions.{left_transition}
 use Rattle.kw_world.specs.ReplaceTransitions.{before_transition}
 use Rattle.kw_world.specs.Table.{transition}
 use Rattle.kw_world.specs.Step.{word, step, transition_at}
@@ -104,6 +107,13 @@ draw_line z (Activity.Rebalance (Rebalance.Replace Replace.Start)) s choice l d 
     begins Go x = x
     begins (Guess q) x = x
     begins Stop x = x
+draw_line z (Activity.Rebalance (Rebalance.Left Left.Start)) s choice l d = absurd (lefts choice d)
+  where
+    lefts : (c : Choice) → IsDraw (left_transition c l).operation.kind → ⊥
+    lefts (Begin call) x = x
+    lefts Go x = x
+    lefts (Guess q) x = x
+    lefts Stop x = x
 draw_line z (Activity.Enter Enter.Announce) s choice l d = absurd d
 draw_line z (Activity.Look Look.Key) s choice l d = absurd d
 draw_line z (Activity.Read Read.Start) s choice l d = absurd (first_draws_none l (cell_guess choice l) d)
@@ -112,6 +122,7 @@ draw_line z (Activity.Put Put.Count) s choice l d = absurd d
 draw_line z (Activity.Insert Insert.Start) s choice l d = absurd (first_draws_none l (cell_guess choice l) d)
 draw_line z (Activity.Insert Insert.Link) s choice l d = absurd d
 draw_line z (Activity.Rebalance (Rebalance.Engage Engage.Clock)) s choice l d = absurd d
+draw_line z (Activity.Rebalance (Rebalance.Claim Claim.Count)) s choice l d = absurd d
 draw_line z (Activity.Rebalance (Rebalance.Gather Gather.Link)) s choice l d = absurd d
 draw_line z (Activity.Rebalance (Rebalance.Write Write.Count)) s choice l d = absurd d
 draw_line z a s choice l d = absurd d

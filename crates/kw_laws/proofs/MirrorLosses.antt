@@ -17,7 +17,9 @@ use Rattle.kw_world.specs.declared.activity.rebalance.replace.Replace.TheVariant
 use Rattle.kw_world.specs.declared.activity.rebalance.seek.Seek.TheVariants as Seek
 use Rattle.kw_world.specs.declared.activity.walk.Walk.TheVariants as Walk
 use Rattle.kw_world.specs.declared.activity.draw.Draw.TheVariants as Draw
+use Rattle.kw_world.specs.declared.activity.rebalance.claim.Claim.TheVariants as Claim
 use Rattle.kw_world.specs.declared.activity.rebalance.engage.Engage.TheVariants as Engage
+use Rattle.kw_world.specs.declared.activity.rebalance.left.Left.TheVariants as Left
 use Rattle.kw_world.specs.declared.activity.enter.Enter.TheVariants as Enter
 use Rattle.kw_world.specs.declared.activity.rebalance.gather.Gather.TheVariants as Gather
 use Rattle.kw_world.specs.declared.activity.insert.Insert.TheVariants as Insert
@@ -33,6 +35,7 @@ use Rattle.kw_world.specs.declared.opening.Opening.{Opening}
 use Rattle.kw_world.specs.declared.operation.Action.TheVariants.{Exchange}
 use Rattle.kw_world.specs.declared.operation.Operation.{Operation}
 use Rattle.kw_world.specs.Opening.{IsOpening}
+use Rattle.kw_world.specs.LeftTransitions.{left_transition}
 use Rattle.kw_world.specs.ReplaceTransitions.{before_transition}
 use Rattle.kw_world.specs.Sane.{IsActivity}
 use Rattle.kw_world.specs.SeekTransitions.{seek_first_transition}
@@ -108,6 +111,13 @@ freeze_line z s choice l (Activity.Rebalance (Rebalance.Replace Replace.Start)) 
     befores Go y = cc
     befores (Guess d) y = cc
     befores Stop y = cc
+freeze_line z s choice l (Activity.Rebalance (Rebalance.Left Left.Start)) e = absurd (lefts choice e)
+  where
+    lefts : (d : Choice) → (left_transition d l).operation.kind ≡ kind.FreezePend → ⊥
+    lefts (Begin call) y = cc
+    lefts Go y = cc
+    lefts (Guess d) y = cc
+    lefts Stop y = cc
 freeze_line z s choice l (Activity.Read Read.Start) e = absurd (first_freezes_none l (cell_guess choice l) e)
 freeze_line z s choice l (Activity.Insert Insert.Start) e = absurd (first_freezes_none l (cell_guess choice l) e)
 freeze_line z s choice l (Activity.Enter Enter.Announce) e = absurd (cc)
@@ -117,6 +127,7 @@ freeze_line z s choice l (Activity.Read Read.Link) e = absurd (cc)
 freeze_line z s choice l (Activity.Put Put.Count) e = absurd (cc)
 freeze_line z s choice l (Activity.Insert Insert.Link) e = absurd (cc)
 freeze_line z s choice l (Activity.Rebalance (Rebalance.Engage Engage.Clock)) e = absurd (cc)
+freeze_line z s choice l (Activity.Rebalance (Rebalance.Claim Claim.Count)) e = absurd (cc)
 freeze_line z s choice l (Activity.Rebalance (Rebalance.Gather Gather.Link)) e = absurd (cc)
 freeze_line z s choice l (Activity.Rebalance (Rebalance.Write Write.Count)) e = absurd (cc)
 freeze_line z s choice l a e = absurd (cc)
@@ -217,16 +228,16 @@ module _ (z : Sizes) (o : Opening) (es : List Event) (e : Event) (r r' : Run) (l
 
   -- An attempt that is lost now.
 
-  module _ (j c : ℕ) (is : a ≡ Activity.Rebalance (Rebalance.Freeze (Freeze.Entry j))) (entry : l.rebalance.entry ≡ pend.Pending c) (pending : word z r.world (name.Pend l.row j) ≡ pend_word (pend.Pending c)) where
-    row : l.row < r.world.rows
-    row = (k.inv.shape.sane.locals e.seat l h.knows).below.row
+  module _ (j c : ℕ) (is : a ≡ Activity.Rebalance (Rebalance.Freeze (Freeze.Entry j))) (entry : l.rebalance.entry ≡ pend.Pending c) (pending : word z r.world (name.Pend l.rebalance.hand j) ≡ pend_word (pend.Pending c)) where
+    row : l.rebalance.hand < r.world.rows
+    row = (k.inv.shape.sane.locals e.seat l h.knows).below.rebalance.hand
 
     seat : j < z.seats
     seat = subst (IsActivity z) (h.activity ∙ is) (k.inv.shape.sane.locals e.seat l h.knows).ranges.activity
 
     -- it is the one of the entry's seat
-    owner : IsPendingOf z r l.row j c
-    owner = entry_owner k.inv.puts l.row j c row seat pending
+    owner : IsPendingOf z r l.rebalance.hand j c
+    owner = entry_owner k.inv.puts l.rebalance.hand j c row seat pending
 
     puts : IsPutting owner.local.activity
     puts = published_puts owner.local.activity owner.published
@@ -234,13 +245,13 @@ module _ (z : Sizes) (o : Opening) (es : List Event) (e : Event) (r r' : Run) (l
     own : OwnsAttempt (word z r.world) r.history j owner.local.activity owner.local (r.seats j)
     own = k.inv.puts.owns j owner.local owner.knows puts
 
-    own_cell : r.origin l.row c ≡ Some (r.seats j).own
+    own_cell : r.origin l.rebalance.hand c ≡ Some (r.seats j).own
     own_cell = rw (owner.row, sym own.cell ∙ owner.cell) at (own_origin k.inv.puts j owner.local owner.knows puts)
 
     own_lost : IsLostAt z o (es ++ e ∷ []) (attempt r.history (r.seats j).own) (length es)
     own_lost =
-        let at_row : (attempt r.history (r.seats j).own).row ≡ l.row = own.row ∙ owner.row in
-        let acts : Acts z o (es ++ e ∷ []) (length es) e.seat (Activity.Rebalance (Rebalance.Freeze (Freeze.Entry j))) (freezing l.row j c) (pend_word (pend.Pending c)) = subst (λ w. Acts z o (es ++ e ∷ []) (length es) e.seat (Activity.Rebalance (Rebalance.Freeze (Freeze.Entry j))) (freezing l.row j c) w) pending (acts_now z o es e r r' l l' a h k.world (Activity.Rebalance (Rebalance.Freeze (Freeze.Entry j))) (freezing l.row j c) is (ap (λ y. operation kind.FreezePend (name.Pend l.row j) (Exchange (pend_word y) (pend_word pend.Frozen))) entry)) in
+        let at_row : (attempt r.history (r.seats j).own).row ≡ l.rebalance.hand = own.row ∙ owner.row in
+        let acts : Acts z o (es ++ e ∷ []) (length es) e.seat (Activity.Rebalance (Rebalance.Freeze (Freeze.Entry j))) (freezing l.rebalance.hand j c) (pend_word (pend.Pending c)) = subst (λ w. Acts z o (es ++ e ∷ []) (length es) e.seat (Activity.Rebalance (Rebalance.Freeze (Freeze.Entry j))) (freezing l.rebalance.hand j c) w) pending (acts_now z o es e r r' l l' a h k.world (Activity.Rebalance (Rebalance.Freeze (Freeze.Entry j))) (freezing l.rebalance.hand j c) is (ap (λ y. operation kind.FreezePend (name.Pend l.rebalance.hand j) (Exchange (pend_word y) (pend_word pend.Frozen))) entry)) in
         let announced = own.announced owner.published in
         record {
           seat = e.seat;
@@ -255,9 +266,9 @@ module _ (z : Sizes) (o : Opening) (es : List Event) (e : Event) (r r' : Run) (l
     own_noted =
         let it = logged e.seat (transition z a e.seat (offered r.world.rows e.choice) l).operation.kind (word z r.world name.Clock) in
         let at_freeze : r'.history ≡ noted r.history it (change_of z (Activity.Rebalance (Rebalance.Freeze (Freeze.Entry j))) e.seat (offered r.world.rows e.choice) l (found_at z (word z r.world) (Activity.Rebalance (Rebalance.Freeze (Freeze.Entry j))) e.seat (offered r.world.rows e.choice) l) (r.seats e.seat) r.origin) = h.history ∙ ap (λ b. noted r.history it (change_of z b e.seat (offered r.world.rows e.choice) l (found_at z (word z r.world) b e.seat (offered r.world.rows e.choice) l) (r.seats e.seat) r.origin)) is in
-        let saw : word z r.world (name.Pend l.row j) ≡ pend_word l.rebalance.entry = pending ∙ ap pend_word (sym entry) in
-        let loses : led.freezing l.rebalance.entry l.row r.origin ≡ Loses (r.seats j).own = ap (λ y. led.freezing y l.row r.origin) entry ∙ ap losing own_cell in
-        let f : r'.history ≡ noted r.history it (Loses (r.seats j).own) = at_freeze ∙ ap (noted r.history it) (chosen (word z r.world (name.Pend l.row j)) (pend_word l.rebalance.entry) (led.freezing l.rebalance.entry l.row r.origin) Nothing saw ∙ loses) in
+        let saw : word z r.world (name.Pend l.rebalance.hand j) ≡ pend_word l.rebalance.entry = pending ∙ ap pend_word (sym entry) in
+        let loses : led.freezing l.rebalance.entry l.rebalance.hand r.origin ≡ Loses (r.seats j).own = ap (λ y. led.freezing y l.rebalance.hand r.origin) entry ∙ ap losing own_cell in
+        let f : r'.history ≡ noted r.history it (Loses (r.seats j).own) = at_freeze ∙ ap (noted r.history it) (chosen (word z r.world (name.Pend l.rebalance.hand j)) (pend_word l.rebalance.entry) (led.freezing l.rebalance.entry l.rebalance.hand r.origin) Nothing saw ∙ loses) in
         attempt_set_same r.history r'.history (r.seats j).own _ (ap (λ (q : History). q.attempts) f) own.within
 
   -- Attempts that are lost.
@@ -273,7 +284,7 @@ module _ (z : Sizes) (o : Opening) (es : List Event) (e : Event) (r r' : Run) (l
   lost_so p w (is_stamped is mine pending f) = λ x. true_false x (i'.history.laws.kept p (ap (λ (q : Attempt). q.is_stamped) f))
   lost_so p w (is_helped is origin pending f) = λ x. true_false x (i'.history.laws.kept p (ap (λ (q : Attempt). q.is_stamped) f))
   lost_so p w (is_lost j c is entry origin pending f) =
-      let same = pending_own k.inv.puts l.row j c p (row j c is entry pending) (seat j c is entry pending) pending origin in
+      let same = pending_own k.inv.puts l.rebalance.hand j c p (row j c is entry pending) (seat j c is entry pending) pending origin in
       subst LostSo (sym f) (λ x. (length es, resaid z o (es ++ e ∷ []) (length es) (attempt r.history p) _ (subst (λ y. IsLostAt z o (es ++ e ∷ []) (attempt r.history y) (length es)) (sym same) (own_lost j c is entry pending)) refl refl refl refl refl))
 
   lost_on : (p : ℕ) → p < length r'.history.attempts → (attempt r'.history p).is_lost ≡ true → (x : ℕ) × IsLostAt z o (es ++ e ∷ []) (attempt r'.history p) x
@@ -284,10 +295,10 @@ module _ (z : Sizes) (o : Opening) (es : List Event) (e : Event) (r r' : Run) (l
       which (inr y) = true_false x (ap (λ (q : Attempt). q.is_lost) y.is)
 
   -- an exchange that freezes a pending entry
-  freezes_here : (j q t c : ℕ) → a ≡ Activity.Rebalance (Rebalance.Freeze (Freeze.Entry j)) → operation kind.FreezePend (name.Pend l.row j) (Exchange (pend_word l.rebalance.entry) (pend_word pend.Frozen)) ≡ freezing q t c → word z r.world (name.Pend q t) ≡ pend_word (pend.Pending c) → IsLossOf z o (es ++ e ∷ []) r'.history (length es)
+  freezes_here : (j q t c : ℕ) → a ≡ Activity.Rebalance (Rebalance.Freeze (Freeze.Entry j)) → operation kind.FreezePend (name.Pend l.rebalance.hand j) (Exchange (pend_word l.rebalance.entry) (pend_word pend.Frozen)) ≡ freezing q t c → word z r.world (name.Pend q t) ≡ pend_word (pend.Pending c) → IsLossOf z o (es ++ e ∷ []) r'.history (length es)
   freezes_here j q t c is line found =
       let entry : l.rebalance.entry ≡ pend.Pending c = pending_is l.rebalance.entry c (same_exchange _ _ _ _ (ap (λ (y : Operation). y.action) line)) in
-      let pending : word z r.world (name.Pend l.row j) ≡ pend_word (pend.Pending c) = ap (λ (y : Operation). word z r.world y.name) line ∙ found in
+      let pending : word z r.world (name.Pend l.rebalance.hand j) ≡ pend_word (pend.Pending c) = ap (λ (y : Operation). word z r.world y.name) line ∙ found in
       let w = (own j c is entry pending).within in
       let g = own_noted j c is entry pending in
       record {
@@ -315,7 +326,7 @@ module _ (z : Sizes) (o : Opening) (es : List Event) (e : Event) (r r' : Run) (l
       which (inr d) =
           let n = acting_now z o es e r r' l l' a h k.world x s b _ _ d y in
           let f = freeze_line z e.seat (offered r.world.rows e.choice) l a (ap (λ (p : Operation). p.kind) n.operates) in
-          let line : operation kind.FreezePend (name.Pend l.row f.0) (Exchange (pend_word l.rebalance.entry) (pend_word pend.Frozen)) ≡ freezing q t c = ap (λ m. (transition z m e.seat (offered r.world.rows e.choice) l).operation) (sym f.1) ∙ n.operates in
+          let line : operation kind.FreezePend (name.Pend l.rebalance.hand f.0) (Exchange (pend_word l.rebalance.entry) (pend_word pend.Frozen)) ≡ freezing q t c = ap (λ m. (transition z m e.seat (offered r.world.rows e.choice) l).operation) (sym f.1) ∙ n.operates in
           subst (IsLossOf z o (es ++ e ∷ []) r'.history) (sym d) (freezes_here f.0 q t c f.1 line n.finds)
 
   -- all of it after the event

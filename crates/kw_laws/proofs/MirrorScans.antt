@@ -31,6 +31,7 @@ use Rattle.kw_core.specs.Stages.{IsUnderway, IsSettling, IsWaiting, HasDrawn}
 use Rattle.kw_core.specs.Step.{Step}
 use Rattle.kw_core.specs.Words.{Words}
 use Rattle.kw_core.proofs.Arrows.{builds, Arrow, NextLook, looks, lists, NextLeftOver, goes_to_left_over, answers, ends_scan, scans_on, sees_stamped, sees_neither, is_gone_by, helps, finds_stamped, finds_other, list_ends, key_above, left_over_gone_by, gathers_left_over, settles_empty, settles, draws_for, first_ends}
+use Rattle.kw_core.proofs.Arrows.{freezes_last, keeps_no_more, remembers_last, sees_frozen_last, takes_no_more, marks_led, decides}
 use Rattle.kw_core.proofs.Building.{IsBuilding}
 use Rattle.kw_core.proofs.BuiltNext.{IsAfterBuilding, built_next}
 use Rattle.kw_core.proofs.Frame.{unwritten}
@@ -46,6 +47,7 @@ use Rattle.kw_laws.specs.Mirror.{Acts, operation}
 use Rattle.kw_laws.specs.MirrorReads.{WasHelped, HasSettled, settling, helping}
 use Rattle.kw_laws.proofs.Mirroring.{Kept, acts_here}
 use Rattle.kw_laws.proofs.Occurs.{occurs_within, acts_lasts}
+use Rattle.kw_core.proofs.Grouping.{counted_leads, frozen_leads, gathered_leads}
 
 -- another seat has settled the scan of seat t, which waited with this clock: its word has the
 -- version that was drawn at this position
@@ -146,6 +148,13 @@ helper_drew z v s choice l a k (list_ends next e n) = left_over_helps_none v a _
 helper_drew z v s choice l a k (key_above next e n) = left_over_helps_none v a _ _ n
 helper_drew z v s choice l a k (left_over_gone_by next e n) = left_over_helps_none v a _ _ n
 helper_drew z v s choice l a k (gathers_left_over next n) = left_over_helps_none v a _ _ n
+helper_drew z v s choice l a k (remembers_last i c version next e o n) = frozen_leads (DrewFor v a k) tt tt _ next n
+helper_drew z v s choice l a k (sees_frozen_last i next e o n) = frozen_leads (DrewFor v a k) tt tt _ next n
+helper_drew z v s choice l a k (freezes_last i next e o n) = frozen_leads (DrewFor v a k) tt tt _ next n
+helper_drew z v s choice l a k (takes_no_more next e none n) = gathered_leads (DrewFor v a k) tt tt z _ next n
+helper_drew z v s choice l a k (keeps_no_more next none n) = gathered_leads (DrewFor v a k) tt tt z _ next n
+helper_drew z v s choice l a k (marks_led count next d n) = counted_leads (DrewFor v a k) tt tt _ _ next n
+helper_drew z v s choice l a k (decides count m next e n) = counted_leads (DrewFor v a k) tt tt _ _ next n
 helper_drew z v s choice l a k _ = tt
 
 -- the activity of a scan that settles

@@ -10,7 +10,9 @@ use Rattle.kw_model.specs.declared.call.Call.{Call}
 use Rattle.kw_world.specs.Answers.{reply_of}
 use Rattle.kw_world.specs.declared.activity.Activity.{Activity}
 use Rattle.kw_world.specs.declared.activity.draw.Draw.TheVariants as Draw
+use Rattle.kw_world.specs.declared.activity.rebalance.claim.Claim.TheVariants as Claim
 use Rattle.kw_world.specs.declared.activity.rebalance.engage.Engage.TheVariants as Engage
+use Rattle.kw_world.specs.declared.activity.rebalance.left.Left.TheVariants as Left
 use Rattle.kw_world.specs.declared.activity.look.Look.TheVariants as Look
 use Rattle.kw_world.specs.declared.activity.put.Put.TheVariants as Put
 use Rattle.kw_world.specs.declared.activity.read.Read.TheVariants as Read
@@ -35,6 +37,7 @@ use Rattle.kw_world.specs.Opening.{opened}
 use Rattle.kw_world.specs.PutTransitions.{has_room}
 use Rattle.kw_world.specs.ListTransitions.{cell_guess, first_operation}
 use Rattle.kw_world.specs.WalkTransitions.{offered, start_transition, walk_transition, is_stopped}
+use Rattle.kw_world.specs.LeftTransitions.{left_transition}
 use Rattle.kw_world.specs.ReplaceTransitions.{before_transition}
 use Rattle.kw_world.specs.SeekTransitions.{seek_first_transition}
 use Rattle.kw_world.specs.Table.{transition}
@@ -53,6 +56,8 @@ use Rattle.kw_core.proofs.Building.{IsBuilding}
 use Rattle.kw_core.proofs.BuiltNext.{IsAfterBuilding, built_goes, built_next}
 use Rattle.kw_core.proofs.Arrows.{builds, Arrow, NextLook, looks, lists, NextLeftOver, goes_to_left_over, answers, ends_scan, scans_on}
 use Rattle.kw_core.proofs.Arrows.{begins, loads_to_help, loads_clock, sees_stamped, sees_neither, is_gone_by, helps, finds_stamped, finds_other, list_ends, key_above, left_over_gone_by, gathers_left_over, leaves, first_ends}
+use Rattle.kw_core.proofs.Arrows.{freezes_last, keeps_no_more, remembers_last, sees_frozen_last, takes_no_more, marks_led, decides}
+use Rattle.kw_core.proofs.Grouping.{counted_goes, counted_leads, frozen_goes, frozen_leads, gathered_goes, gathered_leads}
 use Rattle.kw_shape.proofs.NextCalls.{cell_call}
 use Rattle.kw_core.proofs.Steps.{none_some}
 use Rattle.kw_core.proofs.SeatLogs.{either, call_kept, settled_same}
@@ -103,6 +108,13 @@ arrow_counts z v s choice l a k (list_ends next e n) = let x = cell_call _ _ n i
 arrow_counts z v s choice l a k (key_above next e n) = let x = cell_call _ _ n in omega (arith, x.1)
 arrow_counts z v s choice l a k (left_over_gone_by next e n) = let x = cell_call _ _ n in omega (arith, x.1)
 arrow_counts z v s choice l a k (gathers_left_over next n) = let x = cell_call _ _ n in omega (arith, x.1)
+arrow_counts z v s choice l a k (remembers_last i c version next e o n) = let x = (frozen_goes _ next n).number in omega (arith, x)
+arrow_counts z v s choice l a k (sees_frozen_last i next e o n) = let x = (frozen_goes _ next n).number in omega (arith, x)
+arrow_counts z v s choice l a k (freezes_last i next e o n) = let x = (frozen_goes _ next n).number in omega (arith, x)
+arrow_counts z v s choice l a k (takes_no_more next e none n) = let x = (gathered_goes z _ next n).number in omega (arith, x)
+arrow_counts z v s choice l a k (keeps_no_more next none n) = let x = (gathered_goes z _ next n).number in omega (arith, x)
+arrow_counts z v s choice l a k (marks_led count next d n) = let x = (counted_goes _ _ next n).number in omega (arith, x)
+arrow_counts z v s choice l a k (decides count m next e n) = let x = (counted_goes _ _ next n).number in omega (arith, x)
 arrow_counts z v s choice l a k _ = omega arith
 
 -- What an arrow leads to.
@@ -147,6 +159,13 @@ arrow_busy z v s choice l a k (list_ends next e n) u = next_left_over_busy _ _ n
 arrow_busy z v s choice l a k (key_above next e n) u = next_left_over_busy _ _ n
 arrow_busy z v s choice l a k (left_over_gone_by next e n) u = next_left_over_busy _ _ n
 arrow_busy z v s choice l a k (gathers_left_over next n) u = next_left_over_busy _ _ n
+arrow_busy z v s choice l a k (remembers_last i c version next e o n) u = frozen_leads IsBusy tt tt _ next n
+arrow_busy z v s choice l a k (sees_frozen_last i next e o n) u = frozen_leads IsBusy tt tt _ next n
+arrow_busy z v s choice l a k (freezes_last i next e o n) u = frozen_leads IsBusy tt tt _ next n
+arrow_busy z v s choice l a k (takes_no_more next e none n) u = gathered_leads IsBusy tt tt z _ next n
+arrow_busy z v s choice l a k (keeps_no_more next none n) u = gathered_leads IsBusy tt tt z _ next n
+arrow_busy z v s choice l a k (marks_led count next d n) u = counted_leads IsBusy tt tt _ _ next n
+arrow_busy z v s choice l a k (decides count m next e n) u = counted_leads IsBusy tt tt _ _ next n
 arrow_busy z v s choice l a k _ u = tt
 
 look_stamp : {A : Type 0} (z : Sizes) (j : ℕ) (next : Activity) → NextLook z j next → IsStamp next ⊎ IsHelp next → A
@@ -180,6 +199,13 @@ arrow_stamp z v s choice l a k (list_ends next e n) u = left_over_stamp _ _ n (i
 arrow_stamp z v s choice l a k (key_above next e n) u = left_over_stamp _ _ n (inl u)
 arrow_stamp z v s choice l a k (left_over_gone_by next e n) u = left_over_stamp _ _ n (inl u)
 arrow_stamp z v s choice l a k (gathers_left_over next n) u = left_over_stamp _ _ n (inl u)
+arrow_stamp z v s choice l a k (remembers_last i c version next e o n) u = absurd (frozen_leads (λ b. IsStamp b → ⊥) (λ x. x) (λ x. x) _ next n u)
+arrow_stamp z v s choice l a k (sees_frozen_last i next e o n) u = absurd (frozen_leads (λ b. IsStamp b → ⊥) (λ x. x) (λ x. x) _ next n u)
+arrow_stamp z v s choice l a k (freezes_last i next e o n) u = absurd (frozen_leads (λ b. IsStamp b → ⊥) (λ x. x) (λ x. x) _ next n u)
+arrow_stamp z v s choice l a k (takes_no_more next e none n) u = absurd (gathered_leads (λ b. IsStamp b → ⊥) (λ x. x) (λ x. x) z _ next n u)
+arrow_stamp z v s choice l a k (keeps_no_more next none n) u = absurd (gathered_leads (λ b. IsStamp b → ⊥) (λ x. x) (λ x. x) z _ next n u)
+arrow_stamp z v s choice l a k (marks_led count next d n) u = absurd (counted_leads (λ b. IsStamp b → ⊥) (λ x. x) (λ x. x) _ _ next n u)
+arrow_stamp z v s choice l a k (decides count m next e n) u = absurd (counted_leads (λ b. IsStamp b → ⊥) (λ x. x) (λ x. x) _ _ next n u)
 arrow_stamp z v s choice l a k _ u = absurd u
 
 -- so has a seat that is to help
@@ -197,6 +223,13 @@ arrow_help z v s choice l a k (list_ends next e n) u = left_over_stamp _ _ n (in
 arrow_help z v s choice l a k (key_above next e n) u = left_over_stamp _ _ n (inr u)
 arrow_help z v s choice l a k (left_over_gone_by next e n) u = left_over_stamp _ _ n (inr u)
 arrow_help z v s choice l a k (gathers_left_over next n) u = left_over_stamp _ _ n (inr u)
+arrow_help z v s choice l a k (remembers_last i c version next e o n) u = absurd (frozen_leads (λ b. IsHelp b → ⊥) (λ x. x) (λ x. x) _ next n u)
+arrow_help z v s choice l a k (sees_frozen_last i next e o n) u = absurd (frozen_leads (λ b. IsHelp b → ⊥) (λ x. x) (λ x. x) _ next n u)
+arrow_help z v s choice l a k (freezes_last i next e o n) u = absurd (frozen_leads (λ b. IsHelp b → ⊥) (λ x. x) (λ x. x) _ next n u)
+arrow_help z v s choice l a k (takes_no_more next e none n) u = absurd (gathered_leads (λ b. IsHelp b → ⊥) (λ x. x) (λ x. x) z _ next n u)
+arrow_help z v s choice l a k (keeps_no_more next none n) u = absurd (gathered_leads (λ b. IsHelp b → ⊥) (λ x. x) (λ x. x) z _ next n u)
+arrow_help z v s choice l a k (marks_led count next d n) u = absurd (counted_leads (λ b. IsHelp b → ⊥) (λ x. x) (λ x. x) _ _ next n u)
+arrow_help z v s choice l a k (decides count m next e n) u = absurd (counted_leads (λ b. IsHelp b → ⊥) (λ x. x) (λ x. x) _ _ next n u)
 arrow_help z v s choice l a k _ u = absurd u
 
 -- Where a seat loaded the clock last.
@@ -257,8 +290,16 @@ loaded_over z s choice l found next g o h settled (Activity.Rebalance (Rebalance
     befores Go e = cc
     befores (Guess q) e = cc
     befores Stop e = cc
+loaded_over z s choice l found next g o h settled (Activity.Rebalance (Rebalance.Left Left.Start)) = inl (refl, lefts choice)
+  where
+    lefts : (c : Choice) → (left_transition c l).operation.kind ≢ kind.LoadClock
+    lefts (Begin call) e = cc
+    lefts Go e = cc
+    lefts (Guess q) e = cc
+    lefts Stop e = cc
 loaded_over z s choice l found next g o h settled (Activity.Enter Enter.Announce) = inl (refl, λ e. cc)
 loaded_over z s choice l found next g o h settled (Activity.Insert Insert.Link) = inl (refl, λ e. cc)
+loaded_over z s choice l found next g o h settled (Activity.Rebalance (Rebalance.Claim Claim.Count)) = inl (refl, λ e. cc)
 loaded_over z s choice l found next g o h settled (Activity.Rebalance (Rebalance.Freeze Freeze.Count)) = inl (refl, λ e. cc)
 loaded_over z s choice l found next g o h settled (Activity.Rebalance (Rebalance.Gather Gather.Link)) = inl (refl, λ e. cc)
 loaded_over z s choice l found next g o h settled (Activity.Rebalance (Rebalance.Write Write.Count)) = inl (refl, λ e. cc)

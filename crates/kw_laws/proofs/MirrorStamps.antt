@@ -7,7 +7,9 @@ use Rattle.kw_words.specs.Pend.{pend_word}
 use Rattle.kw_world.specs.declared.activity.Activity.{Activity}
 use Rattle.kw_core.proofs.Frame.{no_link}
 use Rattle.kw_world.specs.declared.activity.draw.Draw.TheVariants as Draw
+use Rattle.kw_world.specs.declared.activity.rebalance.claim.Claim.TheVariants as Claim
 use Rattle.kw_world.specs.declared.activity.rebalance.engage.Engage.TheVariants as Engage
+use Rattle.kw_world.specs.declared.activity.rebalance.left.Left.TheVariants as Left
 use Rattle.kw_world.specs.declared.activity.rebalance.freeze.Freeze.TheVariants as Freeze
 use Rattle.kw_world.specs.declared.activity.insert.Insert.TheVariants as Insert
 use Rattle.kw_world.specs.declared.activity.look.Look.TheVariants as Look
@@ -33,6 +35,8 @@ use Rattle.kw_world.specs.Transition.{Transition}
 use Rattle.kw_world.specs.ListTransitions.{cell_guess}
 use Rattle.kw_world.proofs.Transitions.{first_loads}
 use Rattle.kw_world.specs.WalkTransitions.{offered, start_transition, walk_transition, is_stopped}
+use Rattle.kw_world.specs.ClaimTransitions.{row_after}
+use Rattle.kw_world.specs.LeftTransitions.{left_transition}
 use Rattle.kw_world.specs.ReplaceTransitions.{before_transition, replaced_link}
 use Rattle.kw_world.specs.SeekTransitions.{infant, seek_first_transition}
 use Rattle.kw_world.specs.Table.{transition}
@@ -106,6 +110,15 @@ stamp_line z v s choice l (Activity.Insert Insert.Exchange) q t c u n x f = no_l
 stamp_line z v s choice l (Activity.Rebalance (Rebalance.Engage (Engage.Normal seat))) q t c u n x f = let y : name.State l.row ≡ name.Pend q t = n in absurd (cc)
 stamp_line z v s choice l (Activity.Rebalance (Rebalance.Engage Engage.Lead)) q t c u n x f = let y : name.State l.row ≡ name.Pend q t = n in absurd (cc)
 stamp_line z v s choice l (Activity.Rebalance (Rebalance.Engage (Engage.Decide count))) q t c u n x f = let y : name.State l.row ≡ name.Pend q t = n in absurd (cc)
+stamp_line z v s choice l (Activity.Rebalance (Rebalance.Claim Claim.Exchange)) q t c u n x f = let y : name.State (row_after l) ≡ name.Pend q t = n in absurd (cc)
+stamp_line z v s choice l (Activity.Rebalance (Rebalance.Claim (Claim.Normal seat))) q t c u n x f = let y : name.State (row_after l) ≡ name.Pend q t = n in absurd (cc)
+stamp_line z v s choice l (Activity.Rebalance (Rebalance.Left Left.Start)) q t c u n x f = absurd (lefts choice x)
+  where
+    lefts : (d : Choice) → (left_transition d l).operation.action ≡ Exchange (pend_word (pend.Pending c)) (pend_word (pend.Stamped c u)) → ⊥
+    lefts (Begin call) y = cc
+    lefts Go y = cc
+    lefts (Guess d) y = cc
+    lefts Stop y = cc
 stamp_line z v s choice l (Activity.Rebalance (Rebalance.Freeze (Freeze.Entry i))) q t c u n x f = absurd (stamped_apart c u (same_stored _ _ _ _ x))
 stamp_line z v s choice l (Activity.Rebalance (Rebalance.Freeze (Freeze.Settle i))) q t c u n x f = let y : name.Scan i ≡ name.Pend q t = n in absurd (cc)
 stamp_line z v s choice l (Activity.Rebalance (Rebalance.Seek Seek.Reclaim)) q t c u n x f = let y : name.State l.rebalance.sought ≡ name.Pend q t = n in absurd (cc)
@@ -157,6 +170,15 @@ announce_line z v s choice l (Activity.Insert Insert.Exchange) q t c n x f = no_
 announce_line z v s choice l (Activity.Rebalance (Rebalance.Engage (Engage.Normal seat))) q t c n x f = let y : name.State l.row ≡ name.Pend q t = n in absurd (cc)
 announce_line z v s choice l (Activity.Rebalance (Rebalance.Engage Engage.Lead)) q t c n x f = let y : name.State l.row ≡ name.Pend q t = n in absurd (cc)
 announce_line z v s choice l (Activity.Rebalance (Rebalance.Engage (Engage.Decide count))) q t c n x f = let y : name.State l.row ≡ name.Pend q t = n in absurd (cc)
+announce_line z v s choice l (Activity.Rebalance (Rebalance.Claim Claim.Exchange)) q t c n x f = let y : name.State (row_after l) ≡ name.Pend q t = n in absurd (cc)
+announce_line z v s choice l (Activity.Rebalance (Rebalance.Claim (Claim.Normal seat))) q t c n x f = let y : name.State (row_after l) ≡ name.Pend q t = n in absurd (cc)
+announce_line z v s choice l (Activity.Rebalance (Rebalance.Left Left.Start)) q t c n x f = absurd (lefts choice x)
+  where
+    lefts : (d : Choice) → (left_transition d l).operation.action ≡ Exchange (pend_word pend.Idle) (pend_word (pend.Pending c)) → ⊥
+    lefts (Begin call) y = cc
+    lefts Go y = cc
+    lefts (Guess u) y = cc
+    lefts Stop y = cc
 announce_line z v s choice l (Activity.Rebalance (Rebalance.Freeze (Freeze.Entry i))) q t c n x f = absurd (frozen_apart c (same_stored _ _ _ _ x))
 announce_line z v s choice l (Activity.Rebalance (Rebalance.Freeze (Freeze.Settle i))) q t c n x f = let y : name.Scan i ≡ name.Pend q t = n in absurd (cc)
 announce_line z v s choice l (Activity.Rebalance (Rebalance.Seek Seek.Reclaim)) q t c n x f = let y : name.State l.rebalance.sought ≡ name.Pend q t = n in absurd (cc)

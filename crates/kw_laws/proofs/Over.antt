@@ -44,7 +44,7 @@ pub data AttemptOver (v : Words) (h h' : History) (s : ℕ) (l : Local) (g : Sea
       attempt h' p ≡ record (attempt h p) { is_stamped = true; version = l.version; load = g.loaded; at = length h.log } → AttemptOver v h h' s l g o a p
   is_helped : a ≡ Activity.Look Look.Help → o l.row l.saw ≡ Some p → v (name.Pend l.row l.looked) ≡ pend_word (pend.Pending l.saw) →
       attempt h' p ≡ record (attempt h p) { is_stamped = true; version = l.helping; load = g.loaded; at = length h.log } → AttemptOver v h h' s l g o a p
-  is_lost : (i c : ℕ) → a ≡ Activity.Rebalance (Rebalance.Freeze (Freeze.Entry i)) → l.rebalance.entry ≡ pend.Pending c → o l.row c ≡ Some p → v (name.Pend l.row i) ≡ pend_word (pend.Pending c) →
+  is_lost : (i c : ℕ) → a ≡ Activity.Rebalance (Rebalance.Freeze (Freeze.Entry i)) → l.rebalance.entry ≡ pend.Pending c → o l.rebalance.hand c ≡ Some p → v (name.Pend l.rebalance.hand i) ≡ pend_word (pend.Pending c) →
       attempt h' p ≡ record (attempt h p) { is_lost = true } → AttemptOver v h h' s l g o a p
 
 -- the new attempt of a set list

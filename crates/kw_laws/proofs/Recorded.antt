@@ -1,5 +1,5 @@
 -- What one event adds to a record that is kept along is what it adds to the run.
-use Rattle.std.proofs.Common.{ℕ, suc, ◌≡◌, ◌≢◌, ◌⊎◌, inl, inr, ◌+◌, ◌-◌, ◌*◌, ◌/◌, ◌%◌, ◌<◌, ◌≤◌, ◌==◌, Bool, true, false, if◌then◌else◌, Option, Some, None, List, get_or, set, slice_get, slice_set, length, arith, refl, sym, ◌∙◌, ap, subst, length-append, length-set, get_or-set_other, get_or-set_same, eq-eqb, ne_eqb}
+use Rattle.std.proofs.Common.{ℕ, suc, ◌≡◌, ◌≢◌, ◌⊎◌, inl, inr, ◌+◌, ◌-◌, ◌*◌, ◌/◌, ◌%◌, ◌<◌, ◌≤◌, ◌==◌, Bool, true, false, nat_lt, if◌then◌else◌, Option, Some, None, List, get_or, set, slice_get, slice_set, length, arith, refl, sym, ◌∙◌, ap, subst, length-append, length-set, get_or-set_other, get_or-set_same, eq-eqb, ne_eqb}
 use Rattle.std.proofs.lemmas.Nat.{mod-mul-add, div-mul-add}
 use Rattle.std.proofs.Math.Nat.{mul-le-mul_left}
 use Rattle.std.proofs.lemmas.Bool.{cases_eq}
@@ -8,6 +8,7 @@ use Rattle.std.proofs.lemmas.Option.{slice_get_within, same_Some}
 use Rattle.kw_words.specs.declared.count.Count.{Count}
 use Rattle.kw_words.specs.declared.pend.Pend.{Pend}
 use Rattle.kw_words.specs.declared.pend.Pend.TheVariants as pend
+use Rattle.kw_words.specs.declared.sizes.TheConstants.{MOST_GROUP}
 use Rattle.kw_words.specs.Pend.{pend_word}
 use Rattle.kw_words.specs.declared.scan.ScanWord.TheVariants.{Waiting}
 use Rattle.kw_words.specs.Scan.{scan_word}
@@ -35,7 +36,9 @@ use Rattle.kw_world.specs.declared.event.Choice.TheVariants.{Begin, Go, Guess, S
 use Rattle.kw_world.specs.Sizes.{Sizes}
 use Rattle.kw_world.specs.PutTransitions.{has_room, given_of}
 use Rattle.kw_world.specs.WalkTransitions.{offered}
-use Rattle.kw_world.specs.Sane.{IsSane, IsKnown, IsEntry, IsPlaced, IsActivity}
+use Rattle.kw_world.specs.GroupPlaces.{cell_at, row_at, source}
+use Rattle.kw_world.specs.Sane.{IsSane, IsKnown, IsEntry, IsPlaced, IsActivity, IsRowBelow}
+use Rattle.kw_world.specs.Transition.{row_or_first}
 use Rattle.kw_world.specs.SeekTransitions.{infant}
 use Rattle.kw_world.specs.WriteTransitions.{infant_cells}
 use Rattle.kw_world.specs.Step.{followed, transition_at, is_skipped, step, Stepped, stepped, moved_of}
@@ -124,9 +127,9 @@ freezing_same pend.Frozen row o p e = refl
 
 -- the change depends on the origins of the cell that was seen and of that of the entry at hand
 -- alone
-change_same : (z : Sizes) (a : Activity) (s : ℕ) (choice : Choice) (l : Local) (found : ℕ) (g : SeatLog) (o p : Origins) → o l.row l.saw ≡ p l.row l.saw → ((c : ℕ) → l.rebalance.entry ≡ pend.Pending c → o l.row c ≡ p l.row c) → change_of z a s choice l found g o ≡ change_of z a s choice l found g p
+change_same : (z : Sizes) (a : Activity) (s : ℕ) (choice : Choice) (l : Local) (found : ℕ) (g : SeatLog) (o p : Origins) → o l.row l.saw ≡ p l.row l.saw → ((c : ℕ) → l.rebalance.entry ≡ pend.Pending c → o l.rebalance.hand c ≡ p l.rebalance.hand c) → change_of z a s choice l found g o ≡ change_of z a s choice l found g p
 change_same z (Activity.Look Look.Help) s choice l found g o p e f = rw e refl
-change_same z (Activity.Rebalance (Rebalance.Freeze (Freeze.Entry i))) s choice l found g o p e f = rw (freezing_same l.rebalance.entry l.row o p f) refl
+change_same z (Activity.Rebalance (Rebalance.Freeze (Freeze.Entry i))) s choice l found g o p e f = rw (freezing_same l.rebalance.entry l.rebalance.hand o p f) refl
 change_same z (Activity.Put Put.Count) s choice l found g o p e f = refl
 change_same z _ s choice l found g o p e f = refl
 
@@ -203,16 +206,36 @@ origin_set z xs rows row cell x p len below in_row same q c v w = which (cases_e
         rw (eq-eqb q row t.0, eq-eqb c cell t.1, e) (get_or-set_same xs (row * z.cells + cell) x None y)
     which (inr f) = rw (get_or-set_other xs (row * z.cells + cell) (q * z.cells + c) x None f) (same q c v w ∙ sym (elsewhere f (cases_eq q row) (cases_eq c cell)))
 
+-- the row of the cell at a place of the group is one of the table's
+row_at_below : (z : Sizes) (l : Local) (rows place : ℕ) → l.row < rows → IsRowBelow rows l.rebalance.second → row_at z l place < rows
+row_at_below z l rows place below second = saw (nat_lt place z.cells)
+  where
+    other : (x : Option ℕ) → IsRowBelow rows x → row_or_first x < rows
+    other (Some r) v = v
+    other None v = omega arith
+
+    saw : (b : Bool) → (if b then l.row else row_or_first l.rebalance.second) < rows
+    saw true = below
+    saw false = other l.rebalance.second second
+
+-- the cell at a place of a group is one of its row
+cell_at_below : (z : Sizes) (place : ℕ) → place < MOST_GROUP * z.cells → cell_at z place < z.cells
+cell_at_below z place v = saw (nat_lt place z.cells) refl
+  where
+    saw : (b : Bool) → nat_lt place z.cells ≡ b → (if b then place else place - z.cells) < z.cells
+    saw true e = ltb-true place z.cells e
+    saw false e = omega arith
+
 -- a kept cell is a copy of the same attempt in origins that agree on it
-copied_same : (o p : Origins) (row : ℕ) (x : Option kw_cell.Cell) → ((c : kw_cell.Cell) → x ≡ Some c → o row c.place ≡ p row c.place) → copied o row x ≡ copied p row x
-copied_same o p row (Some c) e = e c refl
-copied_same o p row None e = refl
+copied_same : (z : Sizes) (o p : Origins) (l : Local) (x : Option kw_cell.Cell) → ((c : kw_cell.Cell) → x ≡ Some c → source z o l c.place ≡ source z p l c.place) → copied z o l x ≡ copied z p l x
+copied_same z o p l (Some c) e = e c refl
+copied_same z o p l None e = refl
 
 -- the origins with what the change adds, where the attempt p is the next one, and with the copy
 -- that the event writes, if it writes one
 origins_noted : (z : Sizes) (a : Activity) (s : ℕ) (choice : Choice) (l : Local) (found : ℕ) (g : SeatLog) (o p : Origins) (h : History) (n : ℕ) (xs : List (Option ℕ)) (rows : ℕ) → n ≡ length h.attempts → length xs ≡ rows * z.cells → l.row < rows → infant l < rows → IsActivity z a →
-    ((j : ℕ) (c : kw_cell.Cell) → slice_get (infant_cells l) j ≡ Some c → o l.row c.place ≡ p l.row c.place) → ((q c : ℕ) → q < rows → c < z.cells → origin_in z xs q c ≡ p q c) →
-    (q c : ℕ) → q < rows → c < z.cells → origin_in z (copies_with z (copied_cell a l o) (origins_with z (change_of z a s choice l found g o) n xs)) q c ≡ origins_after z a l found p h q c
+    ((j : ℕ) (c : kw_cell.Cell) → slice_get (infant_cells l) j ≡ Some c → source z o l c.place ≡ source z p l c.place) → ((q c : ℕ) → q < rows → c < z.cells → origin_in z xs q c ≡ p q c) →
+    (q c : ℕ) → q < rows → c < z.cells → origin_in z (copies_with z (copied_cell z a l o) (origins_with z (change_of z a s choice l found g o) n xs)) q c ≡ origins_after z a l found p h q c
 origins_noted z (Activity.Put Put.Add) s choice l found g o p h n xs rows is len below new y kept same q c v w = saw (has_room z (count_of found)) refl
   where
     saw : (b : Bool) → has_room z (count_of found) ≡ b → origin_in z (origins_with z (change_of z (Activity.Put Put.Add) s choice l found g o) n xs) q c ≡ origins_after z (Activity.Put Put.Add) l found p h q c
@@ -232,13 +255,13 @@ origins_noted z (Activity.Put Put.Announce) s choice l found g o p h n xs rows i
 origins_noted z (Activity.Put Put.Stamp) s choice l found g o p h n xs rows is len below new y kept same q c v w =
     rw (none_given z (if found == pend_word (pend.Pending l.cell) then Stamps g.own l.version g.loaded else Nothing) n xs (none_of (found == pend_word (pend.Pending l.cell)) (Stamps g.own l.version g.loaded) Nothing tt tt)) (same q c v w)
 origins_noted z (Activity.Rebalance (Rebalance.Freeze (Freeze.Entry i))) s choice l found g o p h n xs rows is len below new y kept same q c v w =
-    rw (none_given z (if found == pend_word l.rebalance.entry then freezing l.rebalance.entry l.row o else Nothing) n xs (none_of (found == pend_word l.rebalance.entry) _ Nothing (none_freezing l.rebalance.entry l.row o) tt)) (same q c v w)
+    rw (none_given z (if found == pend_word l.rebalance.entry then freezing l.rebalance.entry l.rebalance.hand o else Nothing) n xs (none_of (found == pend_word l.rebalance.entry) _ Nothing (none_freezing l.rebalance.entry l.rebalance.hand o) tt)) (same q c v w)
 origins_noted z (Activity.Rebalance (Rebalance.Write (Write.Version j))) s choice l found g o p h n xs rows is len below new y kept same q c v w =
-    origin_set z xs rows (infant l) j _ p len new y same q c v w ∙ ap (λ x. with_copy p (infant l) j x q c) (copied_same o p l.row (slice_get (infant_cells l) j) (kept j))
+    origin_set z xs rows (infant l) j _ p len new y same q c v w ∙ ap (λ x. with_copy p (infant l) j x q c) (copied_same z o p l (slice_get (infant_cells l) j) (kept j))
 origins_noted z _ s choice l found g o p h n xs rows is len below new y kept same q c v w = same q c v w
 
 -- the cell that an event writes is one of the table's
-pub copy_below : (z : Sizes) (a : Activity) (l : Local) (o : Origins) (rows : ℕ) → infant l < rows → IsActivity z a → IsCopyIn z (rows * z.cells) (copied_cell a l o)
+pub copy_below : (z : Sizes) (a : Activity) (l : Local) (o : Origins) (rows : ℕ) → infant l < rows → IsActivity z a → IsCopyIn z (rows * z.cells) (copied_cell z a l o)
 copy_below z (Activity.Rebalance (Rebalance.Write (Write.Version j))) l o rows new y = place_within z.cells (infant l) j rows new y
 copy_below z _ l o rows new y = tt
 
@@ -322,7 +345,7 @@ change_recorded z k r e l i sane knows =
     let known = sane.locals e.seat l knows in
     ap (λ (g : SeatLog). change_of z l.activity e.seat (offered r.world.rows e.choice) l (found_by z r.world e l) g (origin_in z k.origins)) (i.logs e.seat (slice_get_within r.world.locals e.seat l knows)) ∙
     change_same z l.activity e.seat (offered r.world.rows e.choice) l (found_by z r.world e l) (r.seats e.seat) (origin_in z k.origins) r.origin (i.origins l.row l.saw known.below.row known.ranges.saw)
-    (λ c x. i.origins l.row c known.below.row (subst (λ y. IsEntry z (Some y)) x known.ranges.rebalance.entry))
+    (λ c x. i.origins l.rebalance.hand c known.below.rebalance.hand (subst (λ y. IsEntry z (Some y)) x known.ranges.rebalance.entry))
 
 -- the record with what the event adds is that of the run with the event
 pub records_on : (z : Sizes) (k : Recording) (r : Run) (e : Event) (l : Local) → Records z k r → IsSane z r.world → slice_get r.world.locals e.seat ≡ Some l →
@@ -331,13 +354,13 @@ records_on z k r e l i sane knows = record {
   history = settled_noted k.history (appended k.history at change) _ at change refl refl refl refl ∙ ap (λ (h : History). noted h at change) i.history ∙ ap (λ (c : Change). noted r.history at c) (change_recorded z k r e l i sane knows);
   seats = length-set k.logs e.seat _ ∙ i.seats ∙ sym (length-set r.world.locals e.seat _);
   scans = draws_long (settled_scan l.activity e.seat l found (log_of k e.seat)) k.settled ∙ i.scans;
-  cells = copies_long z (copied_cell l.activity l (origin_in z k.origins)) _ ∙ origins_long z change _ k.origins ∙ i.cells;
+  cells = copies_long z (copied_cell z l.activity l (origin_in z k.origins)) _ ∙ origins_long z change _ k.origins ∙ i.cells;
   logs = λ s w. logs_set k.logs r.seats e.seat _ _ (omega (arith, inside, i.seats)) log (λ t u. i.logs t (omega (arith, u, i.seats))) s (omega (arith, w, i.seats, length-set r.world.locals e.seat (followed r.world.rows (transition_at z r.world e l) found).local));
   settled = λ s w. draws_noted z.seats k.settled r.settled (settled_scan l.activity e.seat l found (log_of k e.seat)) i.scans (scan_below z l.activity e.seat l found (log_of k e.seat) seat known.ranges.activity) i.settled s w ∙
       ap (λ (g : SeatLog). with_settled (settled_scan l.activity e.seat l found g) r.settled s) (i.logs e.seat inside);
-  origins = λ q c v w. ap (λ (xs : List (Option ℕ)). origin_in z (copies_with z (copied_cell l.activity l (origin_in z k.origins)) xs) q c) (origins_last z k.history at change k.origins) ∙
+  origins = λ q c v w. ap (λ (xs : List (Option ℕ)). origin_in z (copies_with z (copied_cell z l.activity l (origin_in z k.origins)) xs) q c) (origins_last z k.history at change k.origins) ∙
       origins_noted z l.activity e.seat choice l found (log_of k e.seat) (origin_in z k.origins) r.origin r.history (length k.history.attempts) k.origins r.world.rows (ap (λ (h : History). length h.attempts) i.history) i.cells known.below.row (infant_in_range r.world.rows l known.below) known.ranges.activity
-      (λ j c x. i.origins l.row c.place known.below.row (infant_cell_in_range (IsPlaced z) l j c known.ranges.rebalance.places x)) i.origins q c v w;
+      (λ j c x. i.origins _ _ (row_at_below z l r.world.rows c.place known.below.row known.below.rebalance.second) (cell_at_below z c.place (infant_cell_in_range (IsPlaced z) l j c known.ranges.rebalance.places x))) i.origins q c v w;
 }
   where
     choice : Choice

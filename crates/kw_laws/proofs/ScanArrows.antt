@@ -20,11 +20,13 @@ use Rattle.kw_world.specs.Sizes.{Sizes}
 use Rattle.kw_core.specs.Stages.{IsUnderway}
 use Rattle.kw_core.specs.Words.{Words}
 use Rattle.kw_core.proofs.Arrows.{Arrow, NextLook, looks, lists, NextLeftOver, goes_to_left_over, answers, ends_scan, scans_on, begins, enters_scan, is_spent, sees_stamped, sees_neither, is_gone_by, helps, finds_stamped, finds_other, first_ends, list_ends, key_above, left_over_gone_by, gathers_left_over, clears_scan, leaves, retries, enters_again, clock_is_spent, epoch_is_spent, helps_scan, draws_for, builds}
+use Rattle.kw_core.proofs.Arrows.{freezes_last, keeps_no_more, remembers_last, sees_frozen_last, takes_no_more, marks_led, decides}
 use Rattle.kw_core.proofs.BuiltNext.{IsAfterBuilding, built_next}
 use Rattle.kw_shape.specs.Shape.{IsKind, IsPairs, IsPutCall, IsScanCall}
 use Rattle.kw_puts.specs.Positions.{HelpsScan}
 use Rattle.kw_puts.proofs.BuiltStages.{after_helps}
 use Rattle.kw_puts.proofs.Owners.{true_false}
+use Rattle.kw_core.proofs.Grouping.{counted_leads, frozen_leads, gathered_leads}
 
 -- Calls.
 
@@ -94,6 +96,13 @@ before_from z v s choice l a k (list_ends next e n) x = absurd (left_over_is_pas
 before_from z v s choice l a k (key_above next e n) x = absurd (left_over_is_past _ next n x)
 before_from z v s choice l a k (left_over_gone_by next e n) x = absurd (left_over_is_past _ next n x)
 before_from z v s choice l a k (gathers_left_over next n) x = absurd (left_over_is_past _ next n x)
+before_from z v s choice l a k (remembers_last i c version next e o n) x = absurd (frozen_leads (λ b. IsBeforeLoad b → ⊥) (λ y. y) (λ y. y) _ next n x)
+before_from z v s choice l a k (sees_frozen_last i next e o n) x = absurd (frozen_leads (λ b. IsBeforeLoad b → ⊥) (λ y. y) (λ y. y) _ next n x)
+before_from z v s choice l a k (freezes_last i next e o n) x = absurd (frozen_leads (λ b. IsBeforeLoad b → ⊥) (λ y. y) (λ y. y) _ next n x)
+before_from z v s choice l a k (takes_no_more next e none n) x = absurd (gathered_leads (λ b. IsBeforeLoad b → ⊥) (λ y. y) (λ y. y) z _ next n x)
+before_from z v s choice l a k (keeps_no_more next none n) x = absurd (gathered_leads (λ b. IsBeforeLoad b → ⊥) (λ y. y) (λ y. y) z _ next n x)
+before_from z v s choice l a k (marks_led count next d n) x = absurd (counted_leads (λ b. IsBeforeLoad b → ⊥) (λ y. y) (λ y. y) _ _ next n x)
+before_from z v s choice l a k (decides count m next e n) x = absurd (counted_leads (λ b. IsBeforeLoad b → ⊥) (λ y. y) (λ y. y) _ _ next n x)
 before_from z v s choice l a k _ x = absurd x
 
 -- a scan that goes on does not begin anew
@@ -130,6 +139,13 @@ help_from z v s choice l a k t (list_ends next e n) x = absurd (left_over_helps_
 help_from z v s choice l a k t (key_above next e n) x = absurd (left_over_helps_not _ next t n x)
 help_from z v s choice l a k t (left_over_gone_by next e n) x = absurd (left_over_helps_not _ next t n x)
 help_from z v s choice l a k t (gathers_left_over next n) x = absurd (left_over_helps_not _ next t n x)
+help_from z v s choice l a k t (remembers_last i c version next e o n) x = absurd (frozen_leads (λ b. HelpsScan t b → ⊥) (λ y. y) (λ y. y) _ next n x)
+help_from z v s choice l a k t (sees_frozen_last i next e o n) x = absurd (frozen_leads (λ b. HelpsScan t b → ⊥) (λ y. y) (λ y. y) _ next n x)
+help_from z v s choice l a k t (freezes_last i next e o n) x = absurd (frozen_leads (λ b. HelpsScan t b → ⊥) (λ y. y) (λ y. y) _ next n x)
+help_from z v s choice l a k t (takes_no_more next e none n) x = absurd (gathered_leads (λ b. HelpsScan t b → ⊥) (λ y. y) (λ y. y) z _ next n x)
+help_from z v s choice l a k t (keeps_no_more next none n) x = absurd (gathered_leads (λ b. HelpsScan t b → ⊥) (λ y. y) (λ y. y) z _ next n x)
+help_from z v s choice l a k t (marks_led count next d n) x = absurd (counted_leads (λ b. HelpsScan t b → ⊥) (λ y. y) (λ y. y) _ _ next n x)
+help_from z v s choice l a k t (decides count m next e n) x = absurd (counted_leads (λ b. HelpsScan t b → ⊥) (λ y. y) (λ y. y) _ _ next n x)
 help_from z v s choice l a k t _ x = absurd x
 
 -- Refusals.
@@ -184,4 +200,11 @@ refused_from z v s choice l a k (list_ends next f n) i x e = absurd (left_over_r
 refused_from z v s choice l a k (key_above next f n) i x e = absurd (left_over_refuses_not _ next n x e)
 refused_from z v s choice l a k (left_over_gone_by next f n) i x e = absurd (left_over_refuses_not _ next n x e)
 refused_from z v s choice l a k (gathers_left_over next n) i x e = absurd (left_over_refuses_not _ next n x e)
+refused_from z v s choice l a k (remembers_last j c version next f o n) i x e = absurd (frozen_leads (λ b. IsRefused b → ⊥) (λ y. y) (λ y. y) _ next n x)
+refused_from z v s choice l a k (sees_frozen_last j next f o n) i x e = absurd (frozen_leads (λ b. IsRefused b → ⊥) (λ y. y) (λ y. y) _ next n x)
+refused_from z v s choice l a k (freezes_last j next f o n) i x e = absurd (frozen_leads (λ b. IsRefused b → ⊥) (λ y. y) (λ y. y) _ next n x)
+refused_from z v s choice l a k (takes_no_more next f none n) i x e = absurd (gathered_leads (λ b. IsRefused b → ⊥) (λ y. y) (λ y. y) z _ next n x)
+refused_from z v s choice l a k (keeps_no_more next none n) i x e = absurd (gathered_leads (λ b. IsRefused b → ⊥) (λ y. y) (λ y. y) z _ next n x)
+refused_from z v s choice l a k (marks_led count next d n) i x e = absurd (counted_leads (λ b. IsRefused b → ⊥) (λ y. y) (λ y. y) _ _ next n x)
+refused_from z v s choice l a k (decides count m next f n) i x e = absurd (counted_leads (λ b. IsRefused b → ⊥) (λ y. y) (λ y. y) _ _ next n x)
 refused_from z v s choice l a k _ i x e = absurd x

@@ -46,7 +46,7 @@ use Rattle.kw_core.proofs.Runs.{goes_on-moved, goes_on-world}
 use Rattle.kw_reads.specs.Inv.{Inv}
 use Rattle.kw_reads.proofs.Keeps.{inv_goes_on}
 use Rattle.kw_reads.proofs.Opens.{inv_start}
-use Rattle.kw_shape.specs.Infants.{IsNursedRow}
+use Rattle.kw_shape.specs.Shape.{Shape}
 use Rattle.kw_shape.specs.Visits.{Visits}
 use Rattle.kw_shape.specs.RowsIn.{rows_in}
 use Rattle.kw_shape.specs.Sought.{Sought}
@@ -56,11 +56,11 @@ use Rattle.kw_shape.proofs.VisitsKeep.{old_number}
 use Rattle.kw_shape.proofs.RowsKeep.{others_kept, visit_begins, visit_ends, visit_taken_back, rely_rows}
 use Rattle.kw_laws.specs.Causes.{reclaiming}
 use Rattle.kw_laws.specs.Mirror.{Acts, operation}
-use Rattle.kw_laws.specs.Reach.{DrawsNumber, EndsVisit, HasBeenAt, HasComeTo, IsEnding, IsInVisit, IsNamed, IsRowWord, IsWithinReach, Reclaims, is_led, is_named}
+use Rattle.kw_laws.specs.Reach.{DrawsNumber, EndsVisit, HasBeenAt, HasComeTo, IsEnding, IsInVisit, HasReached, IsNamed, IsRowWord, IsWithinReach, Reclaims, is_led, is_named}
 use Rattle.kw_laws.proofs.Acting.{acting_now, acts_now}
 use Rattle.kw_laws.proofs.Along.{holds_along}
 use Rattle.kw_laws.proofs.CausesLast.{acts_was}
-use Rattle.kw_laws.proofs.NamedRows.{named_fresh, named_visits, touched}
+use Rattle.kw_laws.proofs.NamedRows.{IsTouched, named_fresh, named_visits, of_infant, of_named, touched}
 use Rattle.kw_laws.proofs.Occurs.{occurs_now}
 use Rattle.kw_laws.proofs.VisitsOver.{been_was, come_after, come_was, in_visit_lasts, in_visit_next, in_visit_one_less, in_visit_was, within_reach_lasts}
 use Rattle.kw_shape.proofs.Worlds.{world-seats}
@@ -268,7 +268,7 @@ module _ (z : Sizes) (o : Opening) (es : List Event) (e : Event) (r r' : Run) (l
       which (inr w) =
           let knows : slice_get r'.world.locals t ≡ Some m = subst (λ (v : WorldView). slice_get v.locals t ≡ Some m) (last_world x w) y in
           let i = i'.shape in
-          named_fresh (word z r'.world) r'.ledger.rows t m.activity m (i.walks t m knows) (i.balances t m knows) (i.search t m knows) (i.won t m knows) q n
+          named_fresh (word z r'.world) r'.ledger.rows i.rows.closed t m.activity m (i.walks t m knows) (i.balances t m knows) (i.search t m knows) (i.won t m knows) q n
   fresh_on t u p _ _ (is_led x y b q c f g n) = which (fresh_on t u p x b c) (cases_lt y (length (es ++ e ∷ [])))
     where
       which : IsFresh r'.ledger.rows t b → (y < length (es ++ e ∷ [])) ⊎ (length (es ++ e ∷ []) ≤ y) → IsFresh r'.ledger.rows t q
@@ -278,17 +278,27 @@ module _ (z : Sizes) (o : Opening) (es : List Event) (e : Event) (r r' : Run) (l
   -- What the event touches.
 
   touches_here : (q : ℕ) → IsRowWord (transition z a e.seat (offered r.world.rows e.choice) l).operation.name q → IsWithinReach z o (es ++ e ∷ []) (length es) e.seat q
-  touches_here q w = which (touched z e.seat (offered r.world.rows e.choice) l l.activity q (k.inv.shape.search e.seat l h.knows).some (k.inv.shape.infants e.seat l h.knows).hand (subst (λ b. IsRowWord (transition z b e.seat (offered r.world.rows e.choice) l).operation.name q) (sym h.activity) w))
+  touches_here q w = which (touched z e.seat (offered r.world.rows e.choice) l l.activity q (shape.search e.seat l h.knows).some (shape.infants e.seat l h.knows).hand (shape.balances e.seat l h.knows).next (shape.balances e.seat l h.knows).hands (subst (λ b. IsRowWord (transition z b e.seat (offered r.world.rows e.choice) l).operation.name q) (sym h.activity) w))
     where
-      knows : slice_get (world z o (take (length es) (es ++ e ∷ []))).locals e.seat ≡ Some l
-      knows = ap (λ (v : WorldView). slice_get v.locals e.seat) ((occurs_now z o es e).before ∙ k.world) ∙ h.knows
+      shape : Shape z r
+      shape = k.inv.shape
 
-      which : IsNamed l.activity l q ⊎ IsNursedRow l.activity l q → IsWithinReach z o (es ++ e ∷ []) (length es) e.seat q
-      which (inl n) =
-          let p = (k.inv.shape.visits e.seat l h.knows).in_visit (named_visits l.activity l q n) in
-          let on = k.begun e.seat p.since p.visits in
-          inl (record { since = p.since; pass = in_visit_lasts z o es e e.seat p.since (length es) on; reached = is_named (length es) q l on.after (omega (arith, longer)) knows n })
-      which (inr n) = inr (record { local = l; knows = knows; nursed = n })
+      now : world z o (take (length es) (es ++ e ∷ [])) ≡ r.world
+      now = (occurs_now z o es e).before ∙ k.world
+
+      knows : slice_get (world z o (take (length es) (es ++ e ∷ []))).locals e.seat ≡ Some l
+      knows = ap (λ (v : WorldView). slice_get v.locals e.seat) now ∙ h.knows
+
+      -- a row that the seat names
+      named : (p : ℕ) → IsNamed l.activity l p → HasReached z o (es ++ e ∷ []) (length es) e.seat p
+      named p n =
+          let v = (shape.visits e.seat l h.knows).in_visit (named_visits l.activity l p n) in
+          let on = k.begun e.seat v.since v.visits in
+          record { since = v.since; pass = in_visit_lasts z o es e e.seat v.since (length es) on; reached = is_named (length es) p l on.after (omega (arith, longer)) knows n }
+
+      which : IsTouched l.activity l q → IsWithinReach z o (es ++ e ∷ []) (length es) e.seat q
+      which (of_named n) = inl (named q n)
+      which (of_infant n) = inr (record { local = l; knows = knows; nursed = n })
 
   touches_on : (x s found q : ℕ) (b : Activity) (op : Operation) → Acts z o (es ++ e ∷ []) x s b op found → IsRowWord op.name q → IsWithinReach z o (es ++ e ∷ []) x s q
   touches_on x s found q b op t w = which (acts_was z o es e x s b op found t)

@@ -9,25 +9,30 @@ use Rattle.kw_words.specs.Pend.{pend_of}
 use Rattle.kw_words.specs.Plain.{cell_of_link_word}
 use Rattle.kw_words.specs.declared.state.State.{State}
 use Rattle.kw_words.specs.declared.state.State.TheVariants as state
+use Rattle.kw_words.specs.Link.{link_of}
 use Rattle.kw_words.specs.Scan.{scan_of}
 use Rattle.kw_words.specs.State.{state_of}
 use Rattle.kw_cells.specs.declared.cell.Cell as kw_cell
 use Rattle.kw_model.specs.Map.{IsRising}
 use Rattle.kw_world.specs.declared.activity.Activity.{Activity}
 use Rattle.kw_world.specs.declared.activity.draw.Draw.TheVariants as Draw
+use Rattle.kw_world.specs.declared.activity.rebalance.claim.Claim.TheVariants as Claim
 use Rattle.kw_world.specs.declared.activity.rebalance.engage.Engage.TheVariants as Engage
+use Rattle.kw_world.specs.declared.activity.rebalance.left.Left.TheVariants as Left
 use Rattle.kw_world.specs.declared.activity.put.Put.TheVariants as Put
 use Rattle.kw_world.specs.declared.activity.rebalance.Rebalance.TheVariants as Rebalance
 use Rattle.kw_world.specs.declared.activity.rebalance.replace.Replace.TheVariants as Replace
 use Rattle.kw_world.specs.declared.activity.rebalance.seek.Seek.TheVariants as Seek
 use Rattle.kw_world.specs.declared.activity.walk.Walk.TheVariants as Walk
 use Rattle.kw_world.specs.declared.local.Local.{Local}
+use Rattle.kw_world.specs.ClaimTransitions.{row_after}
 use Rattle.kw_world.specs.ListTransitions.{link_name}
+use Rattle.kw_world.specs.GroupPlaces.{places, source}
 use Rattle.kw_world.specs.Sizes.{Sizes}
 use Rattle.kw_world.specs.Calls.{first_key, last_key, is_scan}
 use Rattle.kw_world.specs.Sane.{IsSane}
 use Rattle.kw_world.specs.Step.{word}
-use Rattle.kw_world.specs.Transition.{row_or_first}
+use Rattle.kw_world.specs.Transition.{row_linked, row_or_first}
 use Rattle.kw_core.specs.History.{History, LoadClock, attempt, called, Stands}
 use Rattle.kw_core.specs.HistoryLaws.{HistoryLaws, IsPut}
 use Rattle.kw_core.specs.Run.{Run}
@@ -90,12 +95,12 @@ pub record IsGathered (r : Run) (q : ℕ) (l : Local) (p : ℕ) : Type 0 where
   pub among : Contains l.gathered cell
   pub copy : IsCopyOf r.history r.origin q l.call cell p
 
--- the attempt is stamped, and what a seat that rebalances has gathered of its full row holds this
--- cell, which stands for it
-pub record IsTaken (r : Run) (l : Local) (c p : ℕ) : Type 0 where
+-- the attempt is stamped, and what a seat that rebalances has gathered of its group holds the cell
+-- of this place, which stands for it
+pub record IsTaken (r : Run) (l : Local) (at p : ℕ) : Type 0 where
   pub cell : kw_cell.Cell
   pub among : Contains l.rebalance.gathered cell
-  pub place : cell.place ≡ c
+  pub place : cell.place ≡ at
   pub is : IsCellOf r.history cell p
 
 -- the pairs that a scan has rise and lie below the key that it wants next, which is in its range
@@ -111,23 +116,47 @@ pub record IsDrawnCover (r : Run) (t : ℕ) (l : Local) (bound : ℕ) (pairs : L
   pub drawn_first : (called r.history (r.seats t).call).first < (r.seats t).drawn
   pub covers : Covers r.history (first_key l.call) l.version (r.seats t).drawn bound pairs
 
--- here a seat looks at the state of the row that it is about to rebalance, or at whose link it has
--- put the mark
+-- here a seat looks at the state of the row that it is about to rebalance, of the one at whose link
+-- it has put the mark, or of the row that is to go along
 abbrev pub IsStated : Activity → Type 0
 IsStated (Activity.Rebalance (Rebalance.Engage Engage.State)) = Unit {0}
 IsStated (Activity.Rebalance (Rebalance.Engage (Engage.Decide count))) = Unit {0}
+IsStated (Activity.Rebalance (Rebalance.Claim Claim.Exchange)) = Unit {0}
 IsStated _ = ⊥
 
--- the states that it may find: at first the row is one that a seat has built, or normal, or led
--- alone, or retired; once its link is marked, it is led alone, or retired
-abbrev pub IsReachedState : Activity → Option State → Type 0
-IsReachedState (Activity.Rebalance (Rebalance.Engage Engage.State)) (Some (state.Infant seat)) = Unit {0}
-IsReachedState (Activity.Rebalance (Rebalance.Engage Engage.State)) (Some state.Normal) = Unit {0}
-IsReachedState (Activity.Rebalance (Rebalance.Engage Engage.State)) (Some (state.Leader count)) = count ≤ 1
-IsReachedState (Activity.Rebalance (Rebalance.Engage Engage.State)) (Some (state.Retired number)) = Unit {0}
-IsReachedState (Activity.Rebalance (Rebalance.Engage (Engage.Decide c))) (Some (state.Leader count)) = count ≤ 1
-IsReachedState (Activity.Rebalance (Rebalance.Engage (Engage.Decide c))) (Some (state.Retired number)) = Unit {0}
-IsReachedState _ _ = ⊥
+-- that row
+abbrev pub stated_row : Activity → Local → ℕ
+stated_row (Activity.Rebalance (Rebalance.Claim _)) l = row_after l
+stated_row _ l = l.row
+
+-- the states that it may find: at first the row is not free; once its link is marked, it leads, or
+-- is retired; and a row that is to go along was linked, and goes along with no other row
+abbrev pub IsReachedState : Activity → Local → Option State → Type 0
+IsReachedState (Activity.Rebalance (Rebalance.Engage Engage.State)) l (Some (state.Infant seat)) = Unit {0}
+IsReachedState (Activity.Rebalance (Rebalance.Engage Engage.State)) l (Some state.Normal) = Unit {0}
+IsReachedState (Activity.Rebalance (Rebalance.Engage Engage.State)) l (Some (state.Leader count)) = Unit {0}
+IsReachedState (Activity.Rebalance (Rebalance.Engage Engage.State)) l (Some (state.Follower leader)) = Unit {0}
+IsReachedState (Activity.Rebalance (Rebalance.Engage Engage.State)) l (Some (state.Retired number)) = Unit {0}
+IsReachedState (Activity.Rebalance (Rebalance.Engage (Engage.Decide c))) l (Some (state.Leader count)) = Unit {0}
+IsReachedState (Activity.Rebalance (Rebalance.Engage (Engage.Decide c))) l (Some (state.Retired number)) = Unit {0}
+IsReachedState (Activity.Rebalance (Rebalance.Claim Claim.Exchange)) l (Some (state.Infant seat)) = Unit {0}
+IsReachedState (Activity.Rebalance (Rebalance.Claim Claim.Exchange)) l (Some state.Normal) = Unit {0}
+IsReachedState (Activity.Rebalance (Rebalance.Claim Claim.Exchange)) l (Some (state.Leader count)) = Unit {0}
+IsReachedState (Activity.Rebalance (Rebalance.Claim Claim.Exchange)) l (Some (state.Follower leader)) = leader ≡ l.row
+IsReachedState (Activity.Rebalance (Rebalance.Claim Claim.Exchange)) l (Some (state.Retired number)) = Unit {0}
+IsReachedState _ l _ = ⊥
+
+-- the seat loads the link of the row at which its walk to the row before its own one is, or to the
+-- leader of its own one; it has reached the row behind that one
+abbrev pub IsLeavingBefore : Activity → Type 0
+IsLeavingBefore (Activity.Rebalance (Rebalance.Replace Replace.Next)) = Unit {0}
+IsLeavingBefore (Activity.Rebalance (Rebalance.Left Left.Next)) = Unit {0}
+IsLeavingBefore _ = ⊥
+
+abbrev pub IsReachingNext : Activity → Type 0
+IsReachingNext (Activity.Rebalance (Rebalance.Replace Replace.NextLeast)) = Unit {0}
+IsReachingNext (Activity.Rebalance (Rebalance.Left Left.NextLeast)) = Unit {0}
+IsReachingNext _ = ⊥
 
 -- what every valid list keeps
 pub record KeepsLaws (z : Sizes) (r : Run) : Type 0 where
@@ -145,13 +174,15 @@ pub record KeepsLaws (z : Sizes) (r : Run) : Type 0 where
   -- a row that a seat tries to take, and that is retired, was retired in its visit: its number is
   -- not below the epoch of the visit
   pub retakes : (t : ℕ) (l : Local) → slice_get r.world.locals t ≡ Some l → l.activity ≡ Activity.Rebalance (Rebalance.Seek Seek.Take) → (n : ℕ) → state_of (word z r.world (name.State l.rebalance.sought)) ≡ Some (state.Retired n) → l.epoch ≤ n
-  -- a seat that is to rebalance a row finds it in one of few states: no row goes along with another
-  pub stated : (t : ℕ) (l : Local) → slice_get r.world.locals t ≡ Some l → IsStated l.activity → IsReachedState l.activity (state_of (word z r.world (name.State l.row)))
-  -- where the walk to the row before a full one reaches the end of the list, the full row is in the
-  -- list no more
-  pub ends_before : (t : ℕ) (l : Local) → slice_get r.world.locals t ≡ Some l → l.activity ≡ Activity.Rebalance (Rebalance.Replace Replace.Next) → next_in (word z r.world) (row_or_first l.rebalance.before) ≡ None → IsReached (word z r.world) l.row → ⊥
-  -- nor is it where that walk reaches a row whose least key is not below that of the full one
-  pub goes_by_full : (t : ℕ) (l : Local) → slice_get r.world.locals t ≡ Some l → l.activity ≡ Activity.Rebalance (Rebalance.Replace Replace.NextLeast) → l.lower ≤ least_in (word z r.world) l.candidate → IsReached (word z r.world) l.row → ⊥
+  -- a seat that is to rebalance a row, or to take it along, finds it in one of few states
+  pub stated : (t : ℕ) (l : Local) → slice_get r.world.locals t ≡ Some l → IsStated l.activity → IsReachedState l.activity l (state_of (word z r.world (name.State (stated_row l.activity l))))
+  -- where the walk to the row before a full one, or to the leader of a follower, reaches the end of
+  -- the list, the seat's own row is in the list no more
+  pub ends_before : (t : ℕ) (l : Local) → slice_get r.world.locals t ≡ Some l → IsLeavingBefore l.activity → next_in (word z r.world) (row_or_first l.rebalance.before) ≡ None → IsReached (word z r.world) l.row → ⊥
+  -- nor is it where that walk reaches a row whose least key is not below that of the own one
+  pub goes_by_full : (t : ℕ) (l : Local) → slice_get r.world.locals t ≡ Some l → IsReachingNext l.activity → l.lower ≤ least_in (word z r.world) l.candidate → IsReached (word z r.world) l.row → ⊥
+  -- a follower is never the first row of the list
+  pub first_leads : (t : ℕ) (l : Local) → slice_get r.world.locals t ≡ Some l → l.activity ≡ Activity.Rebalance (Rebalance.Left Left.Start) → row_linked (link_of (word z r.world name.Head)) ≡ Some l.row → ⊥
   -- a row that is reached along the link of one that a seat may name has a greater least key than
   -- that one
   pub links : (q n : ℕ) → IsHeld r.ledger.rows q → next_in (word z r.world) q ≡ Some n → least_in (word z r.world) q < least_in (word z r.world) n
@@ -201,10 +232,10 @@ pub record KeepsLaws (z : Sizes) (r : Run) : Type 0 where
   -- a copy, and which was announced before the seat looked, and whose key it reads, is lost, or
   -- stamped and gathered
   pub seen : (t : ℕ) (l : Local) → slice_get r.world.locals t ≡ Some l → IsKeeping l.activity → (q : ℕ) → (r.seats t).read ≡ Some q → (c p : ℕ) → IsDue r.history r.origin q l.call (r.seats t).looked c p → IsGathered r q l p
-  -- of the full row of a seat that seeks, writes or links the rows which are to take its place,
-  -- each attempt for which a cell of the row stands and which was announced is lost, or stamped and
+  -- of the group of a seat that seeks, writes or links the rows which are to take its place, each
+  -- attempt for which a cell of its rows stands and which was announced is lost, or stamped and
   -- gathered
-  pub rebuilds : (t : ℕ) (l : Local) → slice_get r.world.locals t ≡ Some l → HasPlanned (nursing_of l.activity) → (c p : ℕ) → r.origin l.row c ≡ Some p → (attempt r.history p).is_announced ≡ true → (attempt r.history p).is_lost ≡ false → IsTaken r l c p
+  pub rebuilds : (t : ℕ) (l : Local) → slice_get r.world.locals t ≡ Some l → HasPlanned (nursing_of l.activity) → (place p : ℕ) → place < places z l.rebalance.second → source z r.origin l place ≡ Some p → (attempt r.history p).is_announced ≡ true → (attempt r.history p).is_lost ≡ false → IsTaken r l place p
   -- the words of each row that is reached from Head show for each key of its range what all stamped
   -- puts show, at the newest version and at each that a scan needs
   pub kept : Kept (puts_of r.history) (shown_rows z r) (Needed z r)

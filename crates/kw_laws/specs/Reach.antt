@@ -26,6 +26,7 @@ use Rattle.kw_world.specs.WorldView.{WorldView}
 use Rattle.kw_core.specs.Events.{world}
 use Rattle.kw_core.specs.Stages.{IsAtRow, IsBalancing}
 use Rattle.kw_core.specs.Words.{next_in}
+use Rattle.kw_shape.specs.Hands.{HasNext}
 use Rattle.kw_shape.specs.Infants.{IsNursedRow}
 use Rattle.kw_shape.specs.ReachedRows.{IsReached}
 use Rattle.kw_shape.specs.Search.{IsSearching, HasReachedNext}
@@ -68,13 +69,15 @@ Reclaims z o es x s q number = Acts z o es x s (Activity.Rebalance (Rebalance.Se
 -- Rows that are reached.
 
 -- the seat works on the row: on its walk or at its row, the row reached next, the row after its
--- own; its full row, the row before that one, the row reached behind that; and new rows that it has
--- linked and makes normal
+-- own; its full row, the row that may go along with it, the row before that one, the row reached
+-- behind that; and new rows that it has linked and makes normal
 pub data IsNamed (a : Activity) (l : Local) (q : ℕ) : Type 0 where
   names_row : HasRow a → q ≡ l.row → IsNamed a l q
   names_candidate : HasCandidate a → q ≡ l.candidate → IsNamed a l q
   names_next : IsAtRow a → l.next ≡ Some q → IsNamed a l q
   names_full : IsBalancing a → q ≡ l.row → IsNamed a l q
+  names_after : HasNext a → l.rebalance.after ≡ Some q → IsNamed a l q
+  names_second : IsBalancing a → l.rebalance.second ≡ Some q → IsNamed a l q
   names_before : IsSearching a l → l.rebalance.before ≡ Some q → IsNamed a l q
   names_reached : HasReachedNext a → q ≡ l.candidate → IsNamed a l q
   names_new : IsNormalising a → (i : ℕ) → slice_get l.rebalance.taken i ≡ Some q → IsNamed a l q

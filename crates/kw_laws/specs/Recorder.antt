@@ -47,7 +47,7 @@ entry_of z k l x = record {
   change = change_of z l.activity x.seat x.choice l x.found (log_of k x.seat) (origin_in z k.origins);
   remark = remark_of z l.activity x.choice l x.found (origin_in z k.origins) k.history (draw_of k x.seat);
   scan = settled_scan l.activity x.seat l x.found (log_of k x.seat);
-  copy = copied_cell l.activity l (origin_in z k.origins);
+  copy = copied_cell z l.activity l (origin_in z k.origins);
 }
 
 -- the origins with the cell that was given to an attempt

@@ -85,6 +85,6 @@ module _ {s : Shared} {p q r : Pass} {told : ℕ} (x : Search) (l k m : Local) (
         follows = w.follows;
         calls = w.calls ∙ v.calls;
         held = w.held refl ∙ v.held;
-        saw = keeps_seen s o q r (seeking_at x l) m Go (view q).opening.rows w.told v.goes w.goes w.saw w.line v.untidied v.saw (λ e. seeks_no_more (Activity.Rebalance (Rebalance.Replace Replace.Normalise)) e tt) (λ e. seeks_no_more Activity.Retry e tt) (λ y e. seeks_no_more (Activity.Leave y) e tt);
+        saw = keeps_seen s o q r (seeking_at x l) m Go (view q).opening.rows w.told v.goes w.goes w.saw w.line refl v.untidied v.saw (λ e. seeks_no_more (Activity.Rebalance (Rebalance.Replace Replace.Normalise)) e tt) (λ e. seeks_no_more Activity.Retry e tt) (λ y e. seeks_no_more (Activity.Leave y) e tt);
         untidied = stays_untidied o q (seeking_at x l) m Go (view q).opening.rows w.told w.line v.saw (λ e. seeks_no_more Activity.Retry e tt) (λ y e. seeks_no_more (Activity.Leave y) e tt) v.untidied;
       }

@@ -1,5 +1,6 @@
--- The end of a rebalance that won: its new rows are made normal, and its row is retired.
-use Rattle.std.proofs.Common.{◌≡◌, ℕ, ◌+◌, Bool, true, false, refl, sym, ◌∙◌, ap, subst, if◌then◌else◌}
+-- The end of a rebalance that won: its new rows are made normal, and the rows of its group are
+-- retired.
+use Rattle.std.proofs.Common.{◌≡◌, ℕ, ◌+◌, Bool, true, false, Option, Some, None, refl, sym, ◌∙◌, ap, subst, if◌then◌else◌}
 use Rattle.kw_world.specs.declared.activity.Activity.{Activity}
 use Rattle.kw_world.specs.declared.activity.rebalance.Rebalance.TheVariants as Rebalance
 use Rattle.kw_world.specs.declared.activity.rebalance.replace.Replace.TheVariants as Replace
@@ -7,6 +8,8 @@ use Rattle.kw_world.specs.declared.answer.Answer.TheVariants.{Done}
 use Rattle.kw_world.specs.declared.event.Choice.TheVariants.{Go}
 use Rattle.kw_world.specs.declared.event.StepDone.TheVariants.{Moved}
 use Rattle.kw_world.specs.declared.local.Local.{Local}
+use Rattle.kw_world.specs.GroupPlaces.{at_first_row}
+use Rattle.kw_world.specs.ReplaceTransitions.{retired}
 use Rattle.kw_world.specs.SeekTransitions.{at_infant, has_more}
 use Rattle.kw_world.specs.Sizes.{product}
 use Rattle.kw_world.specs.Step.{next_of, transition_of}
@@ -49,8 +52,8 @@ module _ (rows : ℕ) (l m : Local) (told : ℕ) (line : outcome m Moved ≡ nex
   unfolding transition_of
   activity_is a is = ap (λ (x : Outcome). x.local.activity) (line ∙ ap (λ b. (transition product b 0 Go l).next rows told) is)
 
-  -- the next of the new rows is made normal, or its row gets its number
-  normalises : (b : Bool) → IsFinishing (let x : Outcome = if b then to (Activity.Rebalance (Rebalance.Replace Replace.Normalise)) (at_infant (l.rebalance.at + 1) l) else to (Activity.Rebalance (Rebalance.Replace Replace.Number)) l in x).local.activity
+  -- the next of the new rows is made normal, or the first row of the group gets its number
+  normalises : (b : Bool) → IsFinishing (let x : Outcome = if b then to (Activity.Rebalance (Rebalance.Replace Replace.Normalise)) (at_infant (l.rebalance.at + 1) l) else to (Activity.Rebalance (Rebalance.Replace Replace.Number)) (at_first_row l) in x).local.activity
   normalises true = tt
   normalises false = tt
 
@@ -59,10 +62,15 @@ module _ (rows : ℕ) (l m : Local) (told : ℕ) (line : outcome m Moved ≡ nex
   ends true e = let x : true ≡ false = e in absurd (cc)
   ends false e = tt
 
+  -- once no row of the group is ahead; before that the next one gets its number
+  retires : (ahead : Option ℕ) → IsFinishing (retired ahead l).local.activity
+  retires (Some r) = tt
+  retires None = ends l.tidies undone
+
   event : (a : Activity) → l.activity ≡ a → IsFinishing a → (a ≡ Activity.Retry → ⊥) → IsFinishing m.activity
   event (Activity.Rebalance (Rebalance.Replace Replace.Normalise)) is h n = subst IsFinishing (sym (activity_is (Activity.Rebalance (Rebalance.Replace Replace.Normalise)) is)) (normalises (has_more l))
   event (Activity.Rebalance (Rebalance.Replace Replace.Number)) is h n = subst IsFinishing (sym (activity_is (Activity.Rebalance (Rebalance.Replace Replace.Number)) is)) tt
-  event (Activity.Rebalance (Rebalance.Replace Replace.Retire)) is h n = subst IsFinishing (sym (activity_is (Activity.Rebalance (Rebalance.Replace Replace.Retire)) is)) (ends l.tidies undone)
+  event (Activity.Rebalance (Rebalance.Replace Replace.Retire)) is h n = subst IsFinishing (sym (activity_is (Activity.Rebalance (Rebalance.Replace Replace.Retire)) is)) (retires l.rebalance.ahead)
   event Activity.Retry is h n = absurd (n refl)
   event _ is h n = absurd h
 

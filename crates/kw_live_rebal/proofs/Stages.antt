@@ -4,7 +4,7 @@ use Rattle.std.proofs.Common.{◌≡◌, ◌≢◌, ℕ, ◌+◌, ◌≤◌, ◌
 use Rattle.std.proofs.lemmas.Bool.Decides.{nat_tests}
 use Rattle.std.proofs.lemmas.Option.{same_Some}
 use mathlib.Core.List.{IsPrefix}
-use Rattle.kw_words.specs.declared.sizes.TheConstants.{SPENT}
+use Rattle.kw_words.specs.declared.sizes.TheConstants.{MOST_GROUP, SPENT}
 use Rattle.kw_words.specs.declared.layout.Name.TheVariants as name
 use Rattle.kw_words.specs.declared.link.Link.{Link}
 use Rattle.kw_words.specs.declared.pend.Pend.{Pend}
@@ -20,9 +20,11 @@ use Rattle.kw_words.specs.Scan.{scan_of}
 use Rattle.kw_words.specs.State.{state_of, state_word}
 use Rattle.kw_world.specs.declared.answer.Answer.{Answer}
 use Rattle.kw_world.specs.declared.activity.Activity.{Activity}
+use Rattle.kw_world.specs.declared.activity.rebalance.claim.Claim.TheVariants as Claim
 use Rattle.kw_world.specs.declared.activity.rebalance.engage.Engage.TheVariants as Engage
 use Rattle.kw_world.specs.declared.activity.rebalance.freeze.Freeze.TheVariants as Freeze
 use Rattle.kw_world.specs.declared.activity.rebalance.gather.Gather.TheVariants as Gather
+use Rattle.kw_world.specs.declared.activity.rebalance.left.Left.TheVariants as Left
 use Rattle.kw_world.specs.declared.activity.rebalance.Rebalance.TheVariants as Rebalance
 use Rattle.kw_world.specs.declared.activity.rebalance.replace.Replace.TheVariants as Replace
 use Rattle.kw_world.specs.declared.activity.rebalance.seek.Seek.TheVariants as Seek
@@ -38,10 +40,13 @@ use Rattle.kw_world.specs.declared.marks.Mark.{Mark}
 use Rattle.kw_world.specs.declared.opening.Opening.{Opening}
 use Rattle.kw_world.specs.declared.rebalance.Afterwards.{Afterwards}
 use Rattle.kw_world.specs.declared.rebalance.Afterwards.TheVariants.{TryAgain, Refuse, MoveLeft}
-use Rattle.kw_world.specs.EngageTransitions.{again, decided, engaged, is_alone, refuse, state_seen}
+use Rattle.kw_world.specs.EngageTransitions.{again, claiming, counted, decided, engaged, link_marked, refuse, state_seen, undecided}
+use Rattle.kw_world.specs.ClaimTransitions.{claimed}
+use Rattle.kw_world.specs.LeftTransitions.{first_left, least_left, left_transition, link_left}
 use Rattle.kw_world.specs.Local.{without_rebalance, without_rows}
 use Rattle.kw_world.specs.declared.answer.Answer.TheVariants.{Done, NoRows, Spent}
-use Rattle.kw_world.specs.FreezeTransitions.{entry_tried, freeze_seen, marking, needing, scan_helped, scan_seen, to_freeze_look, to_scan_look}
+use Rattle.kw_world.specs.GroupPlaces.{place_in_group}
+use Rattle.kw_world.specs.FreezeTransitions.{entry_tried, freeze_seen, marking, needing, row_frozen, scan_helped, scan_seen, to_freeze_look, to_scan_look}
 use Rattle.kw_world.specs.Marks.{least_mark}
 use Rattle.kw_world.specs.Operation.{told_by}
 use Rattle.kw_world.specs.ReplaceTransitions.{before_transition, first_before, guess_before, link_before, replaced, row_before, row_replaced}
@@ -49,15 +54,15 @@ use Rattle.kw_world.specs.SeekTransitions.{give_back, given_back, has_more, pass
 use Rattle.kw_world.specs.Sizes.{product}
 use Rattle.kw_world.specs.Step.{next_of, transition_of, word}
 use Rattle.kw_world.specs.Table.{transition}
-use Rattle.kw_world.specs.TakeTransitions.{keeping, left_of, take_reached}
-use Rattle.kw_world.specs.Transition.{Outcome, leave, outcome, row_linked, row_or_first, to}
+use Rattle.kw_world.specs.TakeTransitions.{keeping, left_of, row_gathered, take_reached}
+use Rattle.kw_world.specs.Transition.{Outcome, Transition, leave, outcome, row_linked, row_or_first, to}
 use Rattle.kw_world.specs.WalkTransitions.{offered}
 use Rattle.kw_world.specs.WorldView.{WorldView}
 use Rattle.kw_world.specs.WriteTransitions.{infant_cells, row_written, to_write_after, to_write_cell, to_write_entry, unmarked_link}
 use Rattle.kw_core.specs.Events.{event, local_of, world}
 use Rattle.kw_core.specs.Run.{history}
 use Rattle.kw_core.proofs.Runs.{history-world}
-use Rattle.kw_laws.specs.Laws.{IsReachedState, IsStated}
+use Rattle.kw_laws.specs.Laws.{IsLeavingBefore, IsReachedState, IsReachingNext, IsStated, stated_row}
 use Rattle.kw_shape.specs.ReachedRows.{IsReached}
 use Rattle.kw_shape.specs.RowsIn.{has_mark}
 use Rattle.kw_puts.proofs.Owners.{true_false}
@@ -82,7 +87,25 @@ tells o n es c = told_by (transition_after o es n c).operation.action (word prod
 pub record Stands (o q : Pass) (x : Outcome) : Type 0 where
   pub saw : HasSeenCause o q x.local.activity x.local
 
-module _ (s : Shared) (o p q : Pass) (l m : Local) (c : Choice) (rows told : ℕ) (was : GoesTo s o p) (goes : GoesTo s p q) (saw : SawAs p q l c told) (line : outcome m Moved ≡ next_of product rows (offered rows c) l told) (undone : l.tidies ≡ false) where
+-- which states a seat may find goes by its row
+reached_as : (a : Activity) (k l : Local) (x : Option State) → k.row ≡ l.row → IsReachedState a k x → IsReachedState a l x
+reached_as (Activity.Rebalance (Rebalance.Engage Engage.State)) k l (Some Free) e y = absurd y
+reached_as (Activity.Rebalance (Rebalance.Engage Engage.State)) k l (Some (Infant seat)) e y = tt
+reached_as (Activity.Rebalance (Rebalance.Engage Engage.State)) k l (Some Normal) e y = tt
+reached_as (Activity.Rebalance (Rebalance.Engage Engage.State)) k l (Some (Leader count)) e y = tt
+reached_as (Activity.Rebalance (Rebalance.Engage Engage.State)) k l (Some (Follower leader)) e y = tt
+reached_as (Activity.Rebalance (Rebalance.Engage Engage.State)) k l (Some (Retired number)) e y = tt
+reached_as (Activity.Rebalance (Rebalance.Engage Engage.State)) k l None e y = absurd y
+reached_as (Activity.Rebalance (Rebalance.Engage (Engage.Decide count))) k l (Some (Leader found)) e y = tt
+reached_as (Activity.Rebalance (Rebalance.Engage (Engage.Decide count))) k l (Some (Retired number)) e y = tt
+reached_as (Activity.Rebalance (Rebalance.Claim Claim.Exchange)) k l (Some (Infant seat)) e y = tt
+reached_as (Activity.Rebalance (Rebalance.Claim Claim.Exchange)) k l (Some Normal) e y = tt
+reached_as (Activity.Rebalance (Rebalance.Claim Claim.Exchange)) k l (Some (Leader count)) e y = tt
+reached_as (Activity.Rebalance (Rebalance.Claim Claim.Exchange)) k l (Some (Follower leader)) e y = y ∙ e
+reached_as (Activity.Rebalance (Rebalance.Claim Claim.Exchange)) k l (Some (Retired number)) e y = tt
+reached_as _ k l x e y = absurd y
+
+module _ (s : Shared) (o p q : Pass) (l m : Local) (c : Choice) (rows told : ℕ) (was : GoesTo s o p) (goes : GoesTo s p q) (saw : SawAs p q l c told) (line : outcome m Moved ≡ next_of product rows (offered rows c) l told) (whole : rows ≡ (view p).opening.rows) (undone : l.tidies ≡ false) where
   abbrev Then : Outcome → Type 0
   Then x = Stands o q x
 
@@ -152,27 +175,43 @@ module _ (s : Shared) (o p q : Pass) (l m : Local) (c : Choice) (rows told : ℕ
 
   -- What the laws say of what was found.
 
-  stated_here : (a : Activity) → l.activity ≡ a → IsStated a → (told ≡ word product (history product (view p).opening saw.saw.front).world (name.State (local_at p saw.saw.front).row)) → IsReachedState a (state_of told)
+  stated_here : (a : Activity) → l.activity ≡ a → IsStated a → told ≡ word product (history product (view p).opening saw.saw.front).world (name.State (stated_row a (local_at p saw.saw.front))) → IsReachedState a l (state_of told)
   unfolding here
   stated_here a is matters tells =
       let law = (saw_laws s p q a c told goes (here a is)).stated (view p).number (local_at p saw.saw.front) (saw_local p q a c told (here a is)) in
       let at : (local_at p saw.saw.front).activity ≡ a = saw.saw.activity ∙ is in
-      subst (λ w. IsReachedState a (state_of w)) (sym tells) (subst (λ b. IsReachedState b (state_of (word product (history product (view p).opening saw.saw.front).world (name.State (local_at p saw.saw.front).row)))) at (law (subst IsStated (sym at) matters)))
+      let found : IsReachedState a (local_at p saw.saw.front) (state_of (word product (history product (view p).opening saw.saw.front).world (name.State (stated_row a (local_at p saw.saw.front))))) =
+      subst (λ b. IsReachedState b (local_at p saw.saw.front) (state_of (word product (history product (view p).opening saw.saw.front).world (name.State (stated_row b (local_at p saw.saw.front)))))) at (law (subst IsStated (sym at) matters)) in
+      reached_as a (local_at p saw.saw.front) l (state_of told) (ap (λ (k : Local). k.row) saw.knew) (subst (λ w. IsReachedState a (local_at p saw.saw.front) (state_of w)) (sym tells) found)
 
-  -- where the walk to the row before the full one reaches the end of the list, the full row is in
-  -- it no more
-  walk_ends_here : (is : l.activity ≡ Activity.Rebalance (Rebalance.Replace Replace.Next)) → row_linked (link_of told) ≡ None → IsUnlinked (Activity.Rebalance (Rebalance.Replace Replace.Next))
+  -- where the walk to the row before the full one, or to the leader of a follower, reaches the end
+  -- of the list, the seat's row is in it no more
+  walk_ends_here : (a : Activity) (is : l.activity ≡ a) → IsLeavingBefore a → (told ≡ word product (history product (view p).opening saw.saw.front).world (name.Next (row_or_first (local_at p saw.saw.front).rebalance.before))) → row_linked (link_of told) ≡ None → IsUnlinked a
   unfolding here
-  walk_ends_here is none = λ u x.
-      (saw_laws s p q (Activity.Rebalance (Rebalance.Replace Replace.Next)) c told goes (here (Activity.Rebalance (Rebalance.Replace Replace.Next)) is)).ends_before (view p).number (local_at p saw.saw.front) (saw_local p q (Activity.Rebalance (Rebalance.Replace Replace.Next)) c told (here (Activity.Rebalance (Rebalance.Replace Replace.Next)) is)) (saw.saw.activity ∙ is)
-      (ap (λ w. row_linked (link_of w)) (sym (saw_told p q (Activity.Rebalance (Rebalance.Replace Replace.Next)) c told (here (Activity.Rebalance (Rebalance.Replace Replace.Next)) is) _ refl)) ∙ none) (reached_there x)
+  walk_ends_here a is leaves tells none = λ u x.
+      (saw_laws s p q a c told goes (here a is)).ends_before (view p).number (local_at p saw.saw.front) (saw_local p q a c told (here a is)) (subst IsLeavingBefore (sym (saw.saw.activity ∙ is)) leaves)
+      (ap (λ w. row_linked (link_of w)) (sym tells) ∙ none) (reached_there x)
 
   -- nor is it where the walk goes by it
-  walk_goes_by_here : (is : l.activity ≡ Activity.Rebalance (Rebalance.Replace Replace.NextLeast)) → l.lower ≤ key_of_word told → IsUnlinked (Activity.Rebalance (Rebalance.Replace Replace.NextLeast))
+  walk_goes_by_here : (a : Activity) (is : l.activity ≡ a) → IsReachingNext a → (told ≡ word product (history product (view p).opening saw.saw.front).world (name.Least (local_at p saw.saw.front).candidate)) → l.lower ≤ key_of_word told → IsUnlinked a
   unfolding here
-  walk_goes_by_here is more = λ u x.
-      (saw_laws s p q (Activity.Rebalance (Rebalance.Replace Replace.NextLeast)) c told goes (here (Activity.Rebalance (Rebalance.Replace Replace.NextLeast)) is)).goes_by_full (view p).number (local_at p saw.saw.front) (saw_local p q (Activity.Rebalance (Rebalance.Replace Replace.NextLeast)) c told (here (Activity.Rebalance (Rebalance.Replace Replace.NextLeast)) is)) (saw.saw.activity ∙ is)
-      (subst (λ w. (local_at p saw.saw.front).lower ≤ key_of_word w) (saw_told p q (Activity.Rebalance (Rebalance.Replace Replace.NextLeast)) c told (here (Activity.Rebalance (Rebalance.Replace Replace.NextLeast)) is) _ refl) (subst (λ n. n ≤ key_of_word told) (sym (ap (λ (k : Local). k.lower) saw.knew)) more)) (reached_there x)
+  walk_goes_by_here a is reaches tells more = λ u x.
+      (saw_laws s p q a c told goes (here a is)).goes_by_full (view p).number (local_at p saw.saw.front) (saw_local p q a c told (here a is)) (subst IsReachingNext (sym (saw.saw.activity ∙ is)) reaches)
+      (subst (λ w. (local_at p saw.saw.front).lower ≤ key_of_word w) tells (subst (λ n. n ≤ key_of_word told) (sym (ap (λ (k : Local). k.lower) saw.knew)) more)) (reached_there x)
+
+  -- a follower is not the first row of the list
+  leader_first_here : (is : l.activity ≡ Activity.Rebalance (Rebalance.Left Left.Start)) → told ≡ word product (history product (view p).opening saw.saw.front).world name.Head → row_or_first (row_linked (link_of told)) ≡ l.row → ⊥
+  unfolding here
+  leader_first_here is tells e =
+      let laws = saw_laws s p q (Activity.Rebalance (Rebalance.Left Left.Start)) c told goes (here (Activity.Rebalance (Rebalance.Left Left.Start)) is) in
+      let leads : row_linked (link_of told) ≡ Some laws.rows.chain.first = ap (λ w. row_linked (link_of w)) tells ∙ laws.rows.chain.leads in
+      let first : laws.rows.chain.first ≡ (local_at p saw.saw.front).row = sym (ap row_or_first leads) ∙ (e ∙ sym (ap (λ (k : Local). k.row) saw.knew)) in
+      laws.first_leads (view p).number (local_at p saw.saw.front) (saw_local p q (Activity.Rebalance (Rebalance.Left Left.Start)) c told (here (Activity.Rebalance (Rebalance.Left Left.Start)) is)) (saw.saw.activity ∙ is) (laws.rows.chain.leads ∙ ap Some first)
+
+  -- what the event was told, by its line
+  reads_here : (a : Activity) (is : l.activity ≡ a) (r : Transition) → transition product a (view p).number (offered (view p).opening.rows c) (local_at p saw.saw.front) ≡ r → told ≡ told_by r.operation.action (word product (history product (view p).opening saw.saw.front).world r.operation.name)
+  unfolding here
+  reads_here a is r e = saw_told p q a c told (here a is) r e
 
   -- What follows without an event of its own.
 
@@ -246,13 +285,17 @@ module _ (s : Shared) (o p q : Pass) (l m : Local) (c : Choice) (rows told : ℕ
   engages true = record { saw = tt }
   engages false = record { saw = tt }
 
+  freezes_on : (ahead : Option ℕ) (k : Local) → Then (row_frozen ahead k)
+  freezes_on (Some r) k = record { saw = tt }
+  freezes_on None k = record { saw = tt }
+
   looks_on : (i : ℕ) (k : Local) → Then (to_freeze_look product i k)
-  looks_on i k = both (nat_lt i product.seats) _ _ (λ e. record { saw = tt }) (λ e. record { saw = tt })
+  looks_on i k = both (nat_lt i product.seats) _ _ (λ e. record { saw = tt }) (λ e. freezes_on k.rebalance.ahead k)
 
   freezes : (i : ℕ) (x : Option Pend) → Then (freeze_seen product i x l)
   freezes i (Some pend.Idle) = record { saw = tt }
   freezes i (Some (pend.Pending cell)) = record { saw = tt }
-  freezes i (Some (pend.Stamped cell version)) = looks_on (i + 1) (marking cell version l)
+  freezes i (Some (pend.Stamped cell version)) = looks_on (i + 1) (marking product cell version l)
   freezes i (Some pend.Frozen) = looks_on (i + 1) l
   freezes i None = looks_on (i + 1) l
 
@@ -275,9 +318,13 @@ module _ (s : Shared) (o p q : Pass) (l m : Local) (c : Choice) (rows told : ℕ
   helps i (Some (Drawn version)) = scans_on (i + 1) (needing version l)
   helps i None = scans_on (i + 1) l
 
+  gathers_on : (ahead : Option ℕ) (k : Local) → Then (row_gathered product ahead k)
+  gathers_on (Some r) k = record { saw = tt }
+  gathers_on None k = record { saw = tt }
+
   left : (x : Option Mark) (k : Local) → Then (left_of product x k)
-  left (Some mark) k = record { saw = tt }
-  left None k = record { saw = tt }
+  left (Some mark) k = both (nat_lt mark.cell (place_in_group product k.rebalance product.cells)) _ _ (λ e. record { saw = tt }) (λ e. gathers_on k.rebalance.ahead k)
+  left None k = gathers_on k.rebalance.ahead k
 
   takes_cell : (x : Option ℕ) → Then (take_reached product x l)
   takes_cell (Some cell) = record { saw = tt }
@@ -315,27 +362,85 @@ module _ (s : Shared) (o p q : Pass) (l m : Local) (c : Choice) (rows told : ℕ
 
   -- What the row's state and the list tell.
 
-  states : (x : Option State) → state_of told ≡ x → l.activity ≡ Activity.Rebalance (Rebalance.Engage Engage.State) → IsReachedState (Activity.Rebalance (Rebalance.Engage Engage.State)) x → Then (state_seen x l)
+  states : (x : Option State) → state_of told ≡ x → l.activity ≡ Activity.Rebalance (Rebalance.Engage Engage.State) → IsReachedState (Activity.Rebalance (Rebalance.Engage Engage.State)) l x → Then (state_seen x l)
   states (Some Free) f is y = absurd y
   states (Some (Infant seat)) f is y = record { saw = tt }
   states (Some Normal) f is y = record { saw = tt }
-  states (Some (Leader count)) f is y = both (is_alone count) _ _ (λ e. record { saw = tt }) (λ e. absurd (let few : count ≤ 1 = y in let many : nat_le count 1 ≡ false = e in grind (arith, nat_tests)))
-  states (Some (Follower leader)) f is y = absurd y
+  states (Some (Leader count)) f is y = record { saw = tt }
+  states (Some (Follower leader)) f is y = record { saw = tt }
   states (Some (Retired number)) f is y = begins_anew l undone (replaced_here (Activity.Rebalance (Rebalance.Engage Engage.State)) is (subst IsRetired (sym f) tt) (λ u. absurd u))
   states None f is y = absurd y
 
-  decides : (n : ℕ) (x : Option State) → state_of told ≡ x → l.activity ≡ Activity.Rebalance (Rebalance.Engage (Engage.Decide n)) → IsReachedState (Activity.Rebalance (Rebalance.Engage (Engage.Decide n))) x → Then (decided x l)
+  -- it is known whether the row after the full one is to go along
+  claims : (after : Option ℕ) (k : Local) → Then (claiming after k)
+  claims (Some r) k = record { saw = tt }
+  claims None k = record { saw = tt }
+
+  counts : (n : ℕ) (k : Local) → Then (counted n k)
+  counts n k = both (n == MOST_GROUP) _ _ (λ e. claims k.rebalance.after k) (λ e. record { saw = tt })
+
+  -- or it is asked for
+  asks_next : (after : Option ℕ) (k : Local) → Then (undecided after k)
+  asks_next (Some r) k = record { saw = tt }
+  asks_next None k = record { saw = tt }
+
+  marks_link : (n : ℕ) (after : Option ℕ) → Then (link_marked n after l)
+  marks_link n after = both (n == 0) _ _ (λ e. asks_next after _) (λ e. counts n _)
+
+  decides : (n : ℕ) (x : Option State) → state_of told ≡ x → l.activity ≡ Activity.Rebalance (Rebalance.Engage (Engage.Decide n)) → IsReachedState (Activity.Rebalance (Rebalance.Engage (Engage.Decide n))) l x → Then (decided n x l)
   decides n (Some Free) f is y = absurd y
   decides n (Some (Infant seat)) f is y = absurd y
   decides n (Some Normal) f is y = absurd y
-  decides n (Some (Leader count)) f is y = both (is_alone count) _ _ (λ e. record { saw = tt }) (λ e. absurd (let few : count ≤ 1 = y in let many : nat_le count 1 ≡ false = e in grind (arith, nat_tests)))
+  decides n (Some (Leader count)) f is y = counts _ l
   decides n (Some (Follower leader)) f is y = absurd y
   decides n (Some (Retired number)) f is y = begins_anew l undone (replaced_here (Activity.Rebalance (Rebalance.Engage (Engage.Decide n))) is (subst IsRetired (sym f) tt) (λ u. absurd u))
   decides n None f is y = absurd y
 
+  claims_row : (x : Option State) → state_of told ≡ x → l.activity ≡ Activity.Rebalance (Rebalance.Claim Claim.Exchange) → IsReachedState (Activity.Rebalance (Rebalance.Claim Claim.Exchange)) l x → Then (claimed x l)
+  claims_row (Some Free) f is y = absurd y
+  claims_row (Some (Infant seat)) f is y = record { saw = tt }
+  claims_row (Some Normal) f is y = record { saw = tt }
+  claims_row (Some (Leader count)) f is y = record { saw = tt }
+  claims_row (Some (Follower leader)) f is y = both (leader == l.row) _ _ (λ e. record { saw = tt }) (λ e. true_false (eq-eqb leader l.row y) e)
+  claims_row (Some (Retired number)) f is y = begins_anew l undone (replaced_here (Activity.Rebalance (Rebalance.Claim Claim.Exchange)) is (subst IsRetired (sym f) tt) (λ u. absurd u))
+  claims_row None f is y = absurd y
+
+  -- The way left to the leader of a follower.
+
+  heads_left : l.activity ≡ Activity.Rebalance (Rebalance.Left Left.Start) → told ≡ word product (history product (view p).opening saw.saw.front).world name.Head → Then (first_left (row_or_first (row_linked (link_of told))) l)
+  heads_left is tells = both (row_or_first (row_linked (link_of told)) == l.row) _ _ (λ e. absurd (leader_first_here is tells (eqb-true _ l.row e))) (λ e. record { saw = tt })
+
+  goes_left : (d : Choice) → offered rows c ≡ d → l.activity ≡ Activity.Rebalance (Rebalance.Left Left.Start) → Then ((left_transition d l).next rows told)
+  unfolding here
+  goes_left d e is = by d refl
+    where
+      start : Activity
+      start = Activity.Rebalance (Rebalance.Left Left.Start)
+
+      tells : offered (view p).opening.rows c ≡ d → told ≡ told_by (left_transition d (local_at p saw.saw.front)).operation.action (word product (history product (view p).opening saw.saw.front).world (left_transition d (local_at p saw.saw.front)).operation.name)
+      tells f = saw_told p q start c told (here start is) _ (ap (λ x. left_transition x (local_at p saw.saw.front)) f)
+
+      by : (x : Choice) → d ≡ x → Then ((left_transition x l).next rows told)
+      by (Begin call) f = heads_left is (subst (λ x. told ≡ told_by (left_transition x (local_at p saw.saw.front)).operation.action (word product (history product (view p).opening saw.saw.front).world (left_transition x (local_at p saw.saw.front)).operation.name)) f (tells (ap (λ n. offered n c) (sym whole) ∙ e)))
+      by Go f = heads_left is (subst (λ x. told ≡ told_by (left_transition x (local_at p saw.saw.front)).operation.action (word product (history product (view p).opening saw.saw.front).world (left_transition x (local_at p saw.saw.front)).operation.name)) f (tells (ap (λ n. offered n c) (sym whole) ∙ e)))
+      by (Guess r) f = record { saw = tt }
+      by Stop f = heads_left is (subst (λ x. told ≡ told_by (left_transition x (local_at p saw.saw.front)).operation.action (word product (history product (view p).opening saw.saw.front).world (left_transition x (local_at p saw.saw.front)).operation.name)) f (tells (ap (λ n. offered n c) (sym whole) ∙ e)))
+
+  -- the list ends before the follower, which went with its leader
+  links_left : (r : Option ℕ) → row_linked (link_of told) ≡ r → (is : l.activity ≡ Activity.Rebalance (Rebalance.Left Left.Next)) → (row_linked (link_of told) ≡ None → IsUnlinked (Activity.Rebalance (Rebalance.Left Left.Next))) → Then (link_left r l)
+  links_left (Some r) f is gone = both (r == l.row) _ _ (λ e. record { saw = tt }) (λ e. record { saw = tt })
+  links_left None f is gone = begins_anew l undone (replaced_here (Activity.Rebalance (Rebalance.Left Left.Next)) is f (gone f))
+
+  -- or the walk goes by it
+  leasts_left : (is : l.activity ≡ Activity.Rebalance (Rebalance.Left Left.NextLeast)) → (l.lower ≤ key_of_word told → IsUnlinked (Activity.Rebalance (Rebalance.Left Left.NextLeast))) → Then (least_left (key_of_word told) l)
+  leasts_left is gone = both (nat_lt (key_of_word told) l.lower) _ _ (λ f. record { saw = tt }) (λ f.
+      let past : nat_lt (key_of_word told) l.lower ≡ false = f in
+      let more : l.lower ≤ key_of_word told = grind (arith, nat_tests) in
+      begins_anew l undone (replaced_here (Activity.Rebalance (Rebalance.Left Left.NextLeast)) is (subst (λ n. n ≤ key_of_word told) (sym knew_lower) more) (gone more)))
+
   -- the list ends before the full row
   ends : l.activity ≡ Activity.Rebalance (Rebalance.Replace Replace.Next) → row_linked (link_of told) ≡ None → Then (give_back TryAgain l)
-  ends is none = tries_again (replaced_here (Activity.Rebalance (Rebalance.Replace Replace.Next)) is none (walk_ends_here is none))
+  ends is none = tries_again (replaced_here (Activity.Rebalance (Rebalance.Replace Replace.Next)) is none (walk_ends_here (Activity.Rebalance (Rebalance.Replace Replace.Next)) is tt (reads_here (Activity.Rebalance (Rebalance.Replace Replace.Next)) is _ refl) none))
 
   links : (r : Option ℕ) (marked : Bool) → row_linked (link_of told) ≡ r → l.activity ≡ Activity.Rebalance (Rebalance.Replace Replace.Next) → Then (row_before r marked l)
   links (Some r) marked f is = both (r == l.row) _ _ (λ e. both marked _ _ (λ g. moves_left l) (λ g. record { saw = tt })) (λ e. record { saw = tt })
@@ -364,11 +469,18 @@ module _ (s : Shared) (o p q : Pass) (l m : Local) (c : Choice) (rows told : ℕ
   unfolding here
   event_at (Activity.Rebalance (Rebalance.Engage Engage.Clock)) is h n g e = so _ (next_is (Activity.Rebalance (Rebalance.Engage Engage.Clock)) is) (both (nat_le SPENT told) _ _ (λ f. is_refused Spent l undone (spent_here (Activity.Rebalance (Rebalance.Engage Engage.Clock)) is (inl refl) (let full : nat_le SPENT told ≡ true = f in grind (arith, nat_tests)))) (λ f. record { saw = tt }))
   event_at (Activity.Rebalance (Rebalance.Engage Engage.Epoch)) is h n g e = so _ (next_is (Activity.Rebalance (Rebalance.Engage Engage.Epoch)) is) (both (nat_le SPENT told) _ _ (λ f. is_refused Spent l undone (spent_here (Activity.Rebalance (Rebalance.Engage Engage.Epoch)) is (inr refl) (let full : nat_le SPENT told ≡ true = f in grind (arith, nat_tests)))) (λ f. record { saw = tt }))
-  event_at (Activity.Rebalance (Rebalance.Engage Engage.State)) is h n g e = so _ (next_is (Activity.Rebalance (Rebalance.Engage Engage.State)) is) (states (state_of told) refl is (stated_here (Activity.Rebalance (Rebalance.Engage Engage.State)) is tt (saw_told p q (Activity.Rebalance (Rebalance.Engage Engage.State)) c told (here (Activity.Rebalance (Rebalance.Engage Engage.State)) is) _ refl)))
+  event_at (Activity.Rebalance (Rebalance.Engage Engage.State)) is h n g e = so _ (next_is (Activity.Rebalance (Rebalance.Engage Engage.State)) is) (states (state_of told) refl is (stated_here (Activity.Rebalance (Rebalance.Engage Engage.State)) is tt (reads_here (Activity.Rebalance (Rebalance.Engage Engage.State)) is _ refl)))
   event_at (Activity.Rebalance (Rebalance.Engage (Engage.Normal seat))) is h n g e = so _ (next_is (Activity.Rebalance (Rebalance.Engage (Engage.Normal seat))) is) record { saw = tt }
   event_at (Activity.Rebalance (Rebalance.Engage Engage.Lead)) is h n g e = so _ (next_is (Activity.Rebalance (Rebalance.Engage Engage.Lead)) is) (engages (told == state_word Normal))
-  event_at (Activity.Rebalance (Rebalance.Engage (Engage.MarkLink count))) is h n g e = so _ (next_is (Activity.Rebalance (Rebalance.Engage (Engage.MarkLink count))) is) (both (count == 0) _ _ (λ f. record { saw = tt }) (λ f. record { saw = tt }))
-  event_at (Activity.Rebalance (Rebalance.Engage (Engage.Decide count))) is h n g e = so _ (next_is (Activity.Rebalance (Rebalance.Engage (Engage.Decide count))) is) (decides count (state_of told) refl is (stated_here (Activity.Rebalance (Rebalance.Engage (Engage.Decide count))) is tt (saw_told p q (Activity.Rebalance (Rebalance.Engage (Engage.Decide count))) c told (here (Activity.Rebalance (Rebalance.Engage (Engage.Decide count))) is) _ refl)))
+  event_at (Activity.Rebalance (Rebalance.Engage (Engage.MarkLink count))) is h n g e = so _ (next_is (Activity.Rebalance (Rebalance.Engage (Engage.MarkLink count))) is) (marks_link count (row_linked (link_of told)))
+  event_at (Activity.Rebalance (Rebalance.Engage (Engage.Decide count))) is h n g e = so _ (next_is (Activity.Rebalance (Rebalance.Engage (Engage.Decide count))) is) (decides count (state_of told) refl is (stated_here (Activity.Rebalance (Rebalance.Engage (Engage.Decide count))) is tt (reads_here (Activity.Rebalance (Rebalance.Engage (Engage.Decide count))) is _ refl)))
+  event_at (Activity.Rebalance (Rebalance.Claim Claim.Count)) is h n g e = so _ (next_is (Activity.Rebalance (Rebalance.Claim Claim.Count)) is) (record { saw = tt })
+  event_at (Activity.Rebalance (Rebalance.Claim Claim.Exchange)) is h n g e = so _ (next_is (Activity.Rebalance (Rebalance.Claim Claim.Exchange)) is) (claims_row (state_of told) refl is (stated_here (Activity.Rebalance (Rebalance.Claim Claim.Exchange)) is tt (reads_here (Activity.Rebalance (Rebalance.Claim Claim.Exchange)) is _ refl)))
+  event_at (Activity.Rebalance (Rebalance.Claim (Claim.Normal seat))) is h n g e = so _ (next_is (Activity.Rebalance (Rebalance.Claim (Claim.Normal seat))) is) (record { saw = tt })
+  event_at (Activity.Rebalance (Rebalance.Claim Claim.MarkLink)) is h n g e = so _ (next_is (Activity.Rebalance (Rebalance.Claim Claim.MarkLink)) is) (record { saw = tt })
+  event_at (Activity.Rebalance (Rebalance.Left Left.Start)) is h n g e = so _ (next_is (Activity.Rebalance (Rebalance.Left Left.Start)) is) (goes_left (offered rows c) refl is)
+  event_at (Activity.Rebalance (Rebalance.Left Left.Next)) is h n g e = so _ (next_is (Activity.Rebalance (Rebalance.Left Left.Next)) is) (links_left (row_linked (link_of told)) refl is (walk_ends_here (Activity.Rebalance (Rebalance.Left Left.Next)) is tt (reads_here (Activity.Rebalance (Rebalance.Left Left.Next)) is _ refl)))
+  event_at (Activity.Rebalance (Rebalance.Left Left.NextLeast)) is h n g e = so _ (next_is (Activity.Rebalance (Rebalance.Left Left.NextLeast)) is) (leasts_left is (walk_goes_by_here (Activity.Rebalance (Rebalance.Left Left.NextLeast)) is tt (reads_here (Activity.Rebalance (Rebalance.Left Left.NextLeast)) is _ refl)))
   event_at (Activity.Rebalance (Rebalance.Freeze Freeze.Count)) is h n g e = so _ (next_is (Activity.Rebalance (Rebalance.Freeze Freeze.Count)) is) record { saw = tt }
   event_at (Activity.Rebalance (Rebalance.Freeze (Freeze.Look i))) is h n g e = so _ (next_is (Activity.Rebalance (Rebalance.Freeze (Freeze.Look i))) is) (freezes i (pend_of told))
   event_at (Activity.Rebalance (Rebalance.Freeze (Freeze.Entry i))) is h n g e = so _ (next_is (Activity.Rebalance (Rebalance.Freeze (Freeze.Entry i))) is) (tries_entry i (told == pend_word l.rebalance.entry))
@@ -406,7 +518,7 @@ module _ (s : Shared) (o p q : Pass) (l m : Local) (c : Choice) (rows told : ℕ
       (both (nat_lt (key_of_word told) l.lower) _ _ (λ f. record { saw = tt }) (λ f.
       let past : nat_lt (key_of_word told) l.lower ≡ false = f in
       let more : l.lower ≤ key_of_word told = grind (arith, nat_tests) in
-      tries_again (replaced_here (Activity.Rebalance (Rebalance.Replace Replace.NextLeast)) is (subst (λ n. n ≤ key_of_word told) (sym knew_lower) more) (walk_goes_by_here is more))))
+      tries_again (replaced_here (Activity.Rebalance (Rebalance.Replace Replace.NextLeast)) is (subst (λ n. n ≤ key_of_word told) (sym knew_lower) more) (walk_goes_by_here (Activity.Rebalance (Rebalance.Replace Replace.NextLeast)) is tt (reads_here (Activity.Rebalance (Rebalance.Replace Replace.NextLeast)) is _ refl) more))))
   event_at (Activity.Rebalance (Rebalance.Replace Replace.Exchange)) is h n g e = so _ (next_is (Activity.Rebalance (Rebalance.Replace Replace.Exchange)) is) (replaces (link_of told) refl is)
   event_at (Activity.Rebalance (Rebalance.Replace Replace.Normalise)) is h n g e = absurd (n refl)
   event_at Activity.Retry is h n g e = absurd (g refl)

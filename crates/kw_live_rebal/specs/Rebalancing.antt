@@ -11,7 +11,9 @@ use Rattle.kw_words.specs.Plain.{key_of_word}
 use Rattle.kw_words.specs.State.{state_of}
 use Rattle.kw_world.specs.declared.answer.Answer.TheVariants as answer
 use Rattle.kw_world.specs.declared.activity.Activity.{Activity}
+use Rattle.kw_world.specs.declared.activity.rebalance.claim.Claim.TheVariants as Claim
 use Rattle.kw_world.specs.declared.activity.rebalance.engage.Engage.TheVariants as Engage
+use Rattle.kw_world.specs.declared.activity.rebalance.left.Left.TheVariants as Left
 use Rattle.kw_world.specs.declared.activity.rebalance.Rebalance.TheVariants as Rebalance
 use Rattle.kw_world.specs.declared.activity.rebalance.replace.Replace.TheVariants as Replace
 use Rattle.kw_world.specs.declared.event.Choice.{Choice}
@@ -66,18 +68,24 @@ IsRetired (Some (Retired number)) = Unit {0}
 IsRetired _ = ⊥
 
 -- what an event of a seat that knew this was told says that its row was replaced by somebody else:
--- the state is that of a retired row; the list of rows ended before the row, or went on behind it;
--- or the link led to another row by the time that it was exchanged
+-- its state, or that of the row which was to go along, is that of a retired row; the list of rows
+-- ended before the row, or went on behind it; or the link led to another row by the time that it
+-- was exchanged
 abbrev pub TellsReplaced : Activity → ℕ → Local → Type 0
 TellsReplaced (Activity.Rebalance (Rebalance.Engage Engage.State)) told l = IsRetired (state_of told)
 TellsReplaced (Activity.Rebalance (Rebalance.Engage (Engage.Decide count))) told l = IsRetired (state_of told)
+TellsReplaced (Activity.Rebalance (Rebalance.Claim Claim.Exchange)) told l = IsRetired (state_of told)
+TellsReplaced (Activity.Rebalance (Rebalance.Left Left.Next)) told l = row_linked (link_of told) ≡ None
+TellsReplaced (Activity.Rebalance (Rebalance.Left Left.NextLeast)) told l = l.lower ≤ key_of_word told
 TellsReplaced (Activity.Rebalance (Rebalance.Replace Replace.Next)) told l = row_linked (link_of told) ≡ None
 TellsReplaced (Activity.Rebalance (Rebalance.Replace Replace.NextLeast)) told l = l.lower ≤ key_of_word told
 TellsReplaced (Activity.Rebalance (Rebalance.Replace Replace.Exchange)) told l = row_linked (link_of told) ≢ Some l.row
 TellsReplaced _ told l = ⊥
 
--- the walk to the row before the full one ends at this activity
+-- the walk to the row before the full one, or to the leader of a follower, ends at this activity
 abbrev pub IsWalkEnd : Activity → Type 0
+IsWalkEnd (Activity.Rebalance (Rebalance.Left Left.Next)) = Unit {0}
+IsWalkEnd (Activity.Rebalance (Rebalance.Left Left.NextLeast)) = Unit {0}
 IsWalkEnd (Activity.Rebalance (Rebalance.Replace Replace.Next)) = Unit {0}
 IsWalkEnd (Activity.Rebalance (Rebalance.Replace Replace.NextLeast)) = Unit {0}
 IsWalkEnd _ = ⊥

@@ -1,9 +1,9 @@
 //! The events of a rebalance, from the load of the clock to the last one.
 //!
-//! The seat agrees with others on its row, freezes and gathers it, takes free rows, writes them,
-//! links them in place of the full row, and retires that: one event after the other, as the table
-//! says. Where an exchange is lost the seat looks once more, so a rebalance may go on as long as
-//! others go on to win.
+//! The seat agrees with others on the rows of its group, freezes and gathers them, takes free rows,
+//! writes them, links them in place of the group, and retires that: one event after the other, as
+//! the table says. Where an exchange is lost the seat looks once more, so a rebalance may go on as
+//! long as others go on to win.
 ghost use Rattle.std.specs.Prelude.{◌≡◌, ◌≢◌, true, false};
 ghost use Rattle.kw_world.specs.WalkTransitions.{is_stop};
 ghost use Rattle.kw_follow.specs.Following.{Follows};
@@ -23,6 +23,7 @@ use kw_world::activity::Activity;
 use kw_world::activity::rebalance::Rebalance;
 use kw_world::activity::rebalance::engage::Engage;
 use kw_world::activity::rebalance::gather::Gather;
+use kw_world::activity::rebalance::left::Left;
 use kw_world::activity::rebalance::replace::Replace;
 use kw_world::activity::rebalance::seek::Seek;
 use kw_world::activity::rebalance::write::Write;
@@ -49,15 +50,17 @@ pub enum Rebalanced {
 /// After `Done` and `Again` the call is to try again from its beginning, and after `NoRows` and
 /// `Spent` it is about to leave with that. `Done` comes only where an exchange of this call linked
 /// new rows in place of the row; `Again` only where an event of this call found the row retired, or
-/// in the list no more, or the link to it led elsewhere; `NoRows` only where the last search of
+/// the one that was to go along, or the row in the list no more, or the link to it led elsewhere;
+/// `NoRows` only where the last search of
 /// this call asked for each row of the table; `Spent` only where a load of this call found the
 /// clock or the epoch at `SPENT` or above. The row is the one that the call works on at that event:
 /// its own, or one before it.
 ///
 /// The search for free rows begins at the row that the hints name, and so does the walk to the row
-/// before the full one; where the exchange is won the index is told of the new rows. No clause
-/// rests on any of it. Takes no memory. It may wait for others: all that is said here is said for a
-/// call that returns.
+/// before the full one; from a row that follows another the seat goes to its leader at once, by the
+/// name that the follower's state has. Where the exchange is won the index is told of the new rows.
+/// No clause rests on any of it. Takes no memory. It may wait for others: all that is said here is
+/// said for a call that returns.
 pub fn rebalance<R: Wait>(
     rt: &R,
     shared: &Shared,
@@ -111,7 +114,7 @@ fn has_won(activity: &Activity) -> bool
     }
 }
 
-// Whether the next event is the first of those that gather the full row.
+// Whether the next event is the first of those that gather a row of the group.
 #[inline(always)]
 fn begins_gathering(activity: &Activity) -> bool
     ensures { result ≡ true → activity.now ≡ Activity.Rebalance (Rebalance.Gather Gather.Link) }
@@ -170,8 +173,8 @@ fn refused(answer: Answer) -> Rebalanced
     }
 }
 
-// The new rows are linked: they are made normal, the index is told of them, and the full row is
-// retired.
+// The new rows are linked: they are made normal, the index is told of them, and the rows of the
+// group are retired.
 fn finish<R: Wait>(
     rt: &R,
     shared: &Shared,
@@ -202,6 +205,8 @@ fn choice_at(shared: &Shared, local: &Local, index: &Index, hints: &mut Hints) -
 {
     match local.activity {
         Activity::Rebalance(Rebalance::Seek(Seek::First)) => Choice::Guess(hints.window.start()),
+        // The leader is the row that the follower's state named, whatever row the guess names.
+        Activity::Rebalance(Rebalance::Left(Left::Start)) => Choice::Guess(local.row),
         Activity::Rebalance(Rebalance::Replace(Replace::Start)) => match guess_before(
             shared, local, index, hints,
         ) {

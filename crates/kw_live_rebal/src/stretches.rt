@@ -1,5 +1,5 @@
 //! The stretches of a rebalance in which many events alike follow each other: it gathers the cells
-//! of the full row, asks row after row for its state, and writes the words of a new row.
+//! of the row at hand, asks row after row for its state, and writes the words of a new row.
 //!
 //! A split makes some hundreds of such events, and a search may ask each row of the table. Between
 //! two of a stretch nothing is asked but which of its events is the next one, and what changes with
@@ -21,7 +21,7 @@ use kw_world::activity::rebalance::write::Write;
 use kw_world::local::Local;
 use std::sync::Wait;
 
-/// Goes along the list of the full row and gathers its cells, from the first link on to the end,
+/// Goes along the list of the row at hand and gathers its cells, from the first link on to the end,
 /// and on to what comes after it. Takes no memory.
 pub(crate) fn gather_row<R: Wait>(rt: &R, shared: &Shared, pass: &mut Pass, local: &mut Local)
     requires follows { Follows shared.now pass.old local.old }

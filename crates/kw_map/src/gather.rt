@@ -13,6 +13,7 @@ ghost use Rattle.kw_cells.specs.Cells.{pairs_of};
 ghost use Rattle.kw_map.specs.Gather.{IsBelow, StandsAsBefore, Takes, TakesPrefix};
 
 use kw_cells::in_order::next_in_order;
+use kw_words::sizes::CELLS;
 use kw_world::gathered::Gathered;
 use std::error::Error;
 use std::fmt;
@@ -74,7 +75,7 @@ pub trait Gather {
 /// some one. Either way it can go on with a later range. Takes no memory.
 pub fn take_pairs<G: Gather>(
     into: &mut G,
-    cells: &Gathered,
+    cells: &Gathered<CELLS>,
     from: u32,
     upto: u32,
     version: u64,

@@ -5,13 +5,14 @@ ghost use Rattle.kw_words.specs.Plain.{IsValue};
 use kw_cells::cell::Cell;
 use kw_map::gather::take_pairs;
 use kw_map::{CountGather, Gather, ListGather, Stop, SumGather};
+use kw_words::sizes::CELLS;
 use kw_world::gathered::Gathered;
 
 /// The greatest value that a key may have.
 const GREATEST_VALUE: u64 = 9223372036854775807;
 
 /// Gathers one more cell, whose value is below `VALUE_END`.
-fn add(row: &mut Gathered, key: u32, version: u64, place: u32, value: Option<u64>)
+fn add(row: &mut Gathered<CELLS>, key: u32, version: u64, place: u32, value: Option<u64>)
     requires value { IsValue value }
     requires values { All (λ cell. IsValue cell.value) row.old }
     ensures { All (λ cell. IsValue cell.value) row.new }
@@ -25,7 +26,7 @@ fn add(row: &mut Gathered, key: u32, version: u64, place: u32, value: Option<u64
 }
 
 /// A row in which key 5 has two versions, 7 a tombstone over a value, and 9 a late version.
-fn row() -> Gathered
+fn row() -> Gathered<CELLS>
     ensures { All (λ cell. IsValue cell.value) result }
 {
     let mut row = Gathered::new();

@@ -28,7 +28,7 @@ pub(crate) fn entries_of(alloc: Global, list: &[IndexEntry]) -> Result<Entries, 
 
 /// A change by which these rows, each with its least key, come in the place of one.
 pub(crate) fn change(gone: u32, placed: &[IndexEntry]) -> Change {
-    let mut change = Change::without(gone);
+    let mut change = Change::without(gone, None);
     for entry in placed {
         change.place(*entry);
     }
@@ -65,6 +65,22 @@ fn a_change_brings_eight_rows_at_most(rt: HostRuntime) -> Result<(), Fail> {
     let rows = [0, 1, 2, 3, 4, 5, 6, 7, 8].map(|row| entry(row, row));
     entries.apply(&change(3, &rows));
     let left = [0, 1, 2, 4, 5, 6, 7].map(|row| entry(row, row));
+    assert_eq!(rt; entries.list(), left.as_slice());
+    Ok(())
+}
+
+// Row 5 stands behind row 3, and goes along with it.
+#[test]
+fn a_change_takes_both_rows_of_a_group_out(rt: HostRuntime) -> Result<(), Fail> {
+    let mut entries = Entries::new(rt.alloc(), 16)?;
+    for old in [entry(0, 0), entry(10, 3), entry(20, 5), entry(30, 6)] {
+        entries.place(old);
+    }
+    let mut change = Change::without(3, Some(5));
+    change.place(entry(10, 7));
+    change.place(entry(15, 8));
+    entries.apply(&change);
+    let left = [entry(0, 0), entry(10, 7), entry(15, 8), entry(30, 6)];
     assert_eq!(rt; entries.list(), left.as_slice());
     Ok(())
 }

@@ -36,9 +36,8 @@ use Rattle.kw_puts.proofs.HereStays.{here_was}
 use Rattle.kw_puts.proofs.Owners.{true_false, is_own, own_origin, row_linked, was_or_not}
 use Rattle.kw_puts.proofs.Rely.{SameAttempt, GoesOn}
 use Rattle.kw_puts.proofs.RelyProof.{key_puts, value_puts, version_puts, goes_on_by, rely_version}
-use Rattle.kw_shape.proofs.LinkedRows.{holds_first, holds_stays, was_below, linked_keeps}
+use Rattle.kw_shape.proofs.LinkedRows.{holds_first, holds_stays, linked_given, linked_keeps, linked_key, linked_value, linked_version, was_below}
 use Rattle.kw_puts.proofs.Relinked.{PlacesAt, new_places}
-use Rattle.kw_shape.proofs.LinkedWords.{linked_given, linked_key, linked_value, linked_version}
 use Rattle.kw_puts.proofs.OwnAttempts.{acting_own}
 use Rattle.kw_puts.proofs.NewAttempts.{IsGiving, IsNew, attempt_was, announced_was, one_more_is, one_more_within, given_was, given_more, origin_new, origin_was, no_room_frozen, stays_frozen}
 

@@ -1,20 +1,82 @@
--- Where a seat is not that builds new rows, or has just done so: it is on no way to a row, reads
--- none, and is no scan that waits, settles or has its version.
+-- Where a seat is not that rebalances, or that builds new rows or has just done so: it is on no way
+-- to a row, reads none, puts nothing, and is no scan that waits, settles or has its version.
 use Rattle.std.proofs.Common.{ℕ, ◌≡◌, ◌≢◌, Option, Some, None}
 use Rattle.kw_words.specs.declared.layout.Name.TheVariants as name
 use Rattle.kw_world.specs.declared.activity.Activity.{Activity}
 use Rattle.kw_world.specs.declared.activity.draw.Draw.TheVariants as Draw
+use Rattle.kw_world.specs.declared.activity.rebalance.claim.Claim.TheVariants as Claim
 use Rattle.kw_world.specs.declared.activity.rebalance.engage.Engage.TheVariants as Engage
+use Rattle.kw_world.specs.declared.activity.rebalance.freeze.Freeze.{Freeze}
 use Rattle.kw_world.specs.declared.activity.rebalance.freeze.Freeze.TheVariants as Freeze
+use Rattle.kw_world.specs.declared.activity.rebalance.gather.Gather.{Gather}
 use Rattle.kw_world.specs.declared.activity.rebalance.Rebalance.TheVariants as Rebalance
 use Rattle.kw_world.specs.declared.answer.Answer.TheVariants.{Pairs}
+use Rattle.kw_world.specs.declared.event.Choice.{Choice}
+use Rattle.kw_world.specs.declared.local.Local.{Local}
 use Rattle.kw_world.specs.ReplaceTransitions.{replaced_link}
-use Rattle.kw_core.specs.Stages.{IsAtRead, IsCovering, IsReading, IsSettled, IsSettling, IsUnderway, IsWaiting, HasDrawn}
+use Rattle.kw_world.specs.Sizes.{Sizes}
+use Rattle.kw_core.specs.Stages.{IsAtRead, IsBalancing, IsCovering, IsPutting, IsReading, IsSettled, IsSettling, IsUnderway, IsWaiting, HasDrawn, HasSeenPending}
+use Rattle.kw_core.specs.Words.{Words}
+use Rattle.kw_core.proofs.Arrows.{Arrow, builds, freezes_last, keeps_no_more, remembers_last, sees_frozen_last, takes_no_more}
 use Rattle.kw_core.proofs.Building.{IsBuilding}
 use Rattle.kw_core.proofs.BuiltNext.{IsAfterBuilding}
+use Rattle.kw_core.proofs.Grouping.{NextCounted, claims_row, frozen_goes, gathered_goes, goes_alone}
 use Rattle.kw_puts.specs.Positions.{HasLoaded, HelpsScan}
 
--- a seat that builds is among those that do so or have just done so
+-- A seat that goes through the rows of its group.
+
+-- one that freezes them, or gathers their cells, rebalances on
+pub freezing_goes : (z : Sizes) (v : Words) (s : ℕ) (choice : Choice) (l : Local) (f : Freeze) (k : Local) → Arrow z v s choice l (Activity.Rebalance (Rebalance.Freeze f)) k → IsBalancing k.activity
+freezing_goes z v s choice l f k (builds c next y t) = absurd y
+freezing_goes z v s choice l f k (remembers_last j c version next e o n) = (frozen_goes _ next n).next
+freezing_goes z v s choice l f k (sees_frozen_last j next e o n) = (frozen_goes _ next n).next
+freezing_goes z v s choice l f k (freezes_last j next e o n) = (frozen_goes _ next n).next
+freezing_goes z v s choice l f k _ = tt
+
+-- one that knows how many rows go claims the next one, or freezes its own
+pub counted_not : {count : ℕ} {l k : Local} (P : Activity → Type 0) → (P (Activity.Rebalance (Rebalance.Claim Claim.Exchange)) → ⊥) → (P (Activity.Rebalance (Rebalance.Freeze Freeze.Count)) → ⊥) → NextCounted count l k → P k.activity → ⊥
+counted_not P n m (claims_row r two e) = n
+counted_not P n m (goes_alone d) = m
+
+pub gathering_goes : (z : Sizes) (v : Words) (s : ℕ) (choice : Choice) (l : Local) (g : Gather) (k : Local) → Arrow z v s choice l (Activity.Rebalance (Rebalance.Gather g)) k → IsBalancing k.activity
+gathering_goes z v s choice l g k (builds c next y t) = absurd y
+gathering_goes z v s choice l g k (takes_no_more next e o n) = (gathered_goes z _ next n).next
+gathering_goes z v s choice l g k (keeps_no_more next o n) = (gathered_goes z _ next n).next
+gathering_goes z v s choice l g k _ = tt
+
+-- it puts nothing, and reads nothing
+pub balancing_puts : {A : Type 0} (a : Activity) → IsBalancing a → IsPutting a → A
+balancing_puts (Activity.Rebalance _) n x = absurd x
+balancing_puts _ n x = absurd n
+
+pub balancing_sees : {A : Type 0} (a : Activity) → IsBalancing a → HasSeenPending a → A
+balancing_sees (Activity.Rebalance _) n x = absurd x
+balancing_sees _ n x = absurd n
+
+pub balancing_reading : {A : Type 0} (a : Activity) → IsBalancing a → IsReading a → A
+balancing_reading (Activity.Rebalance _) n x = absurd x
+balancing_reading _ n x = absurd n
+
+-- nor is it a scan
+pub balancing_waiting : {A : Type 0} (a : Activity) → IsBalancing a → IsWaiting a → A
+balancing_waiting (Activity.Rebalance _) n x = absurd x
+balancing_waiting _ n x = absurd n
+
+pub balancing_loaded : {A : Type 0} (a : Activity) → IsBalancing a → HasLoaded a → A
+balancing_loaded (Activity.Rebalance _) n x = absurd x
+balancing_loaded _ n x = absurd n
+
+pub balancing_settled : {A : Type 0} (a : Activity) → IsBalancing a → IsSettled a → A
+balancing_settled (Activity.Rebalance _) n x = absurd x
+balancing_settled _ n x = absurd n
+
+pub balancing_drawn : {A : Type 0} (a : Activity) → IsBalancing a → HasDrawn a → A
+balancing_drawn (Activity.Rebalance _) n x = absurd x
+balancing_drawn _ n x = absurd n
+
+-- A seat that builds new rows.
+
+-- it is among those that do so or have just done so
 pub building_after : (a : Activity) → IsBuilding a → IsAfterBuilding a
 building_after Activity.Retry y = absurd y
 building_after (Activity.Rebalance (Rebalance.Engage Engage.Clock)) y = absurd y

@@ -5,12 +5,11 @@
 -- cell at which it was gathered from the event on that writes its version, and it is listed by the
 -- one that writes the link behind it. So of a row that is written whole all is known, until it is
 -- linked or given back.
-use Rattle.std.proofs.Common.{ℕ, ◌≡◌, ◌≢◌, ◌⊎◌, inl, inr, ◌+◌, ◌-◌, ◌<◌, ◌≤◌, true, false, List, Option, Some, None, arith, refl, sym, ◌∙◌, ap, subst, length, slice_get, slice_index}
+use Rattle.std.proofs.Common.{ℕ, ◌≡◌, ◌≢◌, ◌⊎◌, inl, inr, ◌+◌, ◌<◌, ◌≤◌, true, false, List, Option, Some, None, arith, refl, sym, ◌∙◌, ap, subst, length, slice_get}
 use Rattle.std.specs.Prelude.{All}
 use Rattle.std.proofs.lemmas.Bool.{cases_eq, cases_lt}
 use Rattle.std.proofs.lemmas.List.Elements.{All-get_or}
 use Rattle.std.proofs.lemmas.Option.{get_or_from_slice_get, same_Some, slice_get_within}
-use Rattle.kw_cells.specs.Cuts.{end_of}
 use Rattle.kw_cells.specs.declared.cell.Cell.{Cell}
 use Rattle.kw_lists.specs.Words.{row_in}
 use Rattle.kw_rows.specs.Ledger.{Ledger}
@@ -26,6 +25,7 @@ use Rattle.kw_world.specs.declared.activity.rebalance.write.Write.TheVariants as
 use Rattle.kw_world.specs.declared.event.Choice.{Choice}
 use Rattle.kw_world.specs.declared.local.Local.{Local}
 use Rattle.kw_world.specs.declared.rebalance.Afterwards.{Afterwards}
+use Rattle.kw_world.specs.GroupPlaces.{cell_at, places, row_at, source}
 use Rattle.kw_world.specs.Sane.{IsSane}
 use Rattle.kw_world.specs.SeekTransitions.{at_infant, infant}
 use Rattle.kw_world.specs.Sizes.{Sizes}
@@ -40,24 +40,24 @@ use Rattle.kw_core.specs.Stages.{IsAtRow}
 use Rattle.kw_core.specs.Step.{Step}
 use Rattle.kw_core.specs.Words.{Words}
 use Rattle.kw_core.proofs.Attempts.{in_range}
-use Rattle.kw_core.proofs.Arrows.{builds, Arrow, NextLook, looks, lists, NextLeftOver, goes_to_left_over, answers, ends_scan, scans_on, sees_stamped, sees_neither, is_gone_by, helps, finds_stamped, finds_other, list_ends, key_above, left_over_gone_by, gathers_left_over, first_ends}
-use Rattle.kw_core.proofs.Building.{Building, first_is_free, first_is_taken, sought_is_free, sought_is_taken, first_is_retired, sought_is_retired, pass_is_old, pass_is_young, frees_row, takes_row, loses_row, gives_one_back, gives_last_back, writes_link, begins_before, guesses_before, guess_before_fails, before_serves, before_is_above, takes_head_before, leads_to_full, leads_on_marked, leads_to_other, leads_nowhere, walks_before, walks_past, replaces_row, is_marked_before, is_replaced, makes_normal, makes_last_normal, draws_number, retires_row, retires_and_leaves}
+use Rattle.kw_core.proofs.Arrows.{builds, Arrow, NextLook, looks, lists, NextLeftOver, goes_to_left_over, answers, ends_scan, scans_on, sees_stamped, sees_neither, is_gone_by, helps, finds_stamped, finds_other, list_ends, key_above, left_over_gone_by, gathers_left_over, first_ends, remembers_last, sees_frozen_last, freezes_last, takes_no_more, keeps_no_more, decides, marks_led}
+use Rattle.kw_core.proofs.Building.{Building, first_is_free, first_is_taken, sought_is_free, sought_is_taken, first_is_retired, sought_is_retired, pass_is_old, pass_is_young, frees_row, takes_row, loses_row, gives_one_back, gives_last_back, writes_link, begins_before, guesses_before, guess_before_fails, before_serves, before_is_above, takes_head_before, leads_to_full, leads_on_marked, leads_to_other, leads_nowhere, walks_before, walks_past, replaces_row, is_marked_before, is_replaced, makes_normal, makes_last_normal, draws_number, retires_ahead, retires_row, retires_and_leaves}
 use Rattle.kw_core.proofs.Building as built
 use Rattle.kw_core.proofs.Copies.{ChangesListed, ChangesOrigin, copy_listed, listed_stays, none_listed_yet, origin_copied, origin_stays, rest_unlisted}
+use Rattle.kw_core.proofs.Grouping.{goes_alone, claims_row, NextCounted, NextFrozen, freezes_ahead, froze_all, NextGathered, gathers_ahead, gathered_all}
 use Rattle.kw_core.proofs.Happens.{Happens, each_seat, log_entry}
 use Rattle.kw_core.proofs.NextBuilt.{GivenBack, is_refused_rows, moves_left, tries_again, NextBack, gives_back, has_none, NextBefore, is_behind, is_first, NextSeek, asks, has_asked, NextPass, has_looked, looks_on, NextTaken, has_enough, wants_more, NextNewCell, empties, fills, has_cells, NextNewEntry, has_entries, writes_idle, NextNewRow, has_written, writes_row, was_done, was_served}
 use Rattle.kw_core.proofs.Steps.{old_stays}
 use Rattle.kw_shape.specs.Infants.{HasCount, HasVersion, HasAfter, HasAtHand, Infants, IsInfantOf, IsNursed, IsWhole, IsWriting, Links, Nursing, Writes, nursing_of}
 use Rattle.kw_shape.specs.Shape.{Shape}
-use Rattle.kw_shape.proofs.InfantsFit.{part_length}
 use Rattle.kw_shape.proofs.InfantsRely.{linked_not_infant}
 use Rattle.kw_shape.proofs.InfantsStay.{infant_at, whole_nursed, writing_hand, writing_nursed}
 use Rattle.kw_shape.proofs.LinkedRows.{fresh_linked, hand_infant, infants_at}
 use Rattle.kw_puts.specs.Below.{Below}
 use Rattle.kw_puts.specs.Builds.{Builds, Copied, HasPlanned, IsCellOf, IsGathered}
 use Rattle.kw_puts.proofs.BuiltLists.{all_part}
-use Rattle.kw_puts.proofs.Gathering.{HasGoneByAll, gone_by_same, planned_gone_by}
-use Rattle.kw_puts.proofs.Owners.{full_linked}
+use Rattle.kw_puts.proofs.Gathering.{AreOfGroup, kept_of_group, planned_frozen, rows_linked, source_same}
+use Rattle.kw_puts.proofs.GroupCells.{row_of_group, source_like}
 
 -- a cell is that of its attempt for ever
 pub cell_lasts : (h h' : History) (e : Logged) → Step h h' e → (c : Cell) (p : ℕ) → IsCellOf h c p → IsCellOf h' c p
@@ -66,28 +66,40 @@ cell_lasts h h' e st c p x =
     let s = y.stamped x.stamped in
     record { stamped = s.0; key = y.key ∙ x.key; version = s.1 ∙ x.version; value = y.value ∙ x.value }
 
+-- a cell of some has what all have
+cell_has : (P : Cell → Type 0) (cells : List Cell) (j : ℕ) (c : Cell) → slice_get cells j ≡ Some c → All P cells → P c
+cell_has P cells j c g a = subst P (get_or_from_slice_get cells j c c g) (All-get_or P cells j c (slice_get_within cells j c g) a)
+
+-- the cells at which the new row's cells were gathered stand for the same attempts
+abbrev pub SameSource : Sizes → Origins → Origins → Local → Type 0
+SameSource z o o' l = (j : ℕ) (c : Cell) → slice_get (infant_cells l) j ≡ Some c → source z o' l c.place ≡ source z o l c.place
+
+-- no cell of the new rows was gathered in the one at hand
+abbrev pub AreApart : Sizes → Local → Type 0
+AreApart z l = (i j : ℕ) (c : Cell) → slice_get (infant_cells (at_infant i l)) j ≡ Some c → row_at z l c.place ≡ infant l → ⊥
+
 -- Of one row.
 
 -- what is known of a row stays where its cells and those of the full row stand for the same
 -- attempts, the same ones are listed, and no more is said of it
-pub copied_goes : (z : Sizes) (h h' : History) (e : Logged) (o o' : Origins) (f f' : Listed) (a b : Activity) (l k : Local) (q : ℕ) → Step h h' e → infant_cells k ≡ infant_cells l → k.row ≡ l.row →
+pub copied_goes : (z : Sizes) (h h' : History) (e : Logged) (o o' : Origins) (f f' : Listed) (a b : Activity) (l k : Local) (q : ℕ) → Step h h' e → infant_cells k ≡ infant_cells l → k.row ≡ l.row → k.rebalance.second ≡ l.rebalance.second →
     ((j : ℕ) → j < z.cells → HasVersion b j → HasVersion a j) → ((j : ℕ) → j < length (infant_cells l) → HasAfter b j → HasAfter a j) → (HasCount b → HasCount a × ((j : ℕ) → HasAfter a j → HasAfter b j)) →
-    ((j : ℕ) → o' q j ≡ o q j) → ((c : ℕ) → o' l.row c ≡ o l.row c) → ((j : ℕ) → f' q j ≡ f q j) → Copied z h o f a l q → Copied z h' o' f' b k q
-copied_goes z h h' e o o' f f' a b l k q st same row version after count origins full listed x = record {
+    ((j : ℕ) → o' q j ≡ o q j) → SameSource z o o' l → ((j : ℕ) → f' q j ≡ f q j) → Copied z h o f a l q → Copied z h' o' f' b k q
+copied_goes z h h' e o o' f f' a b l k q st same row second version after count origins full listed x = record {
   origin = λ j c u m g. let y = x.origin j c u (version j u m) (subst (λ (xs : List Cell). slice_get xs j ≡ Some c) same g) in (y.0, origins j ∙ y.1, cell_lasts h h' e st c y.0 y.2);
-  gathered = λ j c u m g. origins j ∙ x.gathered j c u (version j u m) (subst (λ (xs : List Cell). slice_get xs j ≡ Some c) same g) ∙ sym (full c.place) ∙ ap (λ (y : ℕ). o' y c.place) (sym row);
+  gathered = λ j c u m g. let y : slice_get (infant_cells l) j ≡ Some c = subst (λ (xs : List Cell). slice_get xs j ≡ Some c) same g in origins j ∙ x.gathered j c u (version j u m) y ∙ sym (full j c y) ∙ sym (source_like z o' k l row second c.place);
   rest = λ j u m g. origins j ∙ x.rest j u (version j u m) (subst (λ (xs : List Cell). slice_get xs j ≡ None) same g);
   listed = λ j u m. let w : j < length (infant_cells l) = subst (λ (xs : List Cell). j < length xs) same u in listed j ∙ x.listed j w (after j w m);
   unlisted = λ n j m. let y = x.unlisted (count n).0 j (sym (listed j) ∙ m) in (subst (λ (xs : List Cell). j < length xs) (sym same) y.0, (count n).1 j y.1);
 }
 
 -- the same with no event, of the same activity or of another one
-pub copied_like : (z : Sizes) (h : History) (o : Origins) (f : Listed) (a b : Activity) (l k : Local) (q : ℕ) → infant_cells k ≡ infant_cells l → k.row ≡ l.row →
+pub copied_like : (z : Sizes) (h : History) (o : Origins) (f : Listed) (a b : Activity) (l k : Local) (q : ℕ) → infant_cells k ≡ infant_cells l → k.row ≡ l.row → k.rebalance.second ≡ l.rebalance.second →
     ((j : ℕ) → j < z.cells → HasVersion b j → HasVersion a j) → ((j : ℕ) → j < length (infant_cells l) → HasAfter b j → HasAfter a j) → (HasCount b → HasCount a × ((j : ℕ) → HasAfter a j → HasAfter b j)) →
     Copied z h o f a l q → Copied z h o f b k q
-copied_like z h o f a b l k q same row version after count x = record {
+copied_like z h o f a b l k q same row second version after count x = record {
   origin = λ j c u m g. x.origin j c u (version j u m) (subst (λ (xs : List Cell). slice_get xs j ≡ Some c) same g);
-  gathered = λ j c u m g. x.gathered j c u (version j u m) (subst (λ (xs : List Cell). slice_get xs j ≡ Some c) same g) ∙ ap (λ (y : ℕ). o y c.place) (sym row);
+  gathered = λ j c u m g. x.gathered j c u (version j u m) (subst (λ (xs : List Cell). slice_get xs j ≡ Some c) same g) ∙ sym (source_like z o k l row second c.place);
   rest = λ j u m g. x.rest j u (version j u m) (subst (λ (xs : List Cell). slice_get xs j ≡ None) same g);
   listed = λ j u m. let w : j < length (infant_cells l) = subst (λ (xs : List Cell). j < length xs) same u in x.listed j w (after j w m);
   unlisted = λ n j m. let y = x.unlisted (count n).0 j m in (subst (λ (xs : List Cell). j < length xs) (sym same) y.0, (count n).1 j y.1);
@@ -99,19 +111,19 @@ copied_none z h o f k q = record { origin = λ j c u m g. absurd m; gathered = �
 
 -- all entries are written, and no cell
 copied_entries : (z : Sizes) (h : History) (o : Origins) (f : Listed) (l : Local) (q i : ℕ) → Copied z h o f (Activity.Rebalance (Rebalance.Write (Write.Entry i))) l q → Copied z h o f (Activity.Rebalance (Rebalance.Write (Write.Key 0))) l q
-copied_entries z h o f l q i x = copied_like z h o f (Activity.Rebalance (Rebalance.Write (Write.Entry i))) (Activity.Rebalance (Rebalance.Write (Write.Key 0))) l l q refl refl (λ j u m. absurd (omega (arith, m))) (λ j u m. absurd (omega (arith, m))) (λ n. (tt, λ j m. absurd m)) x
+copied_entries z h o f l q i x = copied_like z h o f (Activity.Rebalance (Rebalance.Write (Write.Entry i))) (Activity.Rebalance (Rebalance.Write (Write.Key 0))) l l q refl refl refl (λ j u m. absurd (omega (arith, m))) (λ j u m. absurd (omega (arith, m))) (λ n. (tt, λ j m. absurd m)) x
 
 -- a place beyond the row's cells
 copied_beyond : (z : Sizes) (h : History) (o : Origins) (f : Listed) (l : Local) (q i : ℕ) → Copied z h o f (Activity.Rebalance (Rebalance.Write (Write.Key i))) l q → Copied z h o f (Activity.Rebalance (Rebalance.Write (Write.Version i))) l q
-copied_beyond z h o f l q i x = copied_like z h o f (Activity.Rebalance (Rebalance.Write (Write.Key i))) (Activity.Rebalance (Rebalance.Write (Write.Version i))) l l q refl refl (λ j u m. m) (λ j u m. m) (λ n. (tt, λ j m. m)) x
+copied_beyond z h o f l q i x = copied_like z h o f (Activity.Rebalance (Rebalance.Write (Write.Key i))) (Activity.Rebalance (Rebalance.Write (Write.Version i))) l l q refl refl refl (λ j u m. m) (λ j u m. m) (λ n. (tt, λ j m. m)) x
 
 -- nor is one listed there
 copied_no_cell : (z : Sizes) (h : History) (o : Origins) (f : Listed) (l : Local) (q i : ℕ) → length (infant_cells l) ≤ i → Copied z h o f (Activity.Rebalance (Rebalance.Write (Write.After i))) l q → Copied z h o f (Activity.Rebalance (Rebalance.Write (Write.Key (i + 1)))) l q
-copied_no_cell z h o f l q i past x = copied_like z h o f (Activity.Rebalance (Rebalance.Write (Write.After i))) (Activity.Rebalance (Rebalance.Write (Write.Key (i + 1)))) l l q refl refl (λ j u m. omega (arith, m)) (λ j u m. omega (arith, u, past)) (λ n. (tt, λ j m. omega (arith, m))) x
+copied_no_cell z h o f l q i past x = copied_like z h o f (Activity.Rebalance (Rebalance.Write (Write.After i))) (Activity.Rebalance (Rebalance.Write (Write.Key (i + 1)))) l l q refl refl refl (λ j u m. omega (arith, m)) (λ j u m. omega (arith, u, past)) (λ n. (tt, λ j m. omega (arith, m))) x
 
 -- all cells are written
-copied_whole : (z : Sizes) (h : History) (o : Origins) (f : Listed) (l k : Local) (q i : ℕ) → infant_cells k ≡ infant_cells l → k.row ≡ l.row → z.cells ≤ i → length (infant_cells l) ≤ z.cells → Copied z h o f (Activity.Rebalance (Rebalance.Write (Write.Key i))) l q → Copied z h o f (Activity.Rebalance (Rebalance.Replace Replace.Start)) k q
-copied_whole z h o f l k q i same row done short x = copied_like z h o f (Activity.Rebalance (Rebalance.Write (Write.Key i))) (Activity.Rebalance (Rebalance.Replace Replace.Start)) l k q same row (λ j u m. omega (arith, u, done)) (λ j u m. omega (arith, u, done, short)) (λ n. (tt, λ j m. tt)) x
+copied_whole : (z : Sizes) (h : History) (o : Origins) (f : Listed) (l k : Local) (q i : ℕ) → infant_cells k ≡ infant_cells l → k.row ≡ l.row → k.rebalance.second ≡ l.rebalance.second → z.cells ≤ i → length (infant_cells l) ≤ z.cells → Copied z h o f (Activity.Rebalance (Rebalance.Write (Write.Key i))) l q → Copied z h o f (Activity.Rebalance (Rebalance.Replace Replace.Start)) k q
+copied_whole z h o f l k q i same row second done short x = copied_like z h o f (Activity.Rebalance (Rebalance.Write (Write.Key i))) (Activity.Rebalance (Rebalance.Replace Replace.Start)) l k q same row second (λ j u m. omega (arith, u, done)) (λ j u m. omega (arith, u, done, short)) (λ n. (tt, λ j m. tt)) x
 
 -- Of the row at hand, over the events that write its count, a version, and a link behind a cell.
 
@@ -128,7 +140,7 @@ module _ {z : Sizes} {r r' : Run} {s : ℕ} {choice : Choice} {l l' : Local} {e 
 
   -- one more copy stands for the attempt of the cell at which it was gathered, or the place for
   -- none
-  pub copies_version : (i : ℕ) → Happens z r r' s choice l l' (Activity.Rebalance (Rebalance.Write (Write.Version i))) → (l.row ≡ infant l → ⊥) → All (IsGathered r.history r.origin l.row) (infant_cells l) → Copied z r.history r.origin r.listed (Activity.Rebalance (Rebalance.Write (Write.Version i))) l (infant l) → Copied z r'.history r'.origin r'.listed (Activity.Rebalance (Rebalance.Write (Write.After i))) l (infant l)
+  pub copies_version : (i : ℕ) → Happens z r r' s choice l l' (Activity.Rebalance (Rebalance.Write (Write.Version i))) → AreApart z l → All (IsGathered r.history (source z r.origin l)) (infant_cells l) → Copied z r.history r.origin r.listed (Activity.Rebalance (Rebalance.Write (Write.Version i))) l (infant l) → Copied z r'.history r'.origin r'.listed (Activity.Rebalance (Rebalance.Write (Write.After i))) l (infant l)
   copies_version i h apart gathered x = record {
     origin = λ j c u m g. which j c u m g (cases_eq j i);
     gathered = λ j c u m g. of_cell j c u m g (cases_eq j i);
@@ -143,21 +155,21 @@ module _ {z : Sizes} {r r' : Run} {s : ℕ} {choice : Choice} {l l' : Local} {e 
       other : (j : ℕ) → (j ≡ i → ⊥) → r'.origin (infant l) j ≡ r.origin (infant l) j
       other j d = origin_stays (Activity.Rebalance (Rebalance.Write (Write.Version i))) h (infant l) j (λ c. d c.1)
 
-      now : (j : ℕ) (o : Option Cell) → j ≡ i → slice_get (infant_cells l) j ≡ o → r'.origin (infant l) j ≡ copied r.origin l.row o
-      now j o d g = ap (r'.origin (infant l)) d ∙ origin_copied i h ∙ ap (λ (y : ℕ). copied r.origin l.row (slice_get (infant_cells l) y)) (sym d) ∙ ap (copied r.origin l.row) g
+      now : (j : ℕ) (o : Option Cell) → j ≡ i → slice_get (infant_cells l) j ≡ o → r'.origin (infant l) j ≡ copied z r.origin l o
+      now j o d g = ap (r'.origin (infant l)) d ∙ origin_copied i h ∙ ap (λ (y : ℕ). copied z r.origin l (slice_get (infant_cells l) y)) (sym d) ∙ ap (copied z r.origin l) g
 
       which : (j : ℕ) (c : Cell) → j < z.cells → j ≤ i → slice_get (infant_cells l) j ≡ Some c → (j ≡ i) ⊎ (j ≡ i → ⊥) → (p : ℕ) × (r'.origin (infant l) j ≡ Some p) × IsCellOf r'.history c p
       which j c u m g (inl d) =
-          let y : IsGathered r.history r.origin l.row c = subst (IsGathered r.history r.origin l.row) (get_or_from_slice_get (infant_cells l) j c c g) (All-get_or (IsGathered r.history r.origin l.row) (infant_cells l) j c (slice_get_within (infant_cells l) j c g) gathered) in
+          let y = cell_has (IsGathered r.history (source z r.origin l)) (infant_cells l) j c g gathered in
           (y.put, now j (Some c) d g ∙ y.origin, cell_lasts r.history r'.history e st c y.put y.is)
       which j c u m g (inr d) = let y = x.origin j c u (omega (arith, m, d)) g in (y.0, other j d ∙ y.1, cell_lasts r.history r'.history e st c y.0 y.2)
 
-      full : (c : ℕ) → r'.origin l.row c ≡ r.origin l.row c
-      full c = origin_stays (Activity.Rebalance (Rebalance.Write (Write.Version i))) h l.row c (λ m. apart m.0)
+      full : (j : ℕ) (c : Cell) → slice_get (infant_cells l) j ≡ Some c → source z r'.origin l c.place ≡ source z r.origin l c.place
+      full j c g = origin_stays (Activity.Rebalance (Rebalance.Write (Write.Version i))) h (row_at z l c.place) (cell_at z c.place) (λ m. apart l.rebalance.at j c g m.0)
 
-      of_cell : (j : ℕ) (c : Cell) → j < z.cells → j ≤ i → slice_get (infant_cells l) j ≡ Some c → (j ≡ i) ⊎ (j ≡ i → ⊥) → r'.origin (infant l) j ≡ r'.origin l.row c.place
-      of_cell j c u m g (inl d) = now j (Some c) d g ∙ sym (full c.place)
-      of_cell j c u m g (inr d) = other j d ∙ x.gathered j c u (omega (arith, m, d)) g ∙ sym (full c.place)
+      of_cell : (j : ℕ) (c : Cell) → j < z.cells → j ≤ i → slice_get (infant_cells l) j ≡ Some c → (j ≡ i) ⊎ (j ≡ i → ⊥) → r'.origin (infant l) j ≡ source z r'.origin l c.place
+      of_cell j c u m g (inl d) = now j (Some c) d g ∙ sym (full j c g)
+      of_cell j c u m g (inr d) = other j d ∙ x.gathered j c u (omega (arith, m, d)) g ∙ sym (full j c g)
 
       none : (j : ℕ) → j < z.cells → j ≤ i → slice_get (infant_cells l) j ≡ None → (j ≡ i) ⊎ (j ≡ i → ⊥) → r'.origin (infant l) j ≡ None
       none j u m g (inl d) = now j None d g
@@ -167,7 +179,7 @@ module _ {z : Sizes} {r r' : Run} {s : ℕ} {choice : Choice} {l l' : Local} {e 
   pub copies_link : (i : ℕ) → Happens z r r' s choice l l' (Activity.Rebalance (Rebalance.Write (Write.After i))) → Copied z r.history r.origin r.listed (Activity.Rebalance (Rebalance.Write (Write.After i))) l (infant l) → Copied z r'.history r'.origin r'.listed (Activity.Rebalance (Rebalance.Write (Write.Key (i + 1)))) l (infant l)
   copies_link i h x = record {
     origin = λ j c u m g. let y = x.origin j c u (omega (arith, m)) g in (y.0, origin_stays (Activity.Rebalance (Rebalance.Write (Write.After i))) h (infant l) j (λ c. c) ∙ y.1, cell_lasts r.history r'.history e st c y.0 y.2);
-    gathered = λ j c u m g. origin_stays (Activity.Rebalance (Rebalance.Write (Write.After i))) h (infant l) j (λ c. c) ∙ x.gathered j c u (omega (arith, m)) g ∙ sym (origin_stays (Activity.Rebalance (Rebalance.Write (Write.After i))) h l.row c.place (λ c. c));
+    gathered = λ j c u m g. origin_stays (Activity.Rebalance (Rebalance.Write (Write.After i))) h (infant l) j (λ c. c) ∙ x.gathered j c u (omega (arith, m)) g ∙ sym (origin_stays (Activity.Rebalance (Rebalance.Write (Write.After i))) h (row_at z l c.place) (cell_at z c.place) (λ c. c));
     rest = λ j u m g. origin_stays (Activity.Rebalance (Rebalance.Write (Write.After i))) h (infant l) j (λ c. c) ∙ x.rest j u (omega (arith, m)) g;
     listed = λ j u m. which j u m (cases_eq j i);
     unlisted = λ n j m. back j m (cases_eq j i) (cases_lt i (length (infant_cells l)));
@@ -213,15 +225,15 @@ module _ (z : Sizes) (h : History) (o : Origins) (f : Listed) where
   -- a row is written
   copies_at : (b : Activity) (l : Local) → nursing_of b ≡ Writes → Copies z h o f l b → Copying z h o f b (record l { activity = b })
   copies_at b l e x = record {
-    whole = λ i q u g. copied_like z h o f (Activity.Rebalance (Rebalance.Replace Replace.Start)) (Activity.Rebalance (Rebalance.Replace Replace.Start)) (at_infant i l) (at_infant i (record l { activity = b })) q refl refl (λ j n m. m) (λ j n m. m) (λ n. (tt, λ j m. m)) (x.whole i q (subst (λ n. IsWhole n (record l { activity = b }) i) e u) g);
-    words = λ n. copied_like z h o f b b l (record l { activity = b }) (infant l) refl refl (λ j n m. m) (λ j n m. m) (λ n. (n, λ j m. m)) x.words;
+    whole = λ i q u g. copied_like z h o f (Activity.Rebalance (Rebalance.Replace Replace.Start)) (Activity.Rebalance (Rebalance.Replace Replace.Start)) (at_infant i l) (at_infant i (record l { activity = b })) q refl refl refl (λ j n m. m) (λ j n m. m) (λ n. (tt, λ j m. m)) (x.whole i q (subst (λ n. IsWhole n (record l { activity = b }) i) e u) g);
+    words = λ n. copied_like z h o f b b l (record l { activity = b }) (infant l) refl refl refl (λ j n m. m) (λ j n m. m) (λ n. (n, λ j m. m)) x.words;
   }
 
   -- all are
-  copies_linking : (b : Activity) (l k : Local) → nursing_of b ≡ Links → k.rebalance.taken ≡ l.rebalance.taken → k.row ≡ l.row → ((i : ℕ) → infant_cells (at_infant i k) ≡ infant_cells (at_infant i l)) →
+  copies_linking : (b : Activity) (l k : Local) → nursing_of b ≡ Links → k.rebalance.taken ≡ l.rebalance.taken → k.row ≡ l.row → k.rebalance.second ≡ l.rebalance.second → ((i : ℕ) → infant_cells (at_infant i k) ≡ infant_cells (at_infant i l)) →
       ((i q : ℕ) → slice_get l.rebalance.taken i ≡ Some q → Copied z h o f (Activity.Rebalance (Rebalance.Replace Replace.Start)) (at_infant i l) q) → Copying z h o f b k
-  copies_linking b l k e t row same x = record {
-    whole = λ i q u g. copied_like z h o f (Activity.Rebalance (Rebalance.Replace Replace.Start)) (Activity.Rebalance (Rebalance.Replace Replace.Start)) (at_infant i l) (at_infant i k) q (same i) row (λ j n m. m) (λ j n m. m) (λ n. (tt, λ j m. m)) (x i q (subst (λ (xs : List ℕ). slice_get xs i ≡ Some q) t g));
+  copies_linking b l k e t row second same x = record {
+    whole = λ i q u g. copied_like z h o f (Activity.Rebalance (Rebalance.Replace Replace.Start)) (Activity.Rebalance (Rebalance.Replace Replace.Start)) (at_infant i l) (at_infant i k) q (same i) row second (λ j n m. m) (λ j n m. m) (λ n. (tt, λ j m. m)) (x i q (subst (λ (xs : List ℕ). slice_get xs i ≡ Some q) t g));
     words = λ n. absurd (subst IsWriting e n);
   }
 
@@ -250,7 +262,7 @@ module _ (z : Sizes) (h : History) (o : Origins) (f : Listed) where
   copies_taken rows k next (wants_more m u y) = copies_seek rows k next y
   copies_taken rows k next (has_enough u) = record { whole = λ i q w g. absurd (omega (arith, w)); words = λ w. copied_none z h o f _ _ }
 
-  module _ (l : Local) (short : (i : ℕ) → length (infant_cells (at_infant i l)) ≤ z.cells) (n : ℕ) (done : z.cells ≤ n) (x : Copies z h o f l (Activity.Rebalance (Rebalance.Write (Write.Key n)))) where
+  module _ (l : Local) (short : (i : ℕ) → i < length l.rebalance.taken → length (infant_cells (at_infant i l)) ≤ z.cells) (n : ℕ) (done : z.cells ≤ n) (x : Copies z h o f l (Activity.Rebalance (Rebalance.Write (Write.Key n)))) where
     -- a row up to the one at hand, which is whole now
     copies_up_to : (i q : ℕ) → i ≤ l.rebalance.at → slice_get l.rebalance.taken i ≡ Some q → l.rebalance.at < length l.rebalance.taken → Copied z h o f (Activity.Rebalance (Rebalance.Replace Replace.Start)) (at_infant i l) q
     copies_up_to i q u g hand = which (cases_eq i l.rebalance.at)
@@ -259,18 +271,18 @@ module _ (z : Sizes) (h : History) (o : Origins) (f : Listed) where
         which (inl e) =
             let same : infant l ≡ q = same_Some (infant l) q (sym (infant_at l hand) ∙ ap (slice_get l.rebalance.taken) (sym e) ∙ g) in
             let cells : infant_cells (at_infant i l) ≡ infant_cells l = ap (λ (y : ℕ). infant_cells (at_infant y l)) e in
-            subst (Copied z h o f (Activity.Rebalance (Rebalance.Replace Replace.Start)) (at_infant i l)) same (copied_whole z h o f l (at_infant i l) (infant l) n cells refl done (short l.rebalance.at) x.words)
+            subst (Copied z h o f (Activity.Rebalance (Rebalance.Replace Replace.Start)) (at_infant i l)) same (copied_whole z h o f l (at_infant i l) (infant l) n cells refl refl done (short l.rebalance.at hand) x.words)
         which (inr d) = x.whole i q (omega (arith, u, d)) g
 
     -- the next row is at hand, or all are written
     copies_row : (next : Local) → l.rebalance.at < length l.rebalance.taken → NextNewRow l next → Copying z h o f next.activity next
     copies_row next hand (writes_row u) = record {
-      whole = λ i q w g. copied_like z h o f (Activity.Rebalance (Rebalance.Replace Replace.Start)) (Activity.Rebalance (Rebalance.Replace Replace.Start)) (at_infant i l) _ q refl refl (λ j n m. m) (λ j n m. m) (λ n. (tt, λ j m. m)) (copies_up_to i q (omega (arith, w)) g hand);
+      whole = λ i q w g. copied_like z h o f (Activity.Rebalance (Rebalance.Replace Replace.Start)) (Activity.Rebalance (Rebalance.Replace Replace.Start)) (at_infant i l) _ q refl refl refl (λ j n m. m) (λ j n m. m) (λ n. (tt, λ j m. m)) (copies_up_to i q (omega (arith, w)) g hand);
       words = λ w. copied_none z h o f _ _;
     }
-    copies_row next hand (has_written u) = copies_linking (Activity.Rebalance (Rebalance.Replace Replace.Start)) l _ refl refl refl (λ i. refl) (λ i q g. copies_up_to i q (omega (arith, slice_get_within l.rebalance.taken i q g, u)) g hand)
+    copies_row next hand (has_written u) = copies_linking (Activity.Rebalance (Rebalance.Replace Replace.Start)) l _ refl refl refl refl (λ i. refl) (λ i q g. copies_up_to i q (omega (arith, slice_get_within l.rebalance.taken i q g, u)) g hand)
 
-  module _ (l : Local) (short : (i : ℕ) → length (infant_cells (at_infant i l)) ≤ z.cells) (hand : l.rebalance.at < length l.rebalance.taken) where
+  module _ (l : Local) (short : (i : ℕ) → i < length l.rebalance.taken → length (infant_cells (at_infant i l)) ≤ z.cells) (hand : l.rebalance.at < length l.rebalance.taken) where
     -- the next cell is, or all are
     copies_cell : (n : ℕ) (next : Local) → NextNewCell z n l next → Copies z h o f l (Activity.Rebalance (Rebalance.Write (Write.Key n))) → Copying z h o f next.activity next
     copies_cell n next (fills u w) x = copies_at (Activity.Rebalance (Rebalance.Write (Write.Key n))) l refl x
@@ -286,15 +298,15 @@ module _ {z : Sizes} {r r' : Run} {s : ℕ} {choice : Choice} {l k : Local} {e :
   -- an event that writes a word of the row at hand, and changes no copy and no listed cell of
   -- another one
   copies_on : (a b : Activity) → Happens z r r' s choice l k a → nursing_of a ≡ Writes → ((q c : ℕ) → (q ≡ infant l → ⊥) → ChangesOrigin a l q c → ⊥) → ((q c : ℕ) → (q ≡ infant l → ⊥) → ChangesListed a l q c → ⊥) →
-      Infants z (word z r.world) r.ledger.rows s a l → (l.row ≡ infant l → ⊥) → Copying z r.history r.origin r.listed a l → (Copied z r.history r.origin r.listed a l (infant l) → Copied z r'.history r'.origin r'.listed b l (infant l)) → Copies z r'.history r'.origin r'.listed l b
+      Infants z (word z r.world) r.ledger.rows s a l → AreApart z l → Copying z r.history r.origin r.listed a l → (Copied z r.history r.origin r.listed a l (infant l) → Copied z r'.history r'.origin r'.listed b l (infant l)) → Copies z r'.history r'.origin r'.listed l b
   copies_on a b h w origins listed n row x f =
       let y = copies_of z r.history r.origin r.listed a l w x in
       record {
         whole = λ i q u g.
             let apart : q ≡ infant l → ⊥ = λ c. (let m : i ≡ l.rebalance.at = n.apart i l.rebalance.at q (nursed i) (nursed l.rebalance.at) g (infant_at l hand ∙ ap Some (sym c)) in omega (arith, u, m)) in
-            copied_goes z r.history r'.history e r.origin r'.origin r.listed r'.listed (Activity.Rebalance (Rebalance.Replace Replace.Start)) (Activity.Rebalance (Rebalance.Replace Replace.Start)) (at_infant i l) (at_infant i l) q st refl refl (λ j t m. m) (λ j t m. m) (λ t. (tt, λ j m. m))
+            copied_goes z r.history r'.history e r.origin r'.origin r.listed r'.listed (Activity.Rebalance (Rebalance.Replace Replace.Start)) (Activity.Rebalance (Rebalance.Replace Replace.Start)) (at_infant i l) (at_infant i l) q st refl refl refl (λ j t m. m) (λ j t m. m) (λ t. (tt, λ j m. m))
             (λ j. origin_stays a h q j (origins q j apart))
-            (λ c. origin_stays a h l.row c (origins l.row c row))
+            (λ j c g. origin_stays a h (row_at z l c.place) (cell_at z c.place) (origins (row_at z l c.place) (cell_at z c.place) (row i j c g)))
             (λ j. listed_stays a h q j (listed q j apart))
             (y.whole i q u g);
         words = f y.words;
@@ -310,29 +322,29 @@ module _ {z : Sizes} {r r' : Run} {s : ℕ} {choice : Choice} {l k : Local} {e :
   copies_stay : (a b : Activity) → Happens z r r' s choice l k a → ((q c : ℕ) → ChangesOrigin a l q c → ⊥) → ((q c : ℕ) → ChangesListed a l q c → ⊥) →
       ((j : ℕ) → j < z.cells → HasVersion b j → HasVersion a j) → ((j : ℕ) → j < length (infant_cells l) → HasAfter b j → HasAfter a j) → (HasCount b → HasCount a × ((j : ℕ) → HasAfter a j → HasAfter b j)) →
       Copied z r.history r.origin r.listed a l (infant l) → Copied z r'.history r'.origin r'.listed b l (infant l)
-  copies_stay a b h origins listed version after count x = copied_goes z r.history r'.history e r.origin r'.origin r.listed r'.listed a b l l (infant l) st refl refl version after count (λ j. origin_stays a h (infant l) j (origins (infant l) j)) (λ c. origin_stays a h l.row c (origins l.row c)) (λ j. listed_stays a h (infant l) j (listed (infant l) j)) x
+  copies_stay a b h origins listed version after count x = copied_goes z r.history r'.history e r.origin r'.origin r.listed r'.listed a b l l (infant l) st refl refl refl version after count (λ j. origin_stays a h (infant l) j (origins (infant l) j)) (λ j c g. origin_stays a h (row_at z l c.place) (cell_at z c.place) (origins (row_at z l c.place) (cell_at z c.place))) (λ j. listed_stays a h (infant l) j (listed (infant l) j)) x
 
   -- one of a seat that has written all, and goes on to link them
   copies_link_on : (a b : Activity) (m : Local) → Happens z r r' s choice l k a → nursing_of a ≡ Links → nursing_of b ≡ Links → ((q c : ℕ) → ChangesOrigin a l q c → ⊥) → ((q c : ℕ) → ChangesListed a l q c → ⊥) →
-      m.rebalance.taken ≡ l.rebalance.taken → m.row ≡ l.row → ((i : ℕ) → infant_cells (at_infant i m) ≡ infant_cells (at_infant i l)) → Copying z r.history r.origin r.listed a l → Copying z r'.history r'.origin r'.listed b m
-  copies_link_on a b m h w u origins listed t row same x = copies_linking z r'.history r'.origin r'.listed b l m u t row same
-      (λ i q g. copied_goes z r.history r'.history e r.origin r'.origin r.listed r'.listed (Activity.Rebalance (Rebalance.Replace Replace.Start)) (Activity.Rebalance (Rebalance.Replace Replace.Start)) (at_infant i l) (at_infant i l) q st refl refl (λ j t m. m) (λ j t m. m) (λ t. (tt, λ j m. m))
+      m.rebalance.taken ≡ l.rebalance.taken → m.row ≡ l.row → m.rebalance.second ≡ l.rebalance.second → ((i : ℕ) → infant_cells (at_infant i m) ≡ infant_cells (at_infant i l)) → Copying z r.history r.origin r.listed a l → Copying z r'.history r'.origin r'.listed b m
+  copies_link_on a b m h w u origins listed t row second same x = copies_linking z r'.history r'.origin r'.listed b l m u t row second same
+      (λ i q g. copied_goes z r.history r'.history e r.origin r'.origin r.listed r'.listed (Activity.Rebalance (Rebalance.Replace Replace.Start)) (Activity.Rebalance (Rebalance.Replace Replace.Start)) (at_infant i l) (at_infant i l) q st refl refl refl (λ j t m. m) (λ j t m. m) (λ t. (tt, λ j m. m))
       (λ j. origin_stays a h q j (origins q j))
-      (λ c. origin_stays a h l.row c (origins l.row c))
+      (λ j c g. origin_stays a h (row_at z l c.place) (cell_at z c.place) (origins (row_at z l c.place) (cell_at z c.place)))
       (λ j. listed_stays a h q j (listed q j))
       (x.whole i q (subst (λ n. IsWhole n l i) (sym w) tt) g))
 
   -- where the search for the row before begins
   copies_before : (a : Activity) → Happens z r r' s choice l k a → nursing_of a ≡ Links → ((q c : ℕ) → ChangesOrigin a l q c → ⊥) → ((q c : ℕ) → ChangesListed a l q c → ⊥) → (q : ℕ) (next : Local) → NextBefore q l next → Copying z r.history r.origin r.listed a l → Copying z r'.history r'.origin r'.listed next.activity next
-  copies_before a h w origins listed q next (is_first c) x = copies_link_on a (Activity.Rebalance (Rebalance.Replace Replace.Exchange)) _ h w refl origins listed refl refl (λ i. refl) x
-  copies_before a h w origins listed q next (is_behind c) x = copies_link_on a (Activity.Rebalance (Rebalance.Replace Replace.Next)) _ h w refl origins listed refl refl (λ i. refl) x
+  copies_before a h w origins listed q next (is_first c) x = copies_link_on a (Activity.Rebalance (Rebalance.Replace Replace.Exchange)) _ h w refl origins listed refl refl refl (λ i. refl) x
+  copies_before a h w origins listed q next (is_behind c) x = copies_link_on a (Activity.Rebalance (Rebalance.Replace Replace.Next)) _ h w refl origins listed refl refl refl (λ i. refl) x
 
 -- Each event of the seat that writes rows.
 
-module _ {z : Sizes} {r r' : Run} {s : ℕ} {choice : Choice} {l : Local} {e : Logged} (st : Step r.history r'.history e) (short : (i : ℕ) → length (infant_cells (at_infant i l)) ≤ z.cells) where
+module _ {z : Sizes} {r r' : Run} {s : ℕ} {choice : Choice} {l : Local} {e : Logged} (st : Step r.history r'.history e) (short : (i : ℕ) → i < length l.rebalance.taken → length (infant_cells (at_infant i l)) ≤ z.cells) where
   -- it keeps what the seat knows of the rows, from what is gathered of the cells that it kept
-  pub copies_own : (a : Activity) (k : Local) → Building z (word z r.world) choice l a k → Happens z r r' s choice l k a → Infants z (word z r.world) r.ledger.rows s a l → (HasPlanned (nursing_of a) → All (IsGathered r.history r.origin l.row) l.rebalance.kept) →
-      (IsWriting (nursing_of a) → l.row ≡ infant l → ⊥) → Copying z r.history r.origin r.listed a l → Copying z r'.history r'.origin r'.listed k.activity k
+  pub copies_own : (a : Activity) (k : Local) → Building z (word z r.world) choice l a k → Happens z r r' s choice l k a → Infants z (word z r.world) r.ledger.rows s a l → (HasPlanned (nursing_of a) → All (IsGathered r.history (source z r.origin l)) l.rebalance.kept) →
+      (IsWriting (nursing_of a) → AreApart z l) → Copying z r.history r.origin r.listed a l → Copying z r'.history r'.origin r'.listed k.activity k
   copies_own a k (first_is_free q c y) h n p w x = copies_nowhere z r'.history r'.origin r'.listed (Activity.Rebalance (Rebalance.Seek Seek.Take)) _ (λ i w. w) (λ w. w)
   copies_own a k (first_is_taken q rows next c m y) h n p w x = copies_seek z r'.history r'.origin r'.listed rows _ next y
   copies_own a k (sought_is_free y) h n p w x = copies_nowhere z r'.history r'.origin r'.listed (Activity.Rebalance (Rebalance.Seek Seek.Take)) _ (λ i w. w) (λ w. w)
@@ -353,20 +365,20 @@ module _ {z : Sizes} {r r' : Run} {s : ℕ} {choice : Choice} {l : Local} {e : L
   copies_own a k (built.writes_entry i next y) h n p w x = copies_entry z r'.history r'.origin r'.listed l short (n.hand tt) (i + 1) next y (copies_on st (Activity.Rebalance (Rebalance.Write (Write.Entry i))) (Activity.Rebalance (Rebalance.Write (Write.Entry (i + 1)))) h refl (λ q c d m. m) (λ q c d m. m) n (w tt) x (copies_stay st (Activity.Rebalance (Rebalance.Write (Write.Entry i))) (Activity.Rebalance (Rebalance.Write (Write.Entry (i + 1)))) h (λ q c m. m) (λ q c m. m) (λ j t m. m) (λ j t m. m) (λ t. (tt, λ j m. m))))
   copies_own a k (built.writes_key i) h n p w x = copies_at z r'.history r'.origin r'.listed (Activity.Rebalance (Rebalance.Write (Write.Value i))) l refl (copies_on st (Activity.Rebalance (Rebalance.Write (Write.Key i))) (Activity.Rebalance (Rebalance.Write (Write.Value i))) h refl (λ q c d m. m) (λ q c d m. m) n (w tt) x (copies_stay st (Activity.Rebalance (Rebalance.Write (Write.Key i))) (Activity.Rebalance (Rebalance.Write (Write.Value i))) h (λ q c m. m) (λ q c m. m) (λ j t m. m) (λ j t m. m) (λ t. (tt, λ j m. m))))
   copies_own a k (built.writes_value i) h n p w x = copies_at z r'.history r'.origin r'.listed (Activity.Rebalance (Rebalance.Write (Write.Version i))) l refl (copies_on st (Activity.Rebalance (Rebalance.Write (Write.Value i))) (Activity.Rebalance (Rebalance.Write (Write.Version i))) h refl (λ q c d m. m) (λ q c d m. m) n (w tt) x (copies_stay st (Activity.Rebalance (Rebalance.Write (Write.Value i))) (Activity.Rebalance (Rebalance.Write (Write.Version i))) h (λ q c m. m) (λ q c m. m) (λ j t m. m) (λ j t m. m) (λ t. (tt, λ j m. m))))
-  copies_own a k (built.writes_version i u) h n p w x = copies_at z r'.history r'.origin r'.listed (Activity.Rebalance (Rebalance.Write (Write.After i))) l refl (copies_on st (Activity.Rebalance (Rebalance.Write (Write.Version i))) (Activity.Rebalance (Rebalance.Write (Write.After i))) h refl (λ q c d m. d m.0) (λ q c d m. m) n (w tt) x (copies_version st i h (w tt) (all_part (IsGathered r.history r.origin l.row) _ _ l.rebalance.kept (p tt))))
-  copies_own a k (built.writes_no_cell i next u y) h n p w x = copies_cell z r'.history r'.origin r'.listed l short (n.hand tt) (i + 1) next y (copies_on st (Activity.Rebalance (Rebalance.Write (Write.Version i))) (Activity.Rebalance (Rebalance.Write (Write.Key (i + 1)))) h refl (λ q c d m. d m.0) (λ q c d m. m) n (w tt) x (λ m. copied_no_cell z r'.history r'.origin r'.listed l (infant l) i u (copies_version st i h (w tt) (all_part (IsGathered r.history r.origin l.row) _ _ l.rebalance.kept (p tt)) m)))
+  copies_own a k (built.writes_version i u) h n p w x = copies_at z r'.history r'.origin r'.listed (Activity.Rebalance (Rebalance.Write (Write.After i))) l refl (copies_on st (Activity.Rebalance (Rebalance.Write (Write.Version i))) (Activity.Rebalance (Rebalance.Write (Write.After i))) h refl (λ q c d m. d m.0) (λ q c d m. m) n (w tt) x (copies_version st i h (w tt) (all_part (IsGathered r.history (source z r.origin l)) _ _ l.rebalance.kept (p tt))))
+  copies_own a k (built.writes_no_cell i next u y) h n p w x = copies_cell z r'.history r'.origin r'.listed l short (n.hand tt) (i + 1) next y (copies_on st (Activity.Rebalance (Rebalance.Write (Write.Version i))) (Activity.Rebalance (Rebalance.Write (Write.Key (i + 1)))) h refl (λ q c d m. d m.0) (λ q c d m. m) n (w tt) x (λ m. copied_no_cell z r'.history r'.origin r'.listed l (infant l) i u (copies_version st i h (w tt) (all_part (IsGathered r.history (source z r.origin l)) _ _ l.rebalance.kept (p tt)) m)))
   copies_own a k (built.writes_after i next y) h n p w x = copies_cell z r'.history r'.origin r'.listed l short (n.hand tt) (i + 1) next y (copies_on st (Activity.Rebalance (Rebalance.Write (Write.After i))) (Activity.Rebalance (Rebalance.Write (Write.Key (i + 1)))) h refl (λ q c d m. m) (λ q c d m. d m.0) n (w tt) x (copies_link st i h))
   copies_own a k (begins_before next y) h n p w x = copies_before st (Activity.Rebalance (Rebalance.Replace Replace.Start)) h refl (λ q c m. m) (λ q c m. m) _ next y x
-  copies_own a k (guesses_before q c y) h n p w x = copies_link_on st (Activity.Rebalance (Rebalance.Replace Replace.Start)) (Activity.Rebalance (Rebalance.Replace Replace.GuessedLeast)) _ h refl refl (λ q c m. m) (λ q c m. m) refl refl (λ i. refl) x
-  copies_own a k guess_before_fails h n p w x = copies_link_on st (Activity.Rebalance (Rebalance.Replace Replace.Start)) (Activity.Rebalance (Rebalance.Replace Replace.First)) _ h refl refl (λ q c m. m) (λ q c m. m) refl refl (λ i. refl) x
-  copies_own a k (before_serves o) h n p w x = copies_link_on st (Activity.Rebalance (Rebalance.Replace Replace.GuessedLeast)) (Activity.Rebalance (Rebalance.Replace Replace.Next)) _ h refl refl (λ q c m. m) (λ q c m. m) refl refl (λ i. refl) x
-  copies_own a k (before_is_above o) h n p w x = copies_link_on st (Activity.Rebalance (Rebalance.Replace Replace.GuessedLeast)) (Activity.Rebalance (Rebalance.Replace Replace.First)) _ h refl refl (λ q c m. m) (λ q c m. m) refl refl (λ i. refl) x
+  copies_own a k (guesses_before q c y) h n p w x = copies_link_on st (Activity.Rebalance (Rebalance.Replace Replace.Start)) (Activity.Rebalance (Rebalance.Replace Replace.GuessedLeast)) _ h refl refl (λ q c m. m) (λ q c m. m) refl refl refl (λ i. refl) x
+  copies_own a k guess_before_fails h n p w x = copies_link_on st (Activity.Rebalance (Rebalance.Replace Replace.Start)) (Activity.Rebalance (Rebalance.Replace Replace.First)) _ h refl refl (λ q c m. m) (λ q c m. m) refl refl refl (λ i. refl) x
+  copies_own a k (before_serves o) h n p w x = copies_link_on st (Activity.Rebalance (Rebalance.Replace Replace.GuessedLeast)) (Activity.Rebalance (Rebalance.Replace Replace.Next)) _ h refl refl (λ q c m. m) (λ q c m. m) refl refl refl (λ i. refl) x
+  copies_own a k (before_is_above o) h n p w x = copies_link_on st (Activity.Rebalance (Rebalance.Replace Replace.GuessedLeast)) (Activity.Rebalance (Rebalance.Replace Replace.First)) _ h refl refl (λ q c m. m) (λ q c m. m) refl refl refl (λ i. refl) x
   copies_own a k (takes_head_before next y) h n p w x = copies_before st (Activity.Rebalance (Rebalance.Replace Replace.First)) h refl (λ q c m. m) (λ q c m. m) _ next y x
-  copies_own a k (leads_to_full y) h n p w x = copies_link_on st (Activity.Rebalance (Rebalance.Replace Replace.Next)) (Activity.Rebalance (Rebalance.Replace Replace.Exchange)) _ h refl refl (λ q c m. m) (λ q c m. m) refl refl (λ i. refl) x
+  copies_own a k (leads_to_full y) h n p w x = copies_link_on st (Activity.Rebalance (Rebalance.Replace Replace.Next)) (Activity.Rebalance (Rebalance.Replace Replace.Exchange)) _ h refl refl (λ q c m. m) (λ q c m. m) refl refl refl (λ i. refl) x
   copies_own a k (leads_on_marked next c y) h n p w x = copies_back z r'.history r'.origin r'.listed _ l next y
-  copies_own a k (leads_to_other q y d) h n p w x = copies_link_on st (Activity.Rebalance (Rebalance.Replace Replace.Next)) (Activity.Rebalance (Rebalance.Replace Replace.NextLeast)) _ h refl refl (λ q c m. m) (λ q c m. m) refl refl (λ i. refl) x
+  copies_own a k (leads_to_other q y d) h n p w x = copies_link_on st (Activity.Rebalance (Rebalance.Replace Replace.Next)) (Activity.Rebalance (Rebalance.Replace Replace.NextLeast)) _ h refl refl (λ q c m. m) (λ q c m. m) refl refl refl (λ i. refl) x
   copies_own a k (leads_nowhere next c y) h n p w x = copies_back z r'.history r'.origin r'.listed _ l next y
-  copies_own a k (walks_before o) h n p w x = copies_link_on st (Activity.Rebalance (Rebalance.Replace Replace.NextLeast)) (Activity.Rebalance (Rebalance.Replace Replace.Next)) _ h refl refl (λ q c m. m) (λ q c m. m) refl refl (λ i. refl) x
+  copies_own a k (walks_before o) h n p w x = copies_link_on st (Activity.Rebalance (Rebalance.Replace Replace.NextLeast)) (Activity.Rebalance (Rebalance.Replace Replace.Next)) _ h refl refl (λ q c m. m) (λ q c m. m) refl refl refl (λ i. refl) x
   copies_own a k (walks_past next o y) h n p w x = copies_back z r'.history r'.origin r'.listed _ l next y
   copies_own a k (replaces_row y) h n p w x = copies_nowhere z r'.history r'.origin r'.listed (Activity.Rebalance (Rebalance.Replace Replace.Normalise)) _ (λ i w. w) (λ w. w)
   copies_own a k (is_marked_before next c y) h n p w x = copies_back z r'.history r'.origin r'.listed _ l next y
@@ -374,8 +386,9 @@ module _ {z : Sizes} {r r' : Run} {s : ℕ} {choice : Choice} {l : Local} {e : L
   copies_own a k (makes_normal o) h n p w x = copies_nowhere z r'.history r'.origin r'.listed (Activity.Rebalance (Rebalance.Replace Replace.Normalise)) _ (λ i w. w) (λ w. w)
   copies_own a k (makes_last_normal o) h n p w x = copies_nowhere z r'.history r'.origin r'.listed (Activity.Rebalance (Rebalance.Replace Replace.Number)) _ (λ i w. w) (λ w. w)
   copies_own a k draws_number h n p w x = copies_nowhere z r'.history r'.origin r'.listed (Activity.Rebalance (Rebalance.Replace Replace.Retire)) _ (λ i w. w) (λ w. w)
-  copies_own a k (retires_row nd) h n p w x = copies_nowhere z r'.history r'.origin r'.listed Activity.Retry _ (λ i w. w) (λ w. w)
-  copies_own a k (retires_and_leaves dn) h n p w x = copies_nowhere z r'.history r'.origin r'.listed (Activity.Leave _) _ (λ i w. w) (λ w. w)
+  copies_own a k (retires_ahead q o) h n p w x = copies_nowhere z r'.history r'.origin r'.listed (Activity.Rebalance (Rebalance.Replace Replace.Number)) _ (λ i w. w) (λ w. w)
+  copies_own a k (retires_row o nd) h n p w x = copies_nowhere z r'.history r'.origin r'.listed Activity.Retry _ (λ i w. w) (λ w. w)
+  copies_own a k (retires_and_leaves o dn) h n p w x = copies_nowhere z r'.history r'.origin r'.listed (Activity.Leave _) _ (λ i w. w) (λ w. w)
 
 -- Events of another seat.
 
@@ -417,41 +430,48 @@ writing_planned _ w = absurd w
 
 -- so what a seat knows of the rows that it took survives every event of another seat
 pub copies_stable : (z : Sizes) (h h' : History) (e : Logged) (o o' : Origins) (f f' : Listed) (g : Ledger) (t : ℕ) (a : Activity) (k : Local) → Step h h' e → ((q c : ℕ) → IsInfantOf g t q → (o' q c ≡ o q c) × (f' q c ≡ f q c)) →
-    ((i q : ℕ) → IsNursed (nursing_of a) k i → slice_get k.rebalance.taken i ≡ Some q → IsInfantOf g t q) → (HasAtHand (nursing_of a) → k.rebalance.at < length k.rebalance.taken) → (HasPlanned (nursing_of a) → (c : ℕ) → o' k.row c ≡ o k.row c) → Copying z h o f a k → Copying z h' o' f' a k
+    ((i q : ℕ) → IsNursed (nursing_of a) k i → slice_get k.rebalance.taken i ≡ Some q → IsInfantOf g t q) → (HasAtHand (nursing_of a) → k.rebalance.at < length k.rebalance.taken) → (HasPlanned (nursing_of a) → (i : ℕ) → SameSource z o o' (at_infant i k)) → Copying z h o f a k → Copying z h' o' f' a k
 copies_stable z h h' e o o' f f' g t a k st same owned hand full x = record {
-  whole = λ i q w y. let own = owned i q (whole_nursed (nursing_of a) k i w) y in copied_goes z h h' e o o' f f' (Activity.Rebalance (Rebalance.Replace Replace.Start)) (Activity.Rebalance (Rebalance.Replace Replace.Start)) (at_infant i k) (at_infant i k) q st refl refl (λ j n m. m) (λ j n m. m) (λ n. (tt, λ j m. m)) (λ j. (same q j own).0) (full (whole_planned (nursing_of a) k i w)) (λ j. (same q j own).1) (x.whole i q w y);
+  whole = λ i q w y. let own = owned i q (whole_nursed (nursing_of a) k i w) y in copied_goes z h h' e o o' f f' (Activity.Rebalance (Rebalance.Replace Replace.Start)) (Activity.Rebalance (Rebalance.Replace Replace.Start)) (at_infant i k) (at_infant i k) q st refl refl refl (λ j n m. m) (λ j n m. m) (λ n. (tt, λ j m. m)) (λ j. (same q j own).0) (full (whole_planned (nursing_of a) k i w) i) (λ j. (same q j own).1) (x.whole i q w y);
   words = λ w.
       let own = owned k.rebalance.at (infant k) (writing_nursed (nursing_of a) k k.rebalance.at w) (infant_at k (hand (writing_hand (nursing_of a) w))) in
-      copied_goes z h h' e o o' f f' a a k k (infant k) st refl refl (λ j n m. m) (λ j n m. m) (λ n. (n, λ j m. m)) (λ j. (same (infant k) j own).0) (full (writing_planned (nursing_of a) w)) (λ j. (same (infant k) j own).1) (x.words w);
+      copied_goes z h h' e o o' f f' a a k k (infant k) st refl refl refl (λ j n m. m) (λ j n m. m) (λ n. (n, λ j m. m)) (λ j. (same (infant k) j own).0) (full (writing_planned (nursing_of a) w) k.rebalance.at) (λ j. (same (infant k) j own).1) (x.words w);
 }
 
 -- In a run.
 
--- a new row has no more cells than a row has
-pub cells_short : (z : Sizes) (w : WorldView) (s : ℕ) (l : Local) → IsSane z w → slice_get w.locals s ≡ Some l → (i : ℕ) → length (infant_cells (at_infant i l)) ≤ z.cells
-cells_short z w s l sane knows i = omega (arith, part_length (end_of l.rebalance.kept l.rebalance.starts i - slice_index l.rebalance.starts i) (slice_index l.rebalance.starts i) l.rebalance.kept, (sane.locals s l knows).ranges.rebalance.few)
+-- a row that a seat took gets no more cells than a row has
+pub cells_short : (z : Sizes) (w : WorldView) (s : ℕ) (l : Local) → IsSane z w → slice_get w.locals s ≡ Some l → (i : ℕ) → i < length l.rebalance.taken → length (infant_cells (at_infant i l)) ≤ z.cells
+cells_short z w s l sane knows i o = let b = (sane.locals s l knows).ranges.rebalance in b.fits i (omega (arith, o, b.taken))
+
+-- its cells are of the group, where those that are kept are
+cell_of_group : (z : Sizes) (l : Local) → AreOfGroup z l l.rebalance.kept → (i j : ℕ) (c : Cell) → slice_get (infant_cells (at_infant i l)) j ≡ Some c → c.place < places z l.rebalance.second
+cell_of_group z l a i j c g = cell_has (λ c. c.place < places z l.rebalance.second) (infant_cells (at_infant i l)) j c g (all_part (λ c. c.place < places z l.rebalance.second) _ _ l.rebalance.kept a)
 
 module _ {z : Sizes} {r r' : Run} {s : ℕ} {choice : Choice} {l l' : Local} {e : Logged} (i : Below z r) (st : Step r.history r'.history e) where
   -- what a seat knows of the cells, at its activity
-  pub builds_at : (a : Activity) → Happens z r r' s choice l l' a → Builds z (row_in (word z r.world) l.row (r.listed l.row)) r.history r.origin r.listed a l
-  builds_at a h = subst (λ b. Builds z (row_in (word z r.world) l.row (r.listed l.row)) r.history r.origin r.listed b l) h.activity (i.puts.builds s l h.knows)
+  pub builds_at : (a : Activity) → Happens z r r' s choice l l' a → Builds z (row_in (word z r.world) l.rebalance.hand (r.listed l.rebalance.hand)) r.history r.origin r.listed a l
+  builds_at a h = subst (λ b. Builds z (row_in (word z r.world) l.rebalance.hand (r.listed l.rebalance.hand)) r.history r.origin r.listed b l) h.activity (i.puts.builds s l h.knows)
 
-  -- its full row is none that it writes
-  row_apart : (a : Activity) → Happens z r r' s choice l l' a → IsWriting (nursing_of a) → l.row ≡ infant l → ⊥
-  row_apart a h w e =
-      let p : HasGoneByAll z l.activity = planned_gone_by z l.activity (subst (λ b. HasPlanned (nursing_of b)) (sym h.activity) (writing_planned (nursing_of a) w)) in
-      linked_not_infant r.ledger.rows s (infant l) (subst (WasLinked r.ledger.rows) e (full_linked z r i.shape s l h.knows p.balances)) (hand_infant a h i.shape (writing_hand (nursing_of a) w))
+  -- no row of its group is one that it writes
+  rows_apart : (a : Activity) → Happens z r r' s choice l l' a → IsWriting (nursing_of a) → AreApart z l
+  rows_apart a h w j n c g e =
+      let p : HasPlanned (nursing_of l.activity) = subst (λ b. HasPlanned (nursing_of b)) (sym h.activity) (writing_planned (nursing_of a) w) in
+      let of = row_of_group z l c.place (cell_of_group z l (kept_of_group z r i s l h.knows p) j n c g) in
+      linked_not_infant r.ledger.rows s (infant l) (subst (WasLinked r.ledger.rows) e (rows_linked z r i s l h.knows (planned_frozen l.activity p) (row_at z l c.place) of)) (hand_infant a h i.shape (writing_hand (nursing_of a) w))
 
   -- after an event of its own that takes, writes or links rows
   pub copying_own : (a : Activity) → Building z (word z r.world) choice l a l' → Happens z r r' s choice l l' a → Copying z r'.history r'.origin r'.listed l'.activity l'
-  copying_own a y h = let b = builds_at a h in copies_own st (cells_short z r.world s l i.shape.sane h.knows) a l' y h (infants_at a h i.shape) b.kept (row_apart a h) (record { whole = b.whole; words = b.words })
+  copying_own a y h = let b = builds_at a h in copies_own st (cells_short z r.world s l i.shape.sane h.knows) a l' y h (infants_at a h i.shape) b.kept (rows_apart a h) (record { whole = b.whole; words = b.words })
 
   -- and after one of another seat
   pub copying_other : (a : Activity) → Happens z r r' s choice l l' a → (t : ℕ) (k : Local) → t ≢ s → slice_get r.world.locals t ≡ Some k → Copying z r'.history r'.origin r'.listed k.activity k
   copying_other a h t k d g =
       let b = i.puts.builds t k g in
       let n = i.shape.infants t k g in
-      copies_stable z r.history r'.history e r.origin r'.origin r.listed r'.listed r.ledger.rows t k.activity k st (λ q c x. infants_untouched a h i.shape t d q c x) n.owned n.hand (λ x. gone_by_same z r r' s choice l a l' h i t k g (planned_gone_by z k.activity x)) (record { whole = b.whole; words = b.words })
+      copies_stable z r.history r'.history e r.origin r'.origin r.listed r'.listed r.ledger.rows t k.activity k st (λ q c x. infants_untouched a h i.shape t d q c x) n.owned n.hand
+      (λ x j m c y. source_same z r r' s choice l a l' h i t k g (planned_frozen k.activity x) c.place (cell_of_group z k (kept_of_group z r i t k g x) j m c y))
+      (record { whole = b.whole; words = b.words })
 
 -- What a look, or a cell, leads to writes no row.
 
@@ -464,6 +484,19 @@ copies_left_over z h o f l n (goes_to_left_over m u) = copies_nowhere z h o f _ 
 copies_left_over z h o f l n (answers u c) = copies_nowhere z h o f _ _ (λ i w. w) (λ w. w)
 copies_left_over z h o f l n (ends_scan u c d) = copies_nowhere z h o f _ _ (λ i w. w) (λ w. w)
 copies_left_over z h o f l n (scans_on q u c d m) = copies_nowhere z h o f _ _ (λ i w. w) (λ w. w)
+
+-- nor does what follows where a row of the group is frozen, or gathered
+copies_frozen : (z : Sizes) (h : History) (o : Origins) (f : Listed) (l n : Local) → NextFrozen l n → Copying z h o f n.activity n
+copies_frozen z h o f l n (freezes_ahead q e) = copies_nowhere z h o f _ _ (λ i w. w) (λ w. w)
+copies_frozen z h o f l n (froze_all e) = copies_nowhere z h o f _ _ (λ i w. w) (λ w. w)
+
+copies_counted : (z : Sizes) (h : History) (o : Origins) (f : Listed) (count : ℕ) (l n : Local) → NextCounted count l n → Copying z h o f n.activity n
+copies_counted z h o f count l n (claims_row q two e) = copies_nowhere z h o f _ _ (λ i w. w) (λ w. w)
+copies_counted z h o f count l n (goes_alone d) = copies_nowhere z h o f _ _ (λ i w. w) (λ w. w)
+
+copies_gathered : (z : Sizes) (h : History) (o : Origins) (f : Listed) (l n : Local) → NextGathered z l n → Copying z h o f n.activity n
+copies_gathered z h o f l n (gathers_ahead q e) = copies_nowhere z h o f _ _ (λ i w. w) (λ w. w)
+copies_gathered z h o f l n (gathered_all e) = copies_nowhere z h o f _ _ (λ i w. w) (λ w. w)
 
 -- nor does any other event that neither takes nor writes nor links rows
 copies_by : (z : Sizes) (v : Words) (s : ℕ) (choice : Choice) (l : Local) (a : Activity) (l' : Local) (h : History) (o : Origins) (f : Listed) → Arrow z v s choice l a l' → (Building z v choice l a l' → Copying z h o f l'.activity l') → Copying z h o f l'.activity l'
@@ -479,6 +512,13 @@ copies_by z v s choice l a l' h o f (list_ends next e n) built = copies_left_ove
 copies_by z v s choice l a l' h o f (key_above next e n) built = copies_left_over z h o f _ next n
 copies_by z v s choice l a l' h o f (left_over_gone_by next e n) built = copies_left_over z h o f _ next n
 copies_by z v s choice l a l' h o f (gathers_left_over next n) built = copies_left_over z h o f _ next n
+copies_by z v s choice l a l' h o f (remembers_last j c version next e u n) built = copies_frozen z h o f _ next n
+copies_by z v s choice l a l' h o f (sees_frozen_last j next e u n) built = copies_frozen z h o f _ next n
+copies_by z v s choice l a l' h o f (freezes_last j next e u n) built = copies_frozen z h o f _ next n
+copies_by z v s choice l a l' h o f (takes_no_more next e m n) built = copies_gathered z h o f _ next n
+copies_by z v s choice l a l' h o f (keeps_no_more next m n) built = copies_gathered z h o f _ next n
+copies_by z v s choice l a l' h o f (marks_led count next d n) built = copies_counted z h o f _ _ next n
+copies_by z v s choice l a l' h o f (decides count m next e n) built = copies_counted z h o f _ _ next n
 copies_by z v s choice l a l' h o f _ built = copies_nowhere z h o f _ _ (λ i w. w) (λ w. w)
 
 -- So every event keeps it, for each seat.

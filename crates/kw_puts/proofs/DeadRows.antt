@@ -25,7 +25,7 @@ use Rattle.kw_world.specs.Sizes.{Sizes}
 use Rattle.kw_world.specs.Step.{word}
 use Rattle.kw_world.specs.WriteTransitions.{unmarked_link}
 use Rattle.kw_core.specs.Ledger as ledger
-use Rattle.kw_core.specs.Ledger.{fate_dead}
+use Rattle.kw_core.specs.Ledger.{fate_dead, group_of}
 use Rattle.kw_core.specs.declared.history.Attempt.{Attempt}
 use Rattle.kw_core.specs.History.{attempt}
 use Rattle.kw_core.specs.Run.{Run}
@@ -34,21 +34,23 @@ use Rattle.kw_core.specs.Step.{AttemptStep, Step, as_it_was, is_added, is_announ
 use Rattle.kw_core.proofs.Fates.{fate_of_freed, fate_of_full, fate_of_given, fate_of_new, fate_of_taken, fate_stays, none_freed, none_replaced, none_taken}
 use Rattle.kw_core.proofs.Happens.{Happens, log_entry}
 use Rattle.kw_core.proofs.Steps.{now_grows}
-use Rattle.kw_shape.proofs.LinkedRows.{ComesNow, balance_at, fresh_linked, linked_before, linked_keeps}
+use Rattle.kw_shape.proofs.Hands.{of_group}
+use Rattle.kw_shape.proofs.LinkedRows.{ComesNow, linked_before, linked_keeps}
 use Rattle.kw_puts.specs.Below.{Below}
-use Rattle.kw_puts.specs.Freezes.{Freezes, IsFrozen, IsSettled}
+use Rattle.kw_puts.specs.Freezes.{HasFrozen, HasPassed, IsFrozen, IsOfGroup, IsSettled}
 use Rattle.kw_puts.specs.Puts.{IsCurrent, IsHere, IsOld, IsOver, OwnsAttempt, entry_of}
 use Rattle.kw_puts.proofs.Freezes.{settled_stays}
 use Rattle.kw_puts.proofs.FrozenRows.{not_pending}
+use Rattle.kw_puts.proofs.GroupRows.{frozen_linked}
 use Rattle.kw_puts.proofs.OwnAttempts.{entry_pending}
 use Rattle.kw_puts.proofs.RelyEntry.{fresh_published}
 use Rattle.kw_puts.proofs.HereStays.{here_was}
 use Rattle.kw_puts.proofs.Owners.{true_false}
 
--- the row is the full one that the event replaces: it is dead from this position on
+-- the row is one of the group that the event replaces: it is dead from this position on
 pub record Buried (g g' : Ledger) (s now : ℕ) (l : Local) (a : Activity) (q : ℕ) : Type 0 where
   pub replaces : a ≡ Activity.Rebalance (Rebalance.Replace Replace.Exchange)
-  pub full : q ≡ l.row
+  pub full : IsOfGroup l q
   pub fate : g'.fates q ≡ fate_dead s now (g.fates q)
 
 -- a row whose fate is as it was
@@ -56,7 +58,7 @@ dead_same : (g g' : Ledger) (q : ℕ) → g'.fates q ≡ g.fates q → IsDead g'
 dead_same g g' q e d = ap (λ (f : Fate). f.status) (sym e) ∙ d
 
 module _ {z : Sizes} {r r' : Run} {s : ℕ} {choice : Choice} {l l' : Local} where
-  -- a dead row was dead, or is the one that is replaced now
+  -- a dead row was dead, or is one of those that are replaced now
   pub dead_was : (a : Activity) → Happens z r r' s choice l l' a → (q : ℕ) → IsDead r'.ledger.rows q → IsDead r.ledger.rows q ⊎ Buried r.ledger.rows r'.ledger.rows s (length r.history.log) l a q
   dead_was (Activity.Rebalance (Rebalance.Seek Seek.Reclaim)) h q d = which (cases_eq (word z r.world (name.State l.rebalance.sought)) (state_word (state.Retired l.rebalance.number))) (cases_eq q l.rebalance.sought)
     where
@@ -79,19 +81,19 @@ module _ {z : Sizes} {r r' : Run} {s : ℕ} {choice : Choice} {l l' : Local} whe
       which (inr n) = inl (dead_same r.ledger.rows r'.ledger.rows q (fate_stays (Activity.Rebalance (Rebalance.Seek Seek.GiveBack)) h q n) d)
   dead_was (Activity.Rebalance (Rebalance.Replace Replace.Exchange)) h q d = which (cases_eq (word z r.world (replaced_link l.rebalance.before)) (link_word (unmarked_link (Some l.row))))
     where
-      acts : (q ≡ l.row → ⊥) → (IsIn l.rebalance.taken q → ⊥) → (q ≡ l.row) ⊎ IsIn l.rebalance.taken q → ⊥
+      acts : (IsIn (group_of l) q → ⊥) → (IsIn l.rebalance.taken q → ⊥) → IsIn (group_of l) q ⊎ IsIn l.rebalance.taken q → ⊥
       acts n m (inl c) = n c
       acts n m (inr c) = m c
 
-      here : word z r.world (replaced_link l.rebalance.before) ≡ link_word (unmarked_link (Some l.row)) → (q ≡ l.row) ⊎ (q ≡ l.row → ⊥) → IsIn l.rebalance.taken q ⊎ (IsIn l.rebalance.taken q → ⊥) →
+      here : word z r.world (replaced_link l.rebalance.before) ≡ link_word (unmarked_link (Some l.row)) → IsIn (group_of l) q ⊎ (IsIn (group_of l) q → ⊥) → IsIn l.rebalance.taken q ⊎ (IsIn l.rebalance.taken q → ⊥) →
           IsDead r.ledger.rows q ⊎ Buried r.ledger.rows r'.ledger.rows s (length r.history.log) l (Activity.Rebalance (Rebalance.Replace Replace.Exchange)) q
-      here e (inl c) y = inr (record { replaces = refl; full = c; fate = subst (λ x. r'.ledger.rows.fates x ≡ fate_dead s (length r.history.log) (r.ledger.rows.fates x)) (sym c) (fate_of_full h e) })
+      here e (inl c) y = inr (record { replaces = refl; full = of_group l q c; fate = fate_of_full h e q c })
       here e (inr n) (inl y) = let x : Live ≡ Dead = ap (λ (f : Fate). f.status) (sym (fate_of_new h e q y n)) ∙ d in absurd (cc)
       here e (inr n) (inr m) = inl (dead_same r.ledger.rows r'.ledger.rows q (fate_stays (Activity.Rebalance (Rebalance.Replace Replace.Exchange)) h q (acts n m)) d)
 
       which : (word z r.world (replaced_link l.rebalance.before) ≡ link_word (unmarked_link (Some l.row))) ⊎ (word z r.world (replaced_link l.rebalance.before) ≡ link_word (unmarked_link (Some l.row)) → ⊥) →
           IsDead r.ledger.rows q ⊎ Buried r.ledger.rows r'.ledger.rows s (length r.history.log) l (Activity.Rebalance (Rebalance.Replace Replace.Exchange)) q
-      which (inl e) = here e (cases_eq q l.row) (in_or_not l.rebalance.taken q)
+      which (inl e) = here e (in_or_not (group_of l) q) (in_or_not l.rebalance.taken q)
       which (inr n) = inl (dead_same r.ledger.rows r'.ledger.rows q (ap (λ (g : ledger.Ledger). g.rows.fates q) (none_replaced h n)) d)
   dead_was a h q d = inl (dead_same r.ledger.rows r'.ledger.rows q (fate_stays a h q (λ c. c)) d)
 
@@ -120,15 +122,15 @@ module _ (z : Sizes) (r r' : Run) (s : ℕ) (choice : Choice) (l : Local) (a : A
   was_full : (q : ℕ) → IsDead r'.ledger.rows q → WasFull q
   was_full q d = which (dead_was a h q d)
     where
-      replaced : a ≡ Activity.Rebalance (Rebalance.Replace Replace.Exchange) → WasFull l.row
-      replaced e =
-          let k = subst (λ b. Happens z r r' s choice l l' b) e h in
-          let f : Freezes z (word z r.world) (slice_get r.world.locals) (Activity.Rebalance (Rebalance.Replace Replace.Exchange)) l = subst (λ b. Freezes z (word z r.world) (slice_get r.world.locals) b l) k.activity (i.puts.freezes s l h.knows) in
-          record { linked = fresh_linked r.ledger.rows s l.row ((balance_at (Activity.Rebalance (Rebalance.Replace Replace.Exchange)) k i.shape).fresh tt); frozen = f.count tt; settled = λ j o. f.settled tt j o o }
+      replaced : l.activity ≡ Activity.Rebalance (Rebalance.Replace Replace.Exchange) → IsOfGroup l q → WasFull q
+      replaced e o =
+          let f = i.puts.freezes s l h.knows in
+          let x : HasFrozen l.activity l q = subst (λ b. HasFrozen b l q) (sym e) (tt, o) in
+          record { linked = frozen_linked z r i.shape s l h.knows q x; frozen = f.count q x; settled = λ j w. f.settled q j (subst (λ b. HasPassed b l q j) (sym e) (tt, o)) w }
 
       which : IsDead r.ledger.rows q ⊎ Buried r.ledger.rows r'.ledger.rows s (length r.history.log) l a q → WasFull q
       which (inl w) = record { linked = inr w; frozen = ((i.shape.rows.marks q).buried w).1; settled = λ j o. i.puts.dead q j w o }
-      which (inr y) = subst WasFull (sym y.full) (replaced y.replaces)
+      which (inr y) = replaced (h.activity ∙ y.replaces) y.full
 
   -- each of its entries is settled
   pub dead_keeps : (q j : ℕ) → IsDead r'.ledger.rows q → j < z.seats → IsSettled (word z r'.world) (slice_get r'.world.locals) q j

@@ -25,24 +25,27 @@ use Rattle.kw_world.specs.Sane.{IsActivity}
 use Rattle.kw_world.specs.Step.{word}
 use Rattle.kw_core.specs.History.{attempt}
 use Rattle.kw_core.specs.Run.{Run}
-use Rattle.kw_core.specs.Stages.{IsAtRow, IsBalancing, IsPutting, IsPublished, IsStamped, IsPutClear, HasSeenPending, IsToHelp}
+use Rattle.kw_core.specs.Stages.{IsAtRow, IsPutting, IsPublished, IsStamped, IsPutClear, HasSeenPending, IsToHelp}
 use Rattle.kw_puts.specs.Puts.{OwnsAttempt, Helps, IsPublishedAt, key_in}
 use Rattle.kw_puts.proofs.CellsOf.{cell_key}
-use Rattle.kw_puts.specs.Freezes.{IsToFreeze}
+use Rattle.kw_puts.specs.Freezes.{HasFrozen, IsToFreeze}
 use Rattle.kw_puts.specs.Below.{Below}
 use Rattle.kw_core.specs.Step.{Step}
 use Rattle.kw_core.proofs.Happens.{log_entry}
 use Rattle.kw_core.proofs.Steps.{announced_within, new_stands}
 use Rattle.kw_core.proofs.Happens.{Happens, knows_next, knows_other, not_exchanged}
 use Rattle.kw_core.proofs.Building.{IsBuilding}
+use Rattle.kw_core.proofs.Grouping.{goes_alone, claims_row, NextCounted, NextFrozen, NextGathered, freezes_ahead, froze_all, gathered_all, gathers_ahead}
 use Rattle.kw_core.proofs.BuiltNext.{IsAfterBuilding, built_next}
-use Rattle.kw_core.proofs.Arrows.{builds, Arrow, NextLook, looks, lists, NextLeftOver, goes_to_left_over, answers, ends_scan, scans_on, announces_full, stamps_full, IsNotOwn, tidies}
-use Rattle.kw_core.proofs.Arrows.{sees_pending, sees_stamped, sees_neither, is_wanted, is_gone_by, loads_to_help, helps, finds_stamped, finds_other, list_ends, key_above, left_over_gone_by, gathers_left_over, announces, loads_clock, stamps, is_stamped, stores_version, reaches_cell, sees_none, key_before, key_same, key_after, version_before, version_after, stores_after, inserts, loses, clears, first_ends, first_reaches, first_sees_none, inserts_at_first, inserts_behind}
+use Rattle.kw_core.proofs.Arrows.{builds, Arrow, NextLook, looks, lists, NextLeftOver, goes_to_left_over, answers, ends_scan, scans_on, announces_full, stamps_full, IsNotOwn, tidies, decides, marks_led}
+use Rattle.kw_core.proofs.Arrows.{sees_pending, sees_stamped, sees_neither, is_wanted, is_gone_by, loads_to_help, helps, finds_stamped, finds_other, list_ends, key_above, left_over_gone_by, gathers_left_over, remembers_last, sees_frozen_last, freezes_last, takes_no_more, keeps_no_more, announces, loads_clock, stamps, is_stamped, stores_version, reaches_cell, sees_none, key_before, key_same, key_after, version_before, version_after, stores_after, inserts, loses, clears, first_ends, first_reaches, first_sees_none, inserts_at_first, inserts_behind}
 use Rattle.kw_core.proofs.FreezeFrame.{entry_frozen, entry_left}
 use Rattle.kw_core.proofs.InfantFrames.{ChangesEntry, entry_stays, entry_written}
 use Rattle.kw_rows.specs.Rows.{WasLinked}
-use Rattle.kw_shape.proofs.LinkedWords.{linked_frozen_entry}
-use Rattle.kw_puts.proofs.Owners.{IsPendingOf, entry_owner, full_linked, own_origin, published_puts, puts_linked, row_linked, was_or_not}
+use Rattle.kw_shape.proofs.LinkedRows.{linked_frozen_entry}
+use Rattle.kw_puts.proofs.GroupRows.{frozen_linked}
+use Rattle.kw_puts.proofs.BuiltStages.{balancing_sees, counted_not, freezing_goes, gathering_goes}
+use Rattle.kw_puts.proofs.Owners.{IsPendingOf, entry_owner, own_origin, published_puts, puts_linked, row_linked, was_or_not}
 use Rattle.kw_puts.proofs.Rely.{SameAttempt, GoesOn}
 use Rattle.kw_puts.proofs.RelyProof.{goes_on_by}
 use Rattle.kw_puts.proofs.DoneAttempts.{building_puts}
@@ -76,12 +79,12 @@ idle_stays z r r' s choice l (Activity.Put Put.Clear) l' h i q j w o n e = which
     which (inl f) (inl g) = inl (rw (f, g) h.changed.same)
     which (inr d) g = inl (entry_stays (Activity.Put Put.Clear) h q j w o (λ x. d x.0) ∙ e)
     which (inl f) (inr d) = inl (entry_stays (Activity.Put Put.Clear) h q j w o (λ x. d x.1) ∙ e)
-idle_stays z r r' s choice l (Activity.Rebalance (Rebalance.Freeze (Freeze.Entry k))) l' h i q j w o n e = which (cases_eq q l.row) (cases_eq j k)
+idle_stays z r r' s choice l (Activity.Rebalance (Rebalance.Freeze (Freeze.Entry k))) l' h i q j w o n e = which (cases_eq q l.rebalance.hand) (cases_eq j k)
   where
-    which : (q ≡ l.row) ⊎ (q ≡ l.row → ⊥) → (j ≡ k) ⊎ (j ≡ k → ⊥) → (word z r'.world (name.Pend q j) ≡ pend_word pend.Idle) ⊎ (word z r'.world (name.Pend q j) ≡ pend_word pend.Frozen)
-    which (inl f) (inl g) = tried (cases_eq (word z r.world (name.Pend l.row k)) (pend_word l.rebalance.entry))
+    which : (q ≡ l.rebalance.hand) ⊎ (q ≡ l.rebalance.hand → ⊥) → (j ≡ k) ⊎ (j ≡ k → ⊥) → (word z r'.world (name.Pend q j) ≡ pend_word pend.Idle) ⊎ (word z r'.world (name.Pend q j) ≡ pend_word pend.Frozen)
+    which (inl f) (inl g) = tried (cases_eq (word z r.world (name.Pend l.rebalance.hand k)) (pend_word l.rebalance.entry))
       where
-        tried : (word z r.world (name.Pend l.row k) ≡ pend_word l.rebalance.entry) ⊎ (word z r.world (name.Pend l.row k) ≡ pend_word l.rebalance.entry → ⊥) → (word z r'.world (name.Pend q j) ≡ pend_word pend.Idle) ⊎ (word z r'.world (name.Pend q j) ≡ pend_word pend.Frozen)
+        tried : (word z r.world (name.Pend l.rebalance.hand k) ≡ pend_word l.rebalance.entry) ⊎ (word z r.world (name.Pend l.rebalance.hand k) ≡ pend_word l.rebalance.entry → ⊥) → (word z r'.world (name.Pend q j) ≡ pend_word pend.Idle) ⊎ (word z r'.world (name.Pend q j) ≡ pend_word pend.Frozen)
         tried (inl x) = inr (rw (f, g) (entry_frozen k h x))
         tried (inr x) = inl (rw (f, g) (entry_left k h x ∙ rw (f, g) at e))
     which (inr d) g = inl (entry_stays (Activity.Rebalance (Rebalance.Freeze (Freeze.Entry k))) h q j w o (λ x. d x.0) ∙ e)
@@ -112,14 +115,14 @@ frozen_stays z r r' s choice l (Activity.Put Put.Clear) l' h i q j w o e = linke
         omega (arith, y)
 frozen_stays z r r' s choice l a l' h i q j w o e = linked_frozen_entry a h i.shape q j w o (λ x f g. x) e
 
--- an event of a seat that acts on its own row alone, which is or was linked, leaves a frozen entry
--- of any row
-frozen_at_row : (z : Sizes) (r r' : Run) (s : ℕ) (choice : Choice) (l : Local) (a : Activity) (l' : Local) → Happens z r r' s choice l l' a → Below z r → (q j : ℕ) → WasLinked r.ledger.rows l.row → q < r.world.rows → j < z.seats → (ChangesEntry a s l q j → q ≡ l.row) → word z r.world (name.Pend q j) ≡ pend_word pend.Frozen → (word z r'.world (name.Pend q j) ≡ pend_word pend.Idle) ⊎ (word z r'.world (name.Pend q j) ≡ pend_word pend.Frozen)
-frozen_at_row z r r' s choice l a l' h i q j k w o f e = which (was_or_not r.ledger.rows q)
+-- an event of a seat that writes no entry but one of a row which is or was linked leaves a frozen
+-- entry of any row
+frozen_at_row : (z : Sizes) (r r' : Run) (s : ℕ) (choice : Choice) (l : Local) (a : Activity) (l' : Local) → Happens z r r' s choice l l' a → Below z r → (x q j : ℕ) → WasLinked r.ledger.rows x → q < r.world.rows → j < z.seats → (ChangesEntry a s l q j → q ≡ x) → word z r.world (name.Pend q j) ≡ pend_word pend.Frozen → (word z r'.world (name.Pend q j) ≡ pend_word pend.Idle) ⊎ (word z r'.world (name.Pend q j) ≡ pend_word pend.Frozen)
+frozen_at_row z r r' s choice l a l' h i x q j k w o f e = which (was_or_not r.ledger.rows q)
   where
     which : WasLinked r.ledger.rows q ⊎ (WasLinked r.ledger.rows q → ⊥) → (word z r'.world (name.Pend q j) ≡ pend_word pend.Idle) ⊎ (word z r'.world (name.Pend q j) ≡ pend_word pend.Frozen)
-    which (inl x) = inr (frozen_stays z r r' s choice l a l' h i q j x o e)
-    which (inr n) = inr (entry_stays a h q j w o (λ x. n (subst (WasLinked r.ledger.rows) (sym (f x)) k)) ∙ e)
+    which (inl y) = inr (frozen_stays z r r' s choice l a l' h i q j y o e)
+    which (inr n) = inr (entry_stays a h q j w o (λ y. n (subst (WasLinked r.ledger.rows) (sym (f y)) k)) ∙ e)
 
 -- so of any row it stays so, or is idle, as a new row's are
 frozen_or_new : (z : Sizes) (r r' : Run) (s : ℕ) (choice : Choice) (l : Local) (a : Activity) (l' : Local) → Happens z r r' s choice l l' a → Below z r → (q j : ℕ) → q < r.world.rows → j < z.seats → word z r.world (name.Pend q j) ≡ pend_word pend.Frozen → (word z r'.world (name.Pend q j) ≡ pend_word pend.Idle) ⊎ (word z r'.world (name.Pend q j) ≡ pend_word pend.Frozen)
@@ -129,11 +132,11 @@ frozen_or_new z r r' s choice l (Activity.Rebalance (Rebalance.Write (Write.Entr
     which (inl f) (inl g) = inl (rw (f, g) (entry_written k h))
     which (inr d) g = inr (entry_stays (Activity.Rebalance (Rebalance.Write (Write.Entry k))) h q j w o (λ x. d x.0) ∙ e)
     which (inl f) (inr d) = inr (entry_stays (Activity.Rebalance (Rebalance.Write (Write.Entry k))) h q j w o (λ x. d x.1) ∙ e)
-frozen_or_new z r r' s choice l (Activity.Look Look.Help) l' h i q j w o e = frozen_at_row z r r' s choice l (Activity.Look Look.Help) l' h i q j (row_linked z r i.shape s l h.knows (subst IsAtRow (sym h.activity) tt)) w o (λ x. x.0) e
-frozen_or_new z r r' s choice l (Activity.Put Put.Announce) l' h i q j w o e = frozen_at_row z r r' s choice l (Activity.Put Put.Announce) l' h i q j (row_linked z r i.shape s l h.knows (subst IsAtRow (sym h.activity) tt)) w o (λ x. x.0) e
-frozen_or_new z r r' s choice l (Activity.Put Put.Stamp) l' h i q j w o e = frozen_at_row z r r' s choice l (Activity.Put Put.Stamp) l' h i q j (row_linked z r i.shape s l h.knows (subst IsAtRow (sym h.activity) tt)) w o (λ x. x.0) e
-frozen_or_new z r r' s choice l (Activity.Put Put.Clear) l' h i q j w o e = frozen_at_row z r r' s choice l (Activity.Put Put.Clear) l' h i q j (row_linked z r i.shape s l h.knows (subst IsAtRow (sym h.activity) tt)) w o (λ x. x.0) e
-frozen_or_new z r r' s choice l (Activity.Rebalance (Rebalance.Freeze (Freeze.Entry k))) l' h i q j w o e = frozen_at_row z r r' s choice l (Activity.Rebalance (Rebalance.Freeze (Freeze.Entry k))) l' h i q j (full_linked z r i.shape s l h.knows (subst IsBalancing (sym h.activity) tt)) w o (λ x. x.0) e
+frozen_or_new z r r' s choice l (Activity.Look Look.Help) l' h i q j w o e = frozen_at_row z r r' s choice l (Activity.Look Look.Help) l' h i l.row q j (row_linked z r i.shape s l h.knows (subst IsAtRow (sym h.activity) tt)) w o (λ x. x.0) e
+frozen_or_new z r r' s choice l (Activity.Put Put.Announce) l' h i q j w o e = frozen_at_row z r r' s choice l (Activity.Put Put.Announce) l' h i l.row q j (row_linked z r i.shape s l h.knows (subst IsAtRow (sym h.activity) tt)) w o (λ x. x.0) e
+frozen_or_new z r r' s choice l (Activity.Put Put.Stamp) l' h i q j w o e = frozen_at_row z r r' s choice l (Activity.Put Put.Stamp) l' h i l.row q j (row_linked z r i.shape s l h.knows (subst IsAtRow (sym h.activity) tt)) w o (λ x. x.0) e
+frozen_or_new z r r' s choice l (Activity.Put Put.Clear) l' h i q j w o e = frozen_at_row z r r' s choice l (Activity.Put Put.Clear) l' h i l.row q j (row_linked z r i.shape s l h.knows (subst IsAtRow (sym h.activity) tt)) w o (λ x. x.0) e
+frozen_or_new z r r' s choice l (Activity.Rebalance (Rebalance.Freeze (Freeze.Entry k))) l' h i q j w o e = frozen_at_row z r r' s choice l (Activity.Rebalance (Rebalance.Freeze (Freeze.Entry k))) l' h i l.rebalance.hand q j (frozen_linked z r i.shape s l h.knows l.rebalance.hand (subst (λ b. HasFrozen b l l.rebalance.hand) (sym h.activity) (inr refl))) w o (λ x. x.0) e
 frozen_or_new z r r' s choice l a l' h i q j w o e = inr (entry_stays a h q j w o (λ x. x) ∙ e)
 
 -- a seat whose entry is idle when it announces has announced a cell of its row then
@@ -235,6 +238,20 @@ built_tries : (a : Activity) (k : Local) → IsAfterBuilding a → IsToFreeze a 
 built_tries (Activity.Rebalance (Rebalance.Freeze (Freeze.Entry i))) k n = absurd n
 built_tries _ k n = tt
 
+-- nor does one that is done with a row of its group
+frozen_tries : (l k : Local) → NextFrozen l k → IsToFreeze k.activity k
+frozen_tries l k (freezes_ahead q e) = tt
+frozen_tries l k (froze_all e) = tt
+
+gathered_tries : (z : Sizes) (l k : Local) → NextGathered z l k → IsToFreeze k.activity k
+gathered_tries z l k (gathers_ahead q e) = tt
+gathered_tries z l k (gathered_all e) = tt
+
+-- a seat that knows how many rows go has looked at no entry
+counted_tries : (count : ℕ) (l n : Local) → NextCounted count l n → IsToFreeze n.activity n
+counted_tries count l n (claims_row q two e) = tt
+counted_tries count l n (goes_alone d) = tt
+
 -- the acting seat is to freeze an entry only where it found it idle or pending
 pub tries_own : (z : Sizes) (r r' : Run) (s : ℕ) (choice : Choice) (l : Local) (a : Activity) (l' : Local) → Arrow z (word z r.world) s choice l a l' → IsToFreeze l'.activity l'
 tries_own z r r' s choice l a l' (builds b next y t) = built_tries next.activity next (built_next z (word z r.world) choice l b next t)
@@ -249,6 +266,13 @@ tries_own z r r' s choice l a l' (list_ends next e n) = left_over_tries _ next n
 tries_own z r r' s choice l a l' (key_above next e n) = left_over_tries _ next n
 tries_own z r r' s choice l a l' (left_over_gone_by next e n) = left_over_tries _ next n
 tries_own z r r' s choice l a l' (gathers_left_over next n) = left_over_tries _ next n
+tries_own z r r' s choice l a l' (remembers_last j c version next e o n) = frozen_tries _ next n
+tries_own z r r' s choice l a l' (sees_frozen_last j next e o n) = frozen_tries _ next n
+tries_own z r r' s choice l a l' (freezes_last j next e o n) = frozen_tries _ next n
+tries_own z r r' s choice l a l' (takes_no_more next e o n) = gathered_tries z _ next n
+tries_own z r r' s choice l a l' (keeps_no_more next o n) = gathered_tries z _ next n
+tries_own z r r' s choice l a l' (marks_led count next d n) = counted_tries _ _ next n
+tries_own z r r' s choice l a l' (decides count m next e n) = counted_tries _ _ next n
 tries_own z r r' s choice l a l' _ = tt
 
 -- The attempt that a reader is to help.
@@ -385,4 +409,8 @@ helps_own z r r' s choice l a l' (list_ends next e n) h i st p = cell_sees _ nex
 helps_own z r r' s choice l a l' (key_above next e n) h i st p = cell_sees _ next n p
 helps_own z r r' s choice l a l' (left_over_gone_by next e n) h i st p = cell_sees _ next n p
 helps_own z r r' s choice l a l' (gathers_left_over next n) h i st p = cell_sees _ next n p
+helps_own z r r' s choice l (Activity.Rebalance (Rebalance.Freeze f)) l' x h i st p = balancing_sees l'.activity (freezing_goes z _ s choice l f l' x) p
+helps_own z r r' s choice l (Activity.Rebalance (Rebalance.Gather g)) l' x h i st p = balancing_sees l'.activity (gathering_goes z _ s choice l g l' x) p
+helps_own z r r' s choice l a l' (marks_led count next d n) h i st p = absurd (counted_not HasSeenPending (λ x. x) (λ x. x) n p)
+helps_own z r r' s choice l a l' (decides count m next e n) h i st p = absurd (counted_not HasSeenPending (λ x. x) (λ x. x) n p)
 helps_own z r r' s choice l a l' _ h i st p = absurd p

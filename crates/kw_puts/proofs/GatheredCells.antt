@@ -1,27 +1,35 @@
--- The gathered cells, by their places: each is one that a row has, and one more is put among them
--- where none of its place is there.
+-- The gathered cells, by their places, and where one more is put among them of whose place none is
+-- there.
 use Rattle.std.proofs.Common.{ℕ, zero, suc, ◌≡◌, ◌⊎◌, inl, inr, ◌+◌, ◌<◌, ◌≤◌, ◌==◌, nat_lt, Bool, true, false, if◌then◌else◌, List, [], ◌∷◌, arith, refl, sym, ap, subst, length, All, eq-eqb}
 use Rattle.std.specs.Prelude.{insert}
 use Rattle.std.proofs.lemmas.Bool.Decides.{nat_tests}
 use Rattle.std.proofs.lemmas.List.Edits.{length-insert}
+use Rattle.std.proofs.lemmas.List.Elements.{All-cons, All-nil}
 use Rattle.kw_cells.specs.declared.cell.Cell.{Cell}
 use Rattle.kw_cells.specs.InOrder.{stands_before, index_in, with_cell}
 use Rattle.kw_cells.proofs.InOrder.{index_in-within, with_cell-all}
 use Rattle.kw_lists.specs.Counts.{count_below}
 use Rattle.kw_lists.proofs.Counting.{count_gains, count_less}
-use Rattle.kw_world.specs.Sane.{IsPlaced}
-use Rattle.kw_world.specs.Sizes.{Sizes}
 use Rattle.kw_core.proofs.Arrows.{eq_from}
 use Rattle.kw_puts.specs.Builds.{has_place}
 
--- each place that is there is one that a row has, where each cell stood at one
-pub gathered_below : (z : Sizes) (cells : List Cell) → All (IsPlaced z) cells → (c : ℕ) → has_place c cells ≡ true → c < z.cells
-gathered_below z [] a c e = let x : false ≡ true = e in absurd (cc)
-gathered_below z (d ∷ cells) a c e = which (d.place == c) refl (gathered_below z cells (λ k x u. a (suc k) x (omega (arith, u))) c) e
+-- each place that is there is below a bound, where each cell stood at one
+pub gathered_below : (n : ℕ) (cells : List Cell) → All (λ c. c.place < n) cells → (p : ℕ) → has_place p cells ≡ true → p < n
+gathered_below n [] a p e = let x : false ≡ true = e in absurd (cc)
+gathered_below n (d ∷ cells) a p e = which (d.place == p) refl (gathered_below n cells (λ k x u. a (suc k) x (omega (arith, u))) p) e
   where
-    which : (b : Bool) → (d.place == c) ≡ b → (has_place c cells ≡ true → c < z.cells) → (if b then true else has_place c cells) ≡ true → c < z.cells
-    which true f g x = subst (λ p. p < z.cells) (eq_from d.place c f) (a 0 d (omega arith))
+    which : (b : Bool) → (d.place == p) ≡ b → (has_place p cells ≡ true → p < n) → (if b then true else has_place p cells) ≡ true → p < n
+    which true f g x = subst (λ q. q < n) (eq_from d.place p f) (a 0 d (omega arith))
     which false f g x = g x
+
+-- and each cell stands at one, where each place that is there is
+pub placed_below : (n : ℕ) (cells : List Cell) → ((p : ℕ) → has_place p cells ≡ true → p < n) → All (λ c. c.place < n) cells
+placed_below n [] f = All-nil (λ (c : Cell). c.place < n)
+placed_below n (d ∷ cells) f = All-cons (λ (c : Cell). c.place < n) d cells (f d.place (rw (eq-eqb d.place d.place refl) refl)) (placed_below n cells (λ p e. f p (there (d.place == p) (has_place p cells) e)))
+  where
+    there : (b x : Bool) → x ≡ true → (if b then true else x) ≡ true
+    there true x e = refl
+    there false x e = e
 
 -- Where one more is put in.
 
@@ -122,9 +130,10 @@ pub record OneMore (n : ℕ) (place : ℕ) (cells more : List Cell) : Type 0 whe
   pub back : (p : ℕ) → has_place p more ≡ true → (p ≡ place) ⊎ (has_place p cells ≡ true)
   pub few : length more ≤ count_below n (λ p. has_place p more)
 
--- one more is gathered, where none of its place is there, and none is there twice
-pub gathers_one : (n : ℕ) (c : Cell) (cells : List Cell) → c.place < n → has_place c.place cells ≡ false → length cells ≤ count_below n (λ p. has_place p cells) → OneMore n c.place cells (gathered_with n c cells)
-gathers_one n c cells u e f = rw (gathered_at n c cells (few_room n c.place cells u e (omega (arith, f))) e) (record {
+-- one more is gathered, where none of its place is there, none is there twice, and there is room
+-- for as many as there are places
+pub gathers_one : (n room : ℕ) (c : Cell) (cells : List Cell) → n ≤ room → c.place < n → has_place c.place cells ≡ false → length cells ≤ count_below n (λ p. has_place p cells) → OneMore n c.place cells (gathered_with room c cells)
+gathers_one n room c cells k u e f = rw (gathered_at room c cells (omega (arith, k, few_room n c.place cells u e (omega (arith, f)))) e) (record {
   new = place_new c cells (index_in c cells);
   old = place_old c cells (index_in c cells);
   back = place_back c cells (index_in c cells);

@@ -17,6 +17,7 @@ use Rattle.kw_world.specs.declared.activity.read.Read.TheVariants as Read
 use Rattle.kw_world.specs.declared.activity.rebalance.Rebalance.TheVariants as Rebalance
 use Rattle.kw_world.specs.declared.activity.rebalance.replace.Replace.TheVariants as Replace
 use Rattle.kw_world.specs.declared.activity.walk.Walk.TheVariants as Walk
+use Rattle.kw_world.specs.declared.activity.rebalance.claim.Claim.TheVariants as Claim
 use Rattle.kw_world.specs.declared.activity.rebalance.engage.Engage.TheVariants as Engage
 use Rattle.kw_world.specs.declared.activity.enter.Enter.TheVariants as Enter
 use Rattle.kw_world.specs.declared.activity.rebalance.gather.Gather.TheVariants as Gather
@@ -36,8 +37,9 @@ use Rattle.kw_core.specs.Stages.{IsWaiting}
 use Rattle.kw_core.specs.Step.{Step}
 use Rattle.kw_core.specs.Words.{Words}
 use Rattle.kw_core.proofs.BuiltNext.{built_next}
-use Rattle.kw_puts.proofs.BuiltStages.{after_helps, no_scan_replaced}
-use Rattle.kw_core.proofs.Arrows.{builds, Arrow, helps_scan, draws_for}
+use Rattle.kw_core.proofs.Grouping.{NextFrozen, NextGathered, freezes_ahead, froze_all, gathered_all, gathers_ahead}
+use Rattle.kw_puts.proofs.BuiltStages.{after_helps, counted_not, no_scan_replaced}
+use Rattle.kw_core.proofs.Arrows.{builds, Arrow, helps_scan, draws_for, freezes_last, keeps_no_more, remembers_last, sees_frozen_last, takes_no_more, decides, marks_led}
 use Rattle.kw_core.proofs.Frame.{unwritten, no_link, same_scan}
 use Rattle.kw_core.proofs.FreezeFrame.{clock_never_falls, scan_stays}
 use Rattle.kw_core.proofs.Happens.{Happens, log_entry, knows_next, knows_other, exchanged, not_exchanged}
@@ -107,6 +109,7 @@ module _ (z : Sizes) (r r' : Run) (s : ℕ) (choice : Choice) (l l' : Local) (i 
   own_step (Activity.Put Put.Count) h = is_kept (unwritten (Activity.Put Put.Count) h (name.Scan s) h.seat (λ e. cc)) (λ x y. cc)
   own_step (Activity.Read Read.Link) h = is_kept (unwritten (Activity.Read Read.Link) h (name.Scan s) h.seat (λ e. cc)) (λ x y. cc)
   own_step (Activity.Rebalance (Rebalance.Engage Engage.Clock)) h = is_kept (unwritten (Activity.Rebalance (Rebalance.Engage Engage.Clock)) h (name.Scan s) h.seat (λ e. cc)) (λ x y. cc)
+  own_step (Activity.Rebalance (Rebalance.Claim Claim.Count)) h = is_kept (unwritten (Activity.Rebalance (Rebalance.Claim Claim.Count)) h (name.Scan s) h.seat (λ e. cc)) (λ x y. cc)
   own_step (Activity.Rebalance (Rebalance.Gather Gather.Link)) h = is_kept (unwritten (Activity.Rebalance (Rebalance.Gather Gather.Link)) h (name.Scan s) h.seat (λ e. cc)) (λ x y. cc)
   own_step (Activity.Rebalance (Rebalance.Seek Seek.Next)) h = is_kept (unwritten (Activity.Rebalance (Rebalance.Seek Seek.Next)) h (name.Scan s) h.seat (λ e. cc)) (λ x y. cc)
   own_step (Activity.Rebalance (Rebalance.Write Write.Count)) h = is_kept (unwritten (Activity.Rebalance (Rebalance.Write Write.Count)) h (name.Scan s) h.seat (λ e. cc)) (λ x y. cc)
@@ -171,6 +174,15 @@ helps_not_read t (Activity.Rebalance (Rebalance.Freeze (Freeze.Settle j))) x y =
 helps_not_read t (Activity.Walk Walk.First) x y = x
 helps_not_read t _ x y = x
 
+-- nor does a row of a group that is frozen, or gathered
+frozen_helps : {A : Type 0} (t : ℕ) (l k : Local) → NextFrozen l k → HelpsScan t k.activity → A
+frozen_helps t l k (freezes_ahead q e) x = absurd x
+frozen_helps t l k (froze_all e) x = absurd x
+
+gathered_helps : {A : Type 0} (t : ℕ) (z : Sizes) (l k : Local) → NextGathered z l k → HelpsScan t k.activity → A
+gathered_helps t z l k (gathers_ahead q e) x = absurd x
+gathered_helps t z l k (gathered_all e) x = absurd x
+
 helps_from : (z : Sizes) (v : Words) (s : ℕ) (choice : Choice) (l : Local) (a : Activity) (k : Local) (t : ℕ) → Arrow z v s choice l a k → HelpsScan t k.activity → HelpsFrom v l a k t
 helps_from z v s choice l a k t (builds b next y u) x = after_helps t next.activity (built_next z v choice l b next u) x
 helps_from z v s choice l a k t (helps_scan j c y) x = has_looked j c x refl y refl
@@ -186,7 +198,14 @@ helps_from z v s choice l (Activity.Read Read.Version) k t b x = absurd (helps_n
 helps_from z v s choice l (Activity.Read Read.Value) k t b x = absurd (helps_not_read t k.activity x (after_read z v s choice l (Activity.Read Read.Value) k b tt))
 helps_from z v s choice l (Activity.Read Read.LeftOverKey) k t b x = absurd (helps_not_read t k.activity x (after_read z v s choice l (Activity.Read Read.LeftOverKey) k b tt))
 helps_from z v s choice l (Activity.Read Read.LeftOverValue) k t b x = absurd (helps_not_read t k.activity x (after_read z v s choice l (Activity.Read Read.LeftOverValue) k b tt))
+helps_from z v s choice l a k t (remembers_last j c version next e o n) x = frozen_helps t _ next n x
+helps_from z v s choice l a k t (sees_frozen_last j next e o n) x = frozen_helps t _ next n x
+helps_from z v s choice l a k t (freezes_last j next e o n) x = frozen_helps t _ next n x
+helps_from z v s choice l a k t (takes_no_more next e o n) x = gathered_helps t z _ next n x
+helps_from z v s choice l a k t (keeps_no_more next o n) x = gathered_helps t z _ next n x
 helps_from z v s choice l (Activity.Rebalance (Rebalance.Freeze Freeze.Count)) k t b x = absurd x
+helps_from z v s choice l a k t (marks_led count next d n) x = absurd (counted_not (HelpsScan t) (λ x. x) (λ x. x) n x)
+helps_from z v s choice l a k t (decides count m next e n) x = absurd (counted_not (HelpsScan t) (λ x. x) (λ x. x) n x)
 helps_from z v s choice l a k t b x = absurd x
 
 -- a scan that is about to wait does not wait yet

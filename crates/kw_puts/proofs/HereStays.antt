@@ -9,6 +9,7 @@ use Rattle.kw_words.specs.declared.layout.Name.TheVariants as name
 use Rattle.kw_words.specs.Count.{count_of}
 use Rattle.kw_world.specs.declared.activity.Activity.{Activity}
 use Rattle.kw_world.specs.declared.activity.put.Put.TheVariants as Put
+use Rattle.kw_world.specs.declared.activity.rebalance.Rebalance.TheVariants as Rebalance
 use Rattle.kw_world.specs.declared.event.Choice.{Choice}
 use Rattle.kw_world.specs.declared.local.Local.{Local}
 use Rattle.kw_world.specs.PutTransitions.{has_room}
@@ -20,7 +21,7 @@ use Rattle.kw_core.specs.declared.history.Attempt.{Attempt}
 use Rattle.kw_core.specs.declared.seat_log.SeatLog.{SeatLog}
 use Rattle.kw_core.specs.Stages.{IsAtRow, IsPutting}
 use Rattle.kw_core.specs.Step.{Step}
-use Rattle.kw_core.proofs.Arrows.{builds, Arrow}
+use Rattle.kw_core.proofs.Arrows.{builds, Arrow, decides, marks_led}
 use Rattle.kw_core.proofs.Arrows.{sees_stamped, sees_neither, is_gone_by, helps, finds_stamped, finds_other, list_ends, key_above, left_over_gone_by, gathers_left_over, takes_cell, stores_key, stores_value, announces, loads_clock, stamps, is_stamped, stores_version, reaches_cell, sees_none, key_before, key_same, key_after, version_before, version_after, stores_after, inserts, loses, first_ends, first_reaches, first_sees_none, inserts_at_first, inserts_behind}
 use Rattle.kw_core.proofs.BuiltNext.{built_next}
 use Rattle.kw_core.proofs.Fates.{fate_stays}
@@ -30,6 +31,7 @@ use Rattle.kw_puts.specs.Below.{Below}
 use Rattle.kw_puts.specs.Puts.{IsHere}
 use Rattle.kw_puts.proofs.NewAttempts.{IsNew, one_more_is}
 use Rattle.kw_puts.proofs.OwnAttempts.{built_puts, cell_puts, look_puts}
+use Rattle.kw_puts.proofs.BuiltStages.{balancing_puts, counted_not, freezing_goes, gathering_goes}
 use Rattle.kw_puts.proofs.Owners.{puts_at_row, row_linked}
 use Rattle.kw_puts.proofs.Rely.{SameAttempt}
 use Rattle.kw_puts.proofs.RelyProof.{goes_on_by}
@@ -76,6 +78,10 @@ puts_from z r r' s choice l a l' (list_ends next e n) h p = cell_puts _ next n p
 puts_from z r r' s choice l a l' (key_above next e n) h p = cell_puts _ next n p
 puts_from z r r' s choice l a l' (left_over_gone_by next e n) h p = cell_puts _ next n p
 puts_from z r r' s choice l a l' (gathers_left_over next n) h p = cell_puts _ next n p
+puts_from z r r' s choice l (Activity.Rebalance (Rebalance.Freeze f)) l' x h p = balancing_puts l'.activity (freezing_goes z _ s choice l f l' x) p
+puts_from z r r' s choice l (Activity.Rebalance (Rebalance.Gather g)) l' x h p = balancing_puts l'.activity (gathering_goes z _ s choice l g l' x) p
+puts_from z r r' s choice l a l' (marks_led count next d n) h p = absurd (counted_not IsPutting (λ x. x) (λ x. x) n p)
+puts_from z r r' s choice l a l' (decides count m next e n) h p = absurd (counted_not IsPutting (λ x. x) (λ x. x) n p)
 puts_from z r r' s choice l a l' _ h p = absurd p
 
 module _ {z : Sizes} {r r' : Run} {s : ℕ} {choice : Choice} {l l' : Local} where

@@ -1,5 +1,6 @@
 pub mod Owners
 pub mod CellsOf
+pub mod GroupRows
 pub mod Rely
 pub mod ListWords
 pub mod ListSteps
@@ -15,6 +16,8 @@ pub mod Entries
 pub mod Freezes
 pub mod Marking
 pub mod FrozenRows
+pub mod GroupCells
+pub mod GroupKeys
 pub mod GatheredCells
 pub mod Gathering
 pub mod Taking

@@ -36,8 +36,7 @@ use Rattle.kw_core.proofs.Happens.{Happens, chosen, not_chosen, exchanged, not_e
 use Rattle.kw_rows.specs.Rows.{WasLinked}
 use Rattle.kw_puts.specs.Lists.{list_in, Inserts}
 use Rattle.kw_puts.specs.Below.{Below}
-use Rattle.kw_shape.proofs.LinkedRows.{not_hand}
-use Rattle.kw_shape.proofs.LinkedWords.{linked_key, linked_link, linked_version}
+use Rattle.kw_shape.proofs.LinkedRows.{linked_key, linked_link, linked_version, not_hand}
 use Rattle.kw_puts.proofs.Owners.{true_false}
 use Rattle.kw_puts.proofs.ListWords.{link_or, leads_there}
 

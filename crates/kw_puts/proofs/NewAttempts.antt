@@ -40,8 +40,7 @@ use Rattle.kw_core.proofs.Copies.{origin_stays}
 use Rattle.kw_core.proofs.FreezeFrame.{freezes_given}
 use Rattle.kw_rows.specs.Rows.{WasLinked}
 use Rattle.kw_shape.specs.Shape.{Shape}
-use Rattle.kw_shape.proofs.LinkedRows.{linked_keeps, not_hand}
-use Rattle.kw_shape.proofs.LinkedWords.{linked_count_word}
+use Rattle.kw_shape.proofs.LinkedRows.{linked_count_word, linked_keeps, not_hand}
 use Rattle.kw_core.proofs.Changes.{Makes, makes_nothing, makes_begin, makes_add, makes_announce, makes_stamp, makes_help, makes_end, made, makes_lose}
 use Rattle.kw_puts.proofs.RelyEntry.{attempt_left}
 
@@ -157,14 +156,14 @@ module _ {z : Sizes} {r r' : Run} {s : ℕ} {choice : Choice} {l l' : Local} whe
       which : (q ≡ l.row) ⊎ (q ≡ l.row → ⊥) → (given_in (word z r'.world) q ≡ given_in (word z r.world) q) ⊎ ((Activity.Put Put.Add) ≡ Activity.Put Put.Add) × (q ≡ l.row)
       which (inl e) = inr (refl, e)
       which (inr d) = inl (ap (λ k. given_of (count_of k)) (linked_count_word (Activity.Put Put.Add) h i q w (λ x e. d e)))
-  given_was (Activity.Rebalance (Rebalance.Freeze Freeze.Count)) h i q w = inl (which (cases_eq q l.row))
+  given_was (Activity.Rebalance (Rebalance.Freeze Freeze.Count)) h i q w = inl (which (cases_eq q l.rebalance.hand))
     where
-      frozen : (x : Option Counted) → count_of (word z r.world (name.Count l.row)) ≡ x → IsGiven x → given_in (word z r'.world) l.row ≡ given_in (word z r.world) l.row
+      frozen : (x : Option Counted) → count_of (word z r.world (name.Count l.rebalance.hand)) ≡ x → IsGiven x → given_in (word z r'.world) l.rebalance.hand ≡ given_in (word z r.world) l.rebalance.hand
       frozen (Some c) e y = ap given_of (freezes_given h c e) ∙ ap given_of (sym e)
       frozen None e y = absurd y
 
-      which : (q ≡ l.row) ⊎ (q ≡ l.row → ⊥) → given_in (word z r'.world) q ≡ given_in (word z r.world) q
-      which (inl e) = rw e (frozen _ refl (i.sane.each (name.Count l.row) (i.sane.locals s l h.knows).below.row))
+      which : (q ≡ l.rebalance.hand) ⊎ (q ≡ l.rebalance.hand → ⊥) → given_in (word z r'.world) q ≡ given_in (word z r.world) q
+      which (inl e) = rw e (frozen _ refl (i.sane.each (name.Count l.rebalance.hand) (i.sane.locals s l h.knows).below.rebalance.hand))
       which (inr d) = ap (λ k. given_of (count_of k)) (linked_count_word (Activity.Rebalance (Rebalance.Freeze Freeze.Count)) h i q w (λ x e. d e))
   given_was a h i q w = inl (ap (λ k. given_of (count_of k)) (linked_count_word a h i q w (λ x e. x)))
 

@@ -41,14 +41,15 @@ use Rattle.kw_core.proofs.NotedLaws.{attempt_set_same}
 use Rattle.kw_core.proofs.Steps.{new_stands}
 use Rattle.kw_core.proofs.Happens.{Happens, chosen, not_chosen, exchanged, not_exchanged}
 use Rattle.kw_core.proofs.BuiltNext.{IsAfterBuilding, built_next}
-use Rattle.kw_core.proofs.Arrows.{builds, Arrow, NextLook, looks, lists, NextLeftOver, goes_to_left_over, answers, ends_scan, scans_on, IsNotOwn}
+use Rattle.kw_core.proofs.Arrows.{builds, Arrow, NextLook, looks, lists, NextLeftOver, goes_to_left_over, answers, ends_scan, scans_on, IsNotOwn, decides, marks_led}
 use Rattle.kw_core.proofs.Arrows.{sees_stamped, sees_neither, is_gone_by, helps, finds_stamped, finds_other, list_ends, key_above, left_over_gone_by, gathers_left_over, takes_cell, stores_key, stores_value, announces, loads_clock, stamps, is_stamped, stores_version, reaches_cell, sees_none, key_before, key_same, key_after, version_before, version_after, stores_after, inserts, loses, first_ends, first_reaches, first_sees_none, inserts_at_first, inserts_behind}
 use Rattle.kw_core.proofs.Frame.{WritesOwnEntry}
 use Rattle.kw_core.proofs.FreezeFrame.{FreezesEntry}
 use Rattle.kw_core.proofs.InfantFrames.{entry_stays as entry_same, key_stays}
 use Rattle.kw_rows.specs.Rows.{WasLinked}
 use Rattle.kw_core.proofs.Happens.{log_entry}
-use Rattle.kw_shape.proofs.LinkedWords.{linked_entry, linked_version}
+use Rattle.kw_shape.proofs.LinkedRows.{linked_entry, linked_version}
+use Rattle.kw_puts.proofs.BuiltStages.{balancing_puts, counted_not, freezing_goes, gathering_goes}
 use Rattle.kw_puts.proofs.Owners.{pending_kept, puts_linked}
 use Rattle.kw_puts.proofs.Rely.{GoesOn}
 use Rattle.kw_puts.proofs.RelyEntry.{attempt_left}
@@ -564,4 +565,8 @@ owns_own z r r' s choice l a l' (list_ends next e n) h i st after k p = cell_put
 owns_own z r r' s choice l a l' (key_above next e n) h i st after k p = cell_puts _ next n p
 owns_own z r r' s choice l a l' (left_over_gone_by next e n) h i st after k p = cell_puts _ next n p
 owns_own z r r' s choice l a l' (gathers_left_over next n) h i st after k p = cell_puts _ next n p
+owns_own z r r' s choice l (Activity.Rebalance (Rebalance.Freeze f)) l' x h i st after k p = balancing_puts l'.activity (freezing_goes z _ s choice l f l' x) p
+owns_own z r r' s choice l (Activity.Rebalance (Rebalance.Gather g)) l' x h i st after k p = balancing_puts l'.activity (gathering_goes z _ s choice l g l' x) p
+owns_own z r r' s choice l a l' (marks_led count next d n) h i st after k p = absurd (counted_not IsPutting (λ x. x) (λ x. x) n p)
+owns_own z r r' s choice l a l' (decides count m next e n) h i st after k p = absurd (counted_not IsPutting (λ x. x) (λ x. x) n p)
 owns_own z r r' s choice l a l' _ h i st after k p = absurd p

@@ -17,6 +17,7 @@ use Rattle.kw_world.specs.declared.activity.Activity.{Activity}
 use Rattle.kw_world.specs.declared.activity.insert.Insert.TheVariants as Insert
 use Rattle.kw_world.specs.declared.activity.put.Put.TheVariants as Put
 use Rattle.kw_world.specs.declared.activity.walk.Walk.TheVariants as Walk
+use Rattle.kw_world.specs.declared.activity.rebalance.Rebalance.TheVariants as Rebalance
 use Rattle.kw_world.specs.declared.local.Local.{Local}
 use Rattle.kw_world.specs.declared.event.Choice.{Choice}
 use Rattle.kw_world.specs.Calls.{first_key}
@@ -28,7 +29,7 @@ use Rattle.kw_world.proofs.Transitions.{first_loads}
 use Rattle.kw_core.specs.Run.{Run}
 use Rattle.kw_core.specs.Stages.{IsPublished, IsPutting, IsStamped, IsStored, IsInserting, IsUnlisted, IsAtRow}
 use Rattle.kw_core.proofs.BuiltNext.{built_next}
-use Rattle.kw_core.proofs.Arrows.{builds, Arrow, sees_stamped, sees_neither, is_gone_by, helps, finds_stamped, finds_other, list_ends, key_above, left_over_gone_by, gathers_left_over, stores_version, reaches_cell, sees_none, key_before, key_same, key_after, version_before, version_after, stores_after, loses, first_ends, first_sees_none, first_reaches, inserts_behind, inserts_at_first}
+use Rattle.kw_core.proofs.Arrows.{builds, Arrow, sees_stamped, sees_neither, is_gone_by, helps, finds_stamped, finds_other, list_ends, key_above, left_over_gone_by, gathers_left_over, stores_version, reaches_cell, sees_none, key_before, key_same, key_after, version_before, version_after, stores_after, loses, first_ends, first_sees_none, first_reaches, inserts_behind, inserts_at_first, decides, marks_led}
 use Rattle.kw_core.proofs.InfantFrames.{key_stays, version_stays}
 use Rattle.kw_core.proofs.Happens.{Happens}
 use Rattle.kw_rows.specs.Rows.{WasLinked}
@@ -39,6 +40,7 @@ use Rattle.kw_puts.specs.Lists.{list_in, Inserts, WalksList}
 use Rattle.kw_puts.specs.Below.{Below}
 use Rattle.kw_puts.proofs.ListWords.{link_is, leads_there, leads_elsewhere}
 use Rattle.kw_puts.proofs.ListSteps.{leaves, list_step, lost_listed, is_set}
+use Rattle.kw_puts.proofs.BuiltStages.{balancing_puts, counted_not, freezing_goes, gathering_goes}
 use Rattle.kw_puts.proofs.OwnAttempts.{acting_own, built_puts, inserting_puts, inserting_published, inserting_stamped, inserting_stored, look_puts, cell_puts}
 
 -- What events leave.
@@ -313,6 +315,10 @@ inserts_own z r r' s choice l a l' (list_ends next e n) h i m = cell_puts _ next
 inserts_own z r r' s choice l a l' (key_above next e n) h i m = cell_puts _ next n (inserting_puts next.activity m)
 inserts_own z r r' s choice l a l' (left_over_gone_by next e n) h i m = cell_puts _ next n (inserting_puts next.activity m)
 inserts_own z r r' s choice l a l' (gathers_left_over next n) h i m = cell_puts _ next n (inserting_puts next.activity m)
+inserts_own z r r' s choice l (Activity.Rebalance (Rebalance.Freeze f)) l' x h i m = balancing_puts l'.activity (freezing_goes z _ s choice l f l' x) (inserting_puts l'.activity m)
+inserts_own z r r' s choice l (Activity.Rebalance (Rebalance.Gather g)) l' x h i m = balancing_puts l'.activity (gathering_goes z _ s choice l g l' x) (inserting_puts l'.activity m)
+inserts_own z r r' s choice l a l' (marks_led count next d n) h i o = absurd (counted_not IsInserting (λ x. x) (λ x. x) n o)
+inserts_own z r r' s choice l a l' (decides count m next e n) h i o = absurd (counted_not IsInserting (λ x. x) (λ x. x) n o)
 inserts_own z r r' s choice l a l' _ h i m = absurd m
 
 -- where the acting seat's walk is
@@ -372,4 +378,8 @@ walks_own z r r' s choice l a l' (sees_none e) h i m = tt
 walks_own z r r' s choice l a l' (key_after e) h i m = tt
 walks_own z r r' s choice l a l' (version_after e) h i m = tt
 walks_own z r r' s choice l a l' stores_after h i m = tt
+walks_own z r r' s choice l (Activity.Rebalance (Rebalance.Freeze f)) l' x h i m = balancing_puts l'.activity (freezing_goes z _ s choice l f l' x) (inserting_puts l'.activity m)
+walks_own z r r' s choice l (Activity.Rebalance (Rebalance.Gather g)) l' x h i m = balancing_puts l'.activity (gathering_goes z _ s choice l g l' x) (inserting_puts l'.activity m)
+walks_own z r r' s choice l a l' (marks_led count next d n) h i o = absurd (counted_not IsInserting (λ x. x) (λ x. x) n o)
+walks_own z r r' s choice l a l' (decides count m next e n) h i o = absurd (counted_not IsInserting (λ x. x) (λ x. x) n o)
 walks_own z r r' s choice l a l' _ h i m = absurd m

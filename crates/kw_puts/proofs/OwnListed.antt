@@ -6,6 +6,7 @@ use Rattle.kw_words.specs.Count.{count_of}
 use Rattle.kw_lists.proofs.Places.{cell_here}
 use Rattle.kw_world.specs.declared.activity.Activity.{Activity}
 use Rattle.kw_world.specs.declared.activity.put.Put.TheVariants as Put
+use Rattle.kw_world.specs.declared.activity.rebalance.Rebalance.TheVariants as Rebalance
 use Rattle.kw_world.specs.declared.local.Local.{Local}
 use Rattle.kw_world.specs.declared.event.Choice.{Choice}
 use Rattle.kw_world.specs.PutTransitions.{has_room}
@@ -15,13 +16,14 @@ use Rattle.kw_core.specs.Run.{Run}
 use Rattle.kw_core.specs.Stages.{IsAtRow, IsPutting, IsUnlisted, IsPutClear}
 use Rattle.kw_core.specs.Words.{given_in}
 use Rattle.kw_core.proofs.BuiltNext.{built_next}
-use Rattle.kw_core.proofs.Arrows.{builds, Arrow, sees_stamped, sees_neither, is_gone_by, helps, finds_stamped, finds_other, list_ends, key_above, left_over_gone_by, gathers_left_over, takes_cell, stores_key, stores_value, announces, loads_clock, stamps, is_stamped, stores_version, reaches_cell, sees_none, key_before, key_same, key_after, version_before, version_after, stores_after, inserts, loses, first_ends, first_reaches, first_sees_none, inserts_at_first, inserts_behind}
+use Rattle.kw_core.proofs.Arrows.{builds, Arrow, sees_stamped, sees_neither, is_gone_by, helps, finds_stamped, finds_other, list_ends, key_above, left_over_gone_by, gathers_left_over, takes_cell, stores_key, stores_value, announces, loads_clock, stamps, is_stamped, stores_version, reaches_cell, sees_none, key_before, key_same, key_after, version_before, version_after, stores_after, inserts, loses, first_ends, first_reaches, first_sees_none, inserts_at_first, inserts_behind, decides, marks_led}
 use Rattle.kw_core.proofs.Happens.{Happens}
 use Rattle.kw_core.proofs.RoomBelow.{room_below}
 use Rattle.kw_puts.specs.Lists.{IsOwnListed}
 use Rattle.kw_puts.specs.Below.{Below}
 use Rattle.kw_puts.proofs.ListSteps.{made_listed, lost_listed, with_listed_here}
 use Rattle.kw_puts.proofs.OwnAttempts.{built_puts, look_puts, cell_puts}
+use Rattle.kw_puts.proofs.BuiltStages.{balancing_puts, counted_not, freezing_goes, gathering_goes}
 use Rattle.kw_puts.proofs.Owners.{row_linked}
 use Rattle.kw_puts.proofs.RelyProof.{unlisted_puts}
 
@@ -72,6 +74,10 @@ unlisted_own z r r' s choice l a l' (list_ends next e n) h i u = cell_puts _ nex
 unlisted_own z r r' s choice l a l' (key_above next e n) h i u = cell_puts _ next n (unlisted_puts next.activity u)
 unlisted_own z r r' s choice l a l' (left_over_gone_by next e n) h i u = cell_puts _ next n (unlisted_puts next.activity u)
 unlisted_own z r r' s choice l a l' (gathers_left_over next n) h i u = cell_puts _ next n (unlisted_puts next.activity u)
+unlisted_own z r r' s choice l (Activity.Rebalance (Rebalance.Freeze f)) l' x h i u = balancing_puts l'.activity (freezing_goes z _ s choice l f l' x) (unlisted_puts l'.activity u)
+unlisted_own z r r' s choice l (Activity.Rebalance (Rebalance.Gather g)) l' x h i u = balancing_puts l'.activity (gathering_goes z _ s choice l g l' x) (unlisted_puts l'.activity u)
+unlisted_own z r r' s choice l a l' (marks_led count next d n) h i u = absurd (counted_not IsUnlisted (λ x. x) (λ x. x) n u)
+unlisted_own z r r' s choice l a l' (decides count m next e n) h i u = absurd (counted_not IsUnlisted (λ x. x) (λ x. x) n u)
 unlisted_own z r r' s choice l a l' _ h i u = absurd u
 
 -- and it is once it is inserted
@@ -93,6 +99,10 @@ listed_own z r r' s choice l a l' (list_ends next e n) h i u = cell_puts _ next 
 listed_own z r r' s choice l a l' (key_above next e n) h i u = cell_puts _ next n (clear_puts next.activity u)
 listed_own z r r' s choice l a l' (left_over_gone_by next e n) h i u = cell_puts _ next n (clear_puts next.activity u)
 listed_own z r r' s choice l a l' (gathers_left_over next n) h i u = cell_puts _ next n (clear_puts next.activity u)
+listed_own z r r' s choice l (Activity.Rebalance (Rebalance.Freeze f)) l' x h i u = balancing_puts l'.activity (freezing_goes z _ s choice l f l' x) (clear_puts l'.activity u)
+listed_own z r r' s choice l (Activity.Rebalance (Rebalance.Gather g)) l' x h i u = balancing_puts l'.activity (gathering_goes z _ s choice l g l' x) (clear_puts l'.activity u)
+listed_own z r r' s choice l a l' (marks_led count next d n) h i u = absurd (counted_not IsPutClear (λ x. x) (λ x. x) n u)
+listed_own z r r' s choice l a l' (decides count m next e n) h i u = absurd (counted_not IsPutClear (λ x. x) (λ x. x) n u)
 listed_own z r r' s choice l a l' _ h i u = absurd u
 
 -- both, for the acting seat

@@ -17,6 +17,7 @@ use Rattle.kw_world.specs.declared.activity.read.Read.TheVariants as Read
 use Rattle.kw_world.specs.declared.activity.rebalance.Rebalance.TheVariants as Rebalance
 use Rattle.kw_world.specs.declared.activity.rebalance.replace.Replace.TheVariants as Replace
 use Rattle.kw_world.specs.declared.activity.walk.Walk.TheVariants as Walk
+use Rattle.kw_world.specs.declared.activity.rebalance.claim.Claim.TheVariants as Claim
 use Rattle.kw_world.specs.declared.activity.rebalance.engage.Engage.TheVariants as Engage
 use Rattle.kw_world.specs.declared.activity.enter.Enter.TheVariants as Enter
 use Rattle.kw_world.specs.declared.activity.rebalance.gather.Gather.TheVariants as Gather
@@ -46,8 +47,8 @@ use Rattle.kw_puts.proofs.RelyProof.{goes_on_by}
 use Rattle.kw_core.proofs.Happens.{Changed, Happens, exchanged}
 use Rattle.kw_core.proofs.Building.{IsBuilding}
 use Rattle.kw_core.proofs.BuiltNext.{built_next}
-use Rattle.kw_puts.proofs.BuiltStages.{after_at_read, after_drawn, after_loaded, after_reading, after_settled, after_settling, after_waiting, building_after, building_underway, no_scan_replaced}
-use Rattle.kw_core.proofs.Arrows.{builds, NextLook, looks, lists, NextLeftOver, goes_to_left_over, answers, ends_scan, scans_on, Arrow, begins, enters, stores_waiting, draws, settles_empty, settles, stops, starts_at_head, guesses, guess_fails, takes_head, guess_serves, guess_is_above, reads_last, reads_before, puts_in_last, puts_before, reaches_next, walks_on, sees_pending, is_wanted, loads_to_help, list_leads, key_below, key_within, loads_version, gathers_listed, left_over_wanted, sees_stamped, sees_neither, is_gone_by, helps, finds_stamped, finds_other, list_ends, key_above, left_over_gone_by, gathers_left_over, clears_scan, leaves, waits, begins_at_first, begins_behind, first_ends, first_leads}
+use Rattle.kw_puts.proofs.BuiltStages.{after_at_read, after_drawn, after_loaded, after_reading, after_settled, after_settling, after_waiting, balancing_drawn, balancing_loaded, balancing_reading, balancing_settled, balancing_waiting, building_after, building_underway, counted_not, freezing_goes, gathering_goes, no_scan_replaced}
+use Rattle.kw_core.proofs.Arrows.{builds, NextLook, looks, lists, NextLeftOver, goes_to_left_over, answers, ends_scan, scans_on, Arrow, begins, enters, stores_waiting, draws, settles_empty, settles, stops, starts_at_head, guesses, guess_fails, takes_head, guess_serves, guess_is_above, reads_last, reads_before, puts_in_last, puts_before, reaches_next, walks_on, sees_pending, is_wanted, loads_to_help, list_leads, key_below, key_within, loads_version, gathers_listed, left_over_wanted, sees_stamped, sees_neither, is_gone_by, helps, finds_stamped, finds_other, list_ends, key_above, left_over_gone_by, gathers_left_over, clears_scan, leaves, waits, begins_at_first, begins_behind, first_ends, first_leads, decides, marks_led}
 use Rattle.kw_core.proofs.SeatLogs.{IsNoDraw, call_kept, draw_kept, look_kept, settle_kept, settle_lost}
 use Rattle.kw_shape.proofs.NextCalls.{arrow_call}
 use Rattle.kw_core.specs.Ledger.{Ledger}
@@ -139,6 +140,10 @@ waits_from z v s choice l (Activity.Read Read.Value) k b x = absurd (waiting_not
 waits_from z v s choice l (Activity.Read Read.LeftOverKey) k b x = absurd (waiting_not_read k.activity x (after_read z v s choice l (Activity.Read Read.LeftOverKey) k b tt))
 waits_from z v s choice l (Activity.Read Read.LeftOverValue) k b x = absurd (waiting_not_read k.activity x (after_read z v s choice l (Activity.Read Read.LeftOverValue) k b tt))
 waits_from z v s choice l (Activity.Draw Draw.Clock) k b x = absurd x
+waits_from z v s choice l (Activity.Rebalance (Rebalance.Freeze f)) k b x = balancing_waiting k.activity (freezing_goes z v s choice l f k b) x
+waits_from z v s choice l (Activity.Rebalance (Rebalance.Gather g)) k b x = balancing_waiting k.activity (gathering_goes z v s choice l g k b) x
+waits_from z v s choice l a k (marks_led count next d n) x = absurd (counted_not IsWaiting (λ x. x) (λ x. x) n x)
+waits_from z v s choice l a k (decides count m next e n) x = absurd (counted_not IsWaiting (λ x. x) (λ x. x) n x)
 waits_from z v s choice l a k b x = absurd x
 
 -- a scan that has its version had it, or has just settled it; and a seat on its way that is no scan
@@ -151,6 +156,10 @@ drawn_from z v s choice l (Activity.Read _) k b e x = inl tt
 drawn_from z v s choice l (Activity.EndScan answer) k b e x = inl tt
 drawn_from z v s choice l (Activity.Draw Draw.Settle) k b e x = inr tt
 drawn_from z v s choice l a k (enters n) e x = true_false e n
+drawn_from z v s choice l (Activity.Rebalance (Rebalance.Freeze f)) k b e x = balancing_drawn k.activity (freezing_goes z v s choice l f k b) x
+drawn_from z v s choice l (Activity.Rebalance (Rebalance.Gather g)) k b e x = balancing_drawn k.activity (gathering_goes z v s choice l g k b) x
+drawn_from z v s choice l a k (marks_led count next d n) f x = absurd (counted_not HasDrawn (λ x. x) (λ x. x) n x)
+drawn_from z v s choice l a k (decides count m next e n) f x = absurd (counted_not HasDrawn (λ x. x) (λ x. x) n x)
 drawn_from z v s choice l a k b e x = absurd x
 
 -- the scan's word says so from then on, until it is cleared
@@ -161,6 +170,10 @@ settled_from z v s choice l (Activity.Look _) k b e x = inl tt
 settled_from z v s choice l (Activity.Read _) k b e x = inl tt
 settled_from z v s choice l (Activity.Draw Draw.Settle) k b e x = inr tt
 settled_from z v s choice l a k (enters n) e x = true_false e n
+settled_from z v s choice l (Activity.Rebalance (Rebalance.Freeze f)) k b e x = balancing_settled k.activity (freezing_goes z v s choice l f k b) x
+settled_from z v s choice l (Activity.Rebalance (Rebalance.Gather g)) k b e x = balancing_settled k.activity (gathering_goes z v s choice l g k b) x
+settled_from z v s choice l a k (marks_led count next d n) f x = absurd (counted_not IsSettled (λ x. x) (λ x. x) n x)
+settled_from z v s choice l a k (decides count m next e n) f x = absurd (counted_not IsSettled (λ x. x) (λ x. x) n x)
 settled_from z v s choice l a k b e x = absurd x
 
 -- a reader that has looked at the first entry had looked at it, or looks at it now
@@ -172,6 +185,10 @@ reading_from z v s choice l (Activity.Look _) k b x = inl tt
 reading_from z v s choice l (Activity.Read _) k b x = inl tt
 reading_from z v s choice l a k (reads_last e n) x = absurd (omega (arith, x))
 reading_from z v s choice l a k (reads_before e n) x = absurd (omega (arith, x))
+reading_from z v s choice l (Activity.Rebalance (Rebalance.Freeze f)) k b x = balancing_reading k.activity (freezing_goes z v s choice l f k b) x
+reading_from z v s choice l (Activity.Rebalance (Rebalance.Gather g)) k b x = balancing_reading k.activity (gathering_goes z v s choice l g k b) x
+reading_from z v s choice l a k (marks_led count next d n) x = absurd (counted_not IsReading (λ x. x) (λ x. x) n x)
+reading_from z v s choice l a k (decides count m next e n) x = absurd (counted_not IsReading (λ x. x) (λ x. x) n x)
 reading_from z v s choice l a k b x = absurd x
 
 -- a scan keeps its version
@@ -191,6 +208,7 @@ not_idle_drawn z v s choice l a k (left_over_gone_by next e n) x y = cell_versio
 not_idle_drawn z v s choice l a k (gathers_left_over next n) x y = cell_version _ next n
 not_idle_drawn z v s choice l a k (leaves answer) x y = absurd y
 not_idle_drawn z v s choice l (Activity.Draw Draw.Settle) k b x y = absurd x
+not_idle_drawn z v s choice l (Activity.Rebalance _) k b x y = absurd x
 not_idle_drawn z v s choice l (Activity.Put Put.Clock) k b x y = absurd x
 not_idle_drawn z v s choice l (Activity.Put Put.Stamp) k b x y = absurd x
 not_idle_drawn z v s choice l a k b x y = refl
@@ -258,16 +276,11 @@ module _ {z : Sizes} {r r' : Run} {s : ℕ} {choice : Choice} {l l' : Local} whe
   word_settled (Activity.Draw Draw.Settle) h c x = absurd c
   word_settled (Activity.EndScan answer) h c x = absurd c
   word_settled (Activity.Insert Insert.Exchange) h c x = absurd c
-  word_settled (Activity.Rebalance (Rebalance.Freeze (Freeze.Settle i))) h c x = absurd c
-  word_settled (Activity.Rebalance (Rebalance.Replace Replace.Exchange)) h c x = absurd c
   word_settled (Activity.Enter Enter.Announce) h c x = unwritten (Activity.Enter Enter.Announce) h (name.Scan s) h.seat (λ e. cc)
   word_settled (Activity.Look Look.Key) h c x = unwritten (Activity.Look Look.Key) h (name.Scan s) h.seat (λ e. cc)
   word_settled (Activity.Put Put.Count) h c x = unwritten (Activity.Put Put.Count) h (name.Scan s) h.seat (λ e. cc)
   word_settled (Activity.Read Read.Link) h c x = unwritten (Activity.Read Read.Link) h (name.Scan s) h.seat (λ e. cc)
-  word_settled (Activity.Rebalance (Rebalance.Engage Engage.Clock)) h c x = unwritten (Activity.Rebalance (Rebalance.Engage Engage.Clock)) h (name.Scan s) h.seat (λ e. cc)
-  word_settled (Activity.Rebalance (Rebalance.Gather Gather.Link)) h c x = unwritten (Activity.Rebalance (Rebalance.Gather Gather.Link)) h (name.Scan s) h.seat (λ e. cc)
-  word_settled (Activity.Rebalance (Rebalance.Seek Seek.Next)) h c x = unwritten (Activity.Rebalance (Rebalance.Seek Seek.Next)) h (name.Scan s) h.seat (λ e. cc)
-  word_settled (Activity.Rebalance (Rebalance.Write Write.Count)) h c x = unwritten (Activity.Rebalance (Rebalance.Write Write.Count)) h (name.Scan s) h.seat (λ e. cc)
+  word_settled (Activity.Rebalance _) h c x = absurd c
   word_settled a h c x = unwritten a h (name.Scan s) h.seat (λ e. cc)
 
   -- the word is set where a scan begins to wait and where it settles; every other event keeps it or
@@ -296,6 +309,7 @@ module _ {z : Sizes} {r r' : Run} {s : ℕ} {choice : Choice} {l l' : Local} whe
   word_next (Activity.Put Put.Count) h n w f q = inl (unwritten (Activity.Put Put.Count) h (name.Scan s) h.seat (λ e. cc))
   word_next (Activity.Read Read.Link) h n w f q = inl (unwritten (Activity.Read Read.Link) h (name.Scan s) h.seat (λ e. cc))
   word_next (Activity.Rebalance (Rebalance.Engage Engage.Clock)) h n w f q = inl (unwritten (Activity.Rebalance (Rebalance.Engage Engage.Clock)) h (name.Scan s) h.seat (λ e. cc))
+  word_next (Activity.Rebalance (Rebalance.Claim Claim.Count)) h n w f q = inl (unwritten (Activity.Rebalance (Rebalance.Claim Claim.Count)) h (name.Scan s) h.seat (λ e. cc))
   word_next (Activity.Rebalance (Rebalance.Gather Gather.Link)) h n w f q = inl (unwritten (Activity.Rebalance (Rebalance.Gather Gather.Link)) h (name.Scan s) h.seat (λ e. cc))
   word_next (Activity.Rebalance (Rebalance.Seek Seek.Next)) h n w f q = inl (unwritten (Activity.Rebalance (Rebalance.Seek Seek.Next)) h (name.Scan s) h.seat (λ e. cc))
   word_next (Activity.Rebalance (Rebalance.Write Write.Count)) h n w f q = inl (unwritten (Activity.Rebalance (Rebalance.Write Write.Count)) h (name.Scan s) h.seat (λ e. cc))
@@ -539,6 +553,10 @@ loaded_from z v s choice l (Activity.Read Read.Value) k b x = absurd (loaded_not
 loaded_from z v s choice l (Activity.Read Read.LeftOverKey) k b x = absurd (loaded_not_read k.activity x (after_read z v s choice l (Activity.Read Read.LeftOverKey) k b tt))
 loaded_from z v s choice l (Activity.Read Read.LeftOverValue) k b x = absurd (loaded_not_read k.activity x (after_read z v s choice l (Activity.Read Read.LeftOverValue) k b tt))
 loaded_from z v s choice l (Activity.Draw Draw.Clock) k b x = absurd x
+loaded_from z v s choice l (Activity.Rebalance (Rebalance.Freeze f)) k b x = balancing_loaded k.activity (freezing_goes z v s choice l f k b) x
+loaded_from z v s choice l (Activity.Rebalance (Rebalance.Gather g)) k b x = balancing_loaded k.activity (gathering_goes z v s choice l g k b) x
+loaded_from z v s choice l a k (marks_led count next d n) x = absurd (counted_not HasLoaded (λ x. x) (λ x. x) n x)
+loaded_from z v s choice l a k (decides count m next e n) x = absurd (counted_not HasLoaded (λ x. x) (λ x. x) n x)
 loaded_from z v s choice l a k b x = absurd x
 
 -- the first entry is looked at now

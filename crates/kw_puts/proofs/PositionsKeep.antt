@@ -11,7 +11,9 @@ use Rattle.kw_world.specs.declared.activity.rebalance.Rebalance.TheVariants as R
 use Rattle.kw_world.specs.declared.activity.rebalance.replace.Replace.TheVariants as Replace
 use Rattle.kw_world.specs.declared.activity.rebalance.seek.Seek.TheVariants as Seek
 use Rattle.kw_world.specs.declared.activity.walk.Walk.TheVariants as Walk
+use Rattle.kw_world.specs.declared.activity.rebalance.claim.Claim.TheVariants as Claim
 use Rattle.kw_world.specs.declared.activity.rebalance.engage.Engage.TheVariants as Engage
+use Rattle.kw_world.specs.declared.activity.rebalance.left.Left.TheVariants as Left
 use Rattle.kw_world.specs.declared.activity.enter.Enter.TheVariants as Enter
 use Rattle.kw_world.specs.declared.activity.rebalance.gather.Gather.TheVariants as Gather
 use Rattle.kw_world.specs.declared.activity.insert.Insert.TheVariants as Insert
@@ -51,6 +53,7 @@ use Rattle.kw_words.specs.declared.kind.Kind.{Kind}
 use Rattle.kw_world.specs.ListTransitions.{cell_guess, first_operation}
 use Rattle.kw_world.specs.WalkTransitions.{start_transition, walk_transition, is_stopped}
 use Rattle.kw_world.specs.SeekTransitions.{seek_first_transition}
+use Rattle.kw_world.specs.LeftTransitions.{left_transition}
 use Rattle.kw_world.specs.ReplaceTransitions.{before_transition}
 use Rattle.kw_world.specs.Table.{transition}
 use Rattle.kw_core.specs.declared.history.Logged.{Logged}
@@ -226,6 +229,13 @@ draw_raises z r r' s choice l l' (Activity.Rebalance (Rebalance.Replace Replace.
     begins Go x = x
     begins (Guess q) x = x
     begins Stop x = x
+draw_raises z r r' s choice l l' (Activity.Rebalance (Rebalance.Left Left.Start)) h d = absurd (goes choice d)
+  where
+    goes : (c : Choice) → IsDraw (left_transition c l).operation.kind → ⊥
+    goes (Begin call) x = x
+    goes Go x = x
+    goes (Guess q) x = x
+    goes Stop x = x
 draw_raises z r r' s choice l l' (Activity.Enter Enter.Announce) h d = absurd d
 draw_raises z r r' s choice l l' (Activity.Look Look.Key) h d = absurd d
 draw_raises z r r' s choice l l' (Activity.Read Read.Start) h d = absurd (first_draws_none l (cell_guess choice l) d)
@@ -234,6 +244,7 @@ draw_raises z r r' s choice l l' (Activity.Put Put.Count) h d = absurd d
 draw_raises z r r' s choice l l' (Activity.Insert Insert.Start) h d = absurd (first_draws_none l (cell_guess choice l) d)
 draw_raises z r r' s choice l l' (Activity.Insert Insert.Link) h d = absurd d
 draw_raises z r r' s choice l l' (Activity.Rebalance (Rebalance.Engage Engage.Clock)) h d = absurd d
+draw_raises z r r' s choice l l' (Activity.Rebalance (Rebalance.Claim Claim.Count)) h d = absurd d
 draw_raises z r r' s choice l l' (Activity.Rebalance (Rebalance.Gather Gather.Link)) h d = absurd d
 draw_raises z r r' s choice l l' (Activity.Rebalance (Rebalance.Write Write.Count)) h d = absurd d
 draw_raises z r r' s choice l l' a h d = absurd d

@@ -45,8 +45,8 @@ puts_keep z r r' s choice l a l' h i st after k = record {
   old = old_keeps z r r' s choice l a l' h.arrow h i st;
   entry = entry_keeps z r r' s choice l a l' h.arrow h i;
   tries = each_seat h (λ t k. IsToFreeze k.activity k) (tries_own z r r' s choice l a l' h.arrow) (λ t k d g. i.puts.tries t k g);
-  freezes = each_seat h (λ t k. Freezes z (word z r'.world) (slice_get r'.world.locals) k.activity k) (freezes_own z r r' s choice l a l' h.arrow h i) (λ t k d g. freezes_other z r r' s choice l a l' h i t k g);
-  remembers = each_seat h (λ t k. Remembers z r'.ledger.rows r'.history r'.origin r'.listed k.activity k) (remembers_own z r r' s choice l a l' h.arrow h i st) (λ t k d g. remembers_other z r r' s choice l a l' h i st t k g);
+  freezes = each_seat h (λ t k. Freezes z (word z r'.world) (slice_get r'.world.locals) k.activity k) (freezes_own z r r' s choice l a l' h.arrow h i after) (λ t k d g. freezes_other z r r' s choice l a l' h i t k g);
+  remembers = each_seat h (λ t k. Remembers z r'.ledger.rows r'.history r'.origin r'.listed k.activity k) (remembers_own z r r' s choice l a l' h.arrow h i st after) (λ t k d g. remembers_other z r r' s choice l a l' h i st t k g);
   helps = each_seat h (λ t k. HasSeenPending k.activity → Helps r'.history r'.origin k.activity k (r'.seats t))
       (helps_own z r r' s choice l a l' h.arrow h i st)
       (λ t k d g p. helps_stable z r r' t k (rely z r r' s choice l a l' h i st t k d g) (row_linked z r i.shape t k g (saw_at_row k.activity p)) (i.puts.helps t k g p));

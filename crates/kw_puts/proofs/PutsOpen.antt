@@ -63,13 +63,13 @@ module _ (z : Sizes) (o : Opening) (i : IsOpening z o) where
     old = λ p w. absurd (omega arith);
     entry = λ q t w u. inl (opens z o i (name.Pend q t) (w, u));
     tries = each_rests z o (λ t l. IsToFreeze l.activity l) (λ t. tt);
-    freezes = each_rests z o (λ t l. Freezes z (word z (opened z o)) (slice_get (opened z o).locals) l.activity l) (λ t. record { count = λ x. absurd x; settled = λ x. absurd x });
-    remembers = each_rests z o (λ t l. Remembers z (start z o).ledger.rows nothing_yet (λ q c. None) none_listed l.activity l) (λ t. record { marks = λ x. absurd x; noted = λ x. absurd x });
+    freezes = each_rests z o (λ t l. Freezes z (word z (opened z o)) (slice_get (opened z o).locals) l.activity l) (λ t. record { count = λ q x. absurd x.0; settled = λ q j x. absurd x.0 });
+    remembers = each_rests z o (λ t l. Remembers z (start z o).ledger.rows nothing_yet (λ q c. None) none_listed l.activity l) (λ t. record { marks = λ x. absurd x; noted = λ q p x. absurd x });
     helps = each_rests z o (λ t l. HasSeenPending l.activity → Helps nothing_yet (λ q c. None) l.activity l no_log) (λ t x. absurd x);
     born = λ q k. omega arith;
     dead = λ q j d w. none_dead o q d;
     gone = λ p w x. absurd (omega arith);
-    builds = each_rests z o (λ t l. Builds z (row_in (word z (opened z o)) l.row (none_listed l.row)) nothing_yet (λ q c. None) none_listed l.activity l) (λ t. record { gathering = λ x. absurd x; gathered = λ x. absurd x; collected = λ x. absurd x; kept = λ x. absurd x; holds = λ x. absurd x; whole = λ j q x. absurd x; words = λ x. absurd x });
+    builds = each_rests z o (λ t l. Builds z (row_in (word z (opened z o)) l.rebalance.hand (none_listed l.rebalance.hand)) nothing_yet (λ q c. None) none_listed l.activity l) (λ t. record { gathering = λ x. absurd x; gathered = λ x. absurd x; collected = λ x. absurd x; kept = λ x. absurd x; holds = λ x. absurd x; whole = λ j q x. absurd x; words = λ x. absurd x });
   }
 
   pub positions_start : Positions z (start z o)

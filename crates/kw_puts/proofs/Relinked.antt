@@ -27,6 +27,7 @@ use Rattle.kw_world.specs.declared.activity.rebalance.Rebalance.TheVariants as R
 use Rattle.kw_world.specs.declared.activity.rebalance.replace.Replace.TheVariants as Replace
 use Rattle.kw_world.specs.declared.event.Choice.{Choice}
 use Rattle.kw_world.specs.declared.local.Local.{Local}
+use Rattle.kw_world.specs.GroupPlaces.{cell_at, row_at}
 use Rattle.kw_world.specs.PutTransitions.{given_of}
 use Rattle.kw_world.specs.Sane.{IsCopy}
 use Rattle.kw_world.specs.SeekTransitions.{at_infant}
@@ -47,9 +48,8 @@ use Rattle.kw_core.proofs.InfantFrames.{row_stays}
 use Rattle.kw_core.proofs.Steps.{old_stays}
 use Rattle.kw_shape.specs.Infants.{Written}
 use Rattle.kw_shape.specs.Plans.{Plans}
-use Rattle.kw_shape.proofs.InfantsFit.{infant_counts, taken_below}
+use Rattle.kw_shape.proofs.InfantsStay.{infant_counts, taken_below, written_stays}
 use Rattle.kw_shape.proofs.InfantsRely.{linked_not_infant, index_of_row}
-use Rattle.kw_shape.proofs.InfantsStay.{written_stays}
 use Rattle.kw_shape.proofs.MayReplace.{least_fits}
 use Rattle.kw_shape.proofs.LinkedRows.{ComesNow, fresh_linked, infants_at, linked_before, search_at}
 use Rattle.kw_puts.specs.Below.{Below}
@@ -117,7 +117,7 @@ module _ {z : Sizes} {r r' : Run} {s : ℕ} {choice : Choice} {l l' : Local} {e 
   -- there are no more than a row has
   short : length (infant_cells k) ≤ z.cells
   unfolding k
-  short = cells_short z r.world s l i.shape.sane h.knows place.0
+  short = cells_short z r.world s l i.shape.sane h.knows place.0 (slice_get_within l.rebalance.taken place.0 q place.1)
 
   -- they are in range
   sound : All IsCopy (infant_cells k)
@@ -147,7 +147,7 @@ module _ {z : Sizes} {r r' : Run} {s : ℕ} {choice : Choice} {l l' : Local} {e 
 
   -- and after the event
   copied_after : Copied z r'.history r'.origin r'.listed (Activity.Rebalance (Rebalance.Replace Replace.Start)) k q
-  copied_after = copied_goes z r.history r'.history e r.origin r'.origin r.listed r'.listed (Activity.Rebalance (Rebalance.Replace Replace.Start)) (Activity.Rebalance (Rebalance.Replace Replace.Start)) k k q st refl refl (λ j n m. m) (λ j n m. m) (λ n. (tt, λ j m. m)) (λ j. origin_stays (Activity.Rebalance (Rebalance.Replace Replace.Exchange)) h q j (λ x. x)) (λ c. origin_stays (Activity.Rebalance (Rebalance.Replace Replace.Exchange)) h k.row c (λ x. x)) (λ j. listed_stays (Activity.Rebalance (Rebalance.Replace Replace.Exchange)) h q j (λ x. x)) copied_before
+  copied_after = copied_goes z r.history r'.history e r.origin r'.origin r.listed r'.listed (Activity.Rebalance (Rebalance.Replace Replace.Start)) (Activity.Rebalance (Rebalance.Replace Replace.Start)) k k q st refl refl refl (λ j n m. m) (λ j n m. m) (λ n. (tt, λ j m. m)) (λ j. origin_stays (Activity.Rebalance (Rebalance.Replace Replace.Exchange)) h q j (λ x. x)) (λ j c g. origin_stays (Activity.Rebalance (Rebalance.Replace Replace.Exchange)) h (row_at z k c.place) (cell_at z c.place) (λ x. x)) (λ j. listed_stays (Activity.Rebalance (Rebalance.Replace Replace.Exchange)) h q j (λ x. x)) copied_before
 
   -- the row as its list
   from_cells : IsWrittenFrom (infant_cells k) (row_in (word z r'.world) q (r'.listed q))

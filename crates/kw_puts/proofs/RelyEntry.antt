@@ -37,7 +37,7 @@ use Rattle.kw_core.proofs.NotedLaws.{attempt_set_same, attempt_set_other, attemp
 use Rattle.kw_core.proofs.Happens.{Happens, chosen, not_chosen, exchanged, not_exchanged}
 use Rattle.kw_core.proofs.FreezeFrame.{FreezesEntry, entry_frozen, entry_left}
 use Rattle.kw_core.proofs.InfantFrames.{entry_stays}
-use Rattle.kw_shape.proofs.LinkedWords.{linked_entry}
+use Rattle.kw_shape.proofs.LinkedRows.{linked_entry}
 use Rattle.kw_puts.proofs.Owners.{IsPendingOf, true_false, own_origin, owns_apart, pending_cell, pending_own, pending_entry, entry_owner, published_puts, puts_busy, puts_linked}
 use Rattle.kw_core.proofs.Changes.{Makes, makes_nothing, makes_begin, makes_add, makes_announce, makes_stamp, makes_help, makes_end, made, makes_lose}
 use Rattle.kw_core.proofs.Happens.{log_entry}
@@ -314,31 +314,31 @@ entry_not_idle p e = saw p.is_lost p.is_stamped refl refl
     saw false false x y = let w : pend_word (pend.Pending p.cell) ≡ pend_word pend.Idle = rw (x, y) at e in omega (arith, w)
 
 module _ (z : Sizes) (r r' : Run) (s : ℕ) (choice : Choice) (l l' : Local) (i : Below z r) (j : ℕ) (h : Happens z r r' s choice l l' (Activity.Rebalance (Rebalance.Freeze (Freeze.Entry j)))) where
-  row_below : l.row < r.world.rows
-  row_below = (i.shape.sane.locals s l h.knows).below.row
+  row_below : l.rebalance.hand < r.world.rows
+  row_below = (i.shape.sane.locals s l h.knows).below.rebalance.hand
 
   seat_below : j < z.seats
   seat_below = subst (IsActivity z) h.activity (i.shape.sane.locals s l h.knows).ranges.activity
 
   -- the change of the record, by what was found in the entry
-  changes : (x : Pend) → l.rebalance.entry ≡ x → word z r.world (name.Pend l.row j) ≡ pend_word l.rebalance.entry → r'.history ≡ noted r.history (log_entry z r (Activity.Rebalance (Rebalance.Freeze (Freeze.Entry j))) s choice l) (freezing x l.row r.origin)
-  changes x e f = h.history ∙ ap (λ c. noted r.history (log_entry z r (Activity.Rebalance (Rebalance.Freeze (Freeze.Entry j))) s choice l) c) (chosen _ _ _ Nothing f ∙ ap (λ y. freezing y l.row r.origin) e)
+  changes : (x : Pend) → l.rebalance.entry ≡ x → word z r.world (name.Pend l.rebalance.hand j) ≡ pend_word l.rebalance.entry → r'.history ≡ noted r.history (log_entry z r (Activity.Rebalance (Rebalance.Freeze (Freeze.Entry j))) s choice l) (freezing x l.rebalance.hand r.origin)
+  changes x e f = h.history ∙ ap (λ c. noted r.history (log_entry z r (Activity.Rebalance (Rebalance.Freeze (Freeze.Entry j))) s choice l) c) (chosen _ _ _ Nothing f ∙ ap (λ y. freezing y l.rebalance.hand r.origin) e)
 
   -- an exchange that is not made changes nothing
-  pub not_frozen : word z r.world (name.Pend l.row j) ≢ pend_word l.rebalance.entry → r'.history ≡ noted r.history (log_entry z r (Activity.Rebalance (Rebalance.Freeze (Freeze.Entry j))) s choice l) Nothing
+  pub not_frozen : word z r.world (name.Pend l.rebalance.hand j) ≢ pend_word l.rebalance.entry → r'.history ≡ noted r.history (log_entry z r (Activity.Rebalance (Rebalance.Freeze (Freeze.Entry j))) s choice l) Nothing
   not_frozen d = h.history ∙ ap (λ c. noted r.history (log_entry z r (Activity.Rebalance (Rebalance.Freeze (Freeze.Entry j))) s choice l) c) (not_chosen _ _ _ Nothing d)
 
   -- a pending entry is that of the seat's own attempt, which is lost
-  module _ (c : ℕ) (e : l.rebalance.entry ≡ pend.Pending c) (f : word z r.world (name.Pend l.row j) ≡ pend_word l.rebalance.entry) where
-    pub pends : IsPendingOf z r l.row j c
-    pends = entry_owner i.puts l.row j c row_below seat_below (f ∙ ap pend_word e)
+  module _ (c : ℕ) (e : l.rebalance.entry ≡ pend.Pending c) (f : word z r.world (name.Pend l.rebalance.hand j) ≡ pend_word l.rebalance.entry) where
+    pub pends : IsPendingOf z r l.rebalance.hand j c
+    pends = entry_owner i.puts l.rebalance.hand j c row_below seat_below (f ∙ ap pend_word e)
 
     pub loser : OwnsAttempt (word z r.world) r.history j pends.local.activity pends.local (r.seats j)
     loser = i.puts.owns j pends.local pends.knows (published_puts pends.local.activity pends.published)
 
     pub loses_own : r'.history ≡ noted r.history (log_entry z r (Activity.Rebalance (Rebalance.Freeze (Freeze.Entry j))) s choice l) (Loses (r.seats j).own)
     loses_own =
-        let origin : r.origin l.row c ≡ Some (r.seats j).own = rw (pends.row, sym loser.cell ∙ pends.cell) at (own_origin i.puts j pends.local pends.knows (published_puts pends.local.activity pends.published)) in
+        let origin : r.origin l.rebalance.hand c ≡ Some (r.seats j).own = rw (pends.row, sym loser.cell ∙ pends.cell) at (own_origin i.puts j pends.local pends.knows (published_puts pends.local.activity pends.published)) in
         changes (pend.Pending c) e f ∙ ap (λ x. noted r.history (log_entry z r (Activity.Rebalance (Rebalance.Freeze (Freeze.Entry j))) s choice l) (losing x)) origin
 
 module _ (z : Sizes) (r r' : Run) (s : ℕ) (choice : Choice) (l l' : Local) (i : Below z r) (t : ℕ) (k : Local) (d : t ≢ s) (g : slice_get r.world.locals t ≡ Some k) (j : ℕ) (h : Happens z r r' s choice l l' (Activity.Rebalance (Rebalance.Freeze (Freeze.Entry j)))) where
@@ -353,27 +353,27 @@ module _ (z : Sizes) (r r' : Run) (s : ℕ) (choice : Choice) (l l' : Local) (i 
       (λ p. put_left r.history r'.history _ (r.seats t).call Nothing tt n (i.positions.calling t k g p).within)
 
   -- an entry of another row, or of another seat
-  elsewhere : (k.row ≡ l.row → t ≡ j → ⊥) → word z r'.world (name.Pend k.row t) ≡ word z r.world (name.Pend k.row t)
+  elsewhere : (k.row ≡ l.rebalance.hand → t ≡ j → ⊥) → word z r'.world (name.Pend k.row t) ≡ word z r.world (name.Pend k.row t)
   elsewhere n = entry_stays (Activity.Rebalance (Rebalance.Freeze (Freeze.Entry j))) h k.row t its_row (inside z r r' s choice l l' i t k d g) (λ x. n x.0 x.1)
 
   -- the exchange that is not made
-  left : word z r.world (name.Pend l.row j) ≢ pend_word l.rebalance.entry → RelyEntry (word z r.world) (word z r'.world) r.history r'.history t k.activity k (r.seats t)
-  left n = unchanged (not_frozen z r r' s choice l l' i j h n) (λ p. which (cases_eq k.row l.row) (cases_eq t j))
+  left : word z r.world (name.Pend l.rebalance.hand j) ≢ pend_word l.rebalance.entry → RelyEntry (word z r.world) (word z r'.world) r.history r'.history t k.activity k (r.seats t)
+  left n = unchanged (not_frozen z r r' s choice l l' i j h n) (λ p. which (cases_eq k.row l.rebalance.hand) (cases_eq t j))
     where
-      which : (k.row ≡ l.row) ⊎ (k.row ≡ l.row → ⊥) → (t ≡ j) ⊎ (t ≡ j → ⊥) → word z r'.world (name.Pend k.row t) ≡ word z r.world (name.Pend k.row t)
+      which : (k.row ≡ l.rebalance.hand) ⊎ (k.row ≡ l.rebalance.hand → ⊥) → (t ≡ j) ⊎ (t ≡ j → ⊥) → word z r'.world (name.Pend k.row t) ≡ word z r.world (name.Pend k.row t)
       which (inl e) (inl f) = rw (e, f) (entry_left j h n)
       which (inr e) f = elsewhere (λ u w. e u)
       which (inl e) (inr f) = elsewhere (λ u w. f w)
 
   -- an idle entry is frozen: no attempt is lost, and a seat whose entry it is has not announced its
   -- cell
-  idle : l.rebalance.entry ≡ pend.Idle → word z r.world (name.Pend l.row j) ≡ pend_word l.rebalance.entry → RelyEntry (word z r.world) (word z r'.world) r.history r'.history t k.activity k (r.seats t)
-  idle e f = which (cases_eq k.row l.row) (cases_eq t j)
+  idle : l.rebalance.entry ≡ pend.Idle → word z r.world (name.Pend l.rebalance.hand j) ≡ pend_word l.rebalance.entry → RelyEntry (word z r.world) (word z r'.world) r.history r'.history t k.activity k (r.seats t)
+  idle e f = which (cases_eq k.row l.rebalance.hand) (cases_eq t j)
     where
       same : r'.history ≡ noted r.history (log_entry z r (Activity.Rebalance (Rebalance.Freeze (Freeze.Entry j))) s choice l) Nothing
       same = changes z r r' s choice l l' i j h pend.Idle e f
 
-      here : k.row ≡ l.row → t ≡ j → RelyEntry (word z r.world) (word z r'.world) r.history r'.history t k.activity k (r.seats t)
+      here : k.row ≡ l.rebalance.hand → t ≡ j → RelyEntry (word z r.world) (word z r'.world) r.history r'.history t k.activity k (r.seats t)
       here x y = by (fresh_published k.activity)
         where
           was : word z r.world (name.Pend k.row t) ≡ pend_word pend.Idle
@@ -388,19 +388,19 @@ module _ (z : Sizes) (r r' : Run) (s : ℕ) (choice : Choice) (l l' : Local) (i 
           by (inr (inl p)) = absurd (entry_not_idle (attempt r.history (r.seats t).own) (sym ((i.puts.owns t k g (published_puts k.activity p)).entry p) ∙ was))
           by (inr (inr n)) = unchanged same (λ p. absurd (n p))
 
-      which : (k.row ≡ l.row) ⊎ (k.row ≡ l.row → ⊥) → (t ≡ j) ⊎ (t ≡ j → ⊥) → RelyEntry (word z r.world) (word z r'.world) r.history r'.history t k.activity k (r.seats t)
+      which : (k.row ≡ l.rebalance.hand) ⊎ (k.row ≡ l.rebalance.hand → ⊥) → (t ≡ j) ⊎ (t ≡ j → ⊥) → RelyEntry (word z r.world) (word z r'.world) r.history r'.history t k.activity k (r.seats t)
       which (inl x) (inl y) = here x y
       which (inr x) y = unchanged same (λ p. elsewhere (λ u w. x u))
       which (inl x) (inr y) = unchanged same (λ p. elsewhere (λ u w. y w))
 
   -- a pending entry is frozen: the attempt of the seat that has announced it is lost
-  pending : (c : ℕ) → l.rebalance.entry ≡ pend.Pending c → word z r.world (name.Pend l.row j) ≡ pend_word l.rebalance.entry → RelyEntry (word z r.world) (word z r'.world) r.history r'.history t k.activity k (r.seats t)
+  pending : (c : ℕ) → l.rebalance.entry ≡ pend.Pending c → word z r.world (name.Pend l.rebalance.hand j) ≡ pend_word l.rebalance.entry → RelyEntry (word z r.world) (word z r'.world) r.history r'.history t k.activity k (r.seats t)
   pending c e f = which (cases_eq t j)
     where
       n : r'.history ≡ noted r.history (log_entry z r (Activity.Rebalance (Rebalance.Freeze (Freeze.Entry j))) s choice l) (Loses (r.seats j).own)
       n = loses_own z r r' s choice l l' i j h c e f
 
-      w : IsPendingOf z r l.row j c
+      w : IsPendingOf z r l.rebalance.hand j c
       w = pends z r r' s choice l l' i j h c e f
 
       apart : (t ≡ j → ⊥) → RelyEntry (word z r.world) (word z r'.world) r.history r'.history t k.activity k (r.seats t)
@@ -413,7 +413,7 @@ module _ (z : Sizes) (r r' : Run) (s : ℕ) (choice : Choice) (l l' : Local) (i 
       here y =
           let is : w.local ≡ k = same_Some w.local k (sym w.knows ∙ rw (sym y) g) in
           let published : IsPublished k.activity = subst (λ (x : Local). IsPublished x.activity) is w.published in
-          let row : k.row ≡ l.row = subst (λ (x : Local). x.row ≡ l.row) is w.row in
+          let row : k.row ≡ l.rebalance.hand = subst (λ (x : Local). x.row ≡ l.rebalance.hand) is w.row in
           let puts = published_puts k.activity published in
           let own = i.puts.owns t k g puts in
           let unstamped_now : (attempt r.history (r.seats t).own).is_stamped ≡ false = rw y w.unstamped in
@@ -430,14 +430,14 @@ module _ (z : Sizes) (r r' : Run) (s : ℕ) (choice : Choice) (l l' : Local) (i 
 
   -- an event that freezes an entry, or tries to
   pub entry_freezes : RelyEntry (word z r.world) (word z r'.world) r.history r'.history t k.activity k (r.seats t)
-  entry_freezes = which (cases_eq (word z r.world (name.Pend l.row j)) (pend_word l.rebalance.entry))
+  entry_freezes = which (cases_eq (word z r.world (name.Pend l.rebalance.hand j)) (pend_word l.rebalance.entry))
     where
-      by : (x : Pend) → l.rebalance.entry ≡ x → IsUnsettled x → word z r.world (name.Pend l.row j) ≡ pend_word l.rebalance.entry → RelyEntry (word z r.world) (word z r'.world) r.history r'.history t k.activity k (r.seats t)
+      by : (x : Pend) → l.rebalance.entry ≡ x → IsUnsettled x → word z r.world (name.Pend l.rebalance.hand j) ≡ pend_word l.rebalance.entry → RelyEntry (word z r.world) (word z r'.world) r.history r'.history t k.activity k (r.seats t)
       by pend.Idle e u f = idle e f
       by (pend.Pending c) e u f = pending c e f
       by (pend.Stamped c version) e u f = absurd u
       by pend.Frozen e u f = absurd u
 
-      which : (word z r.world (name.Pend l.row j) ≡ pend_word l.rebalance.entry) ⊎ (word z r.world (name.Pend l.row j) ≡ pend_word l.rebalance.entry → ⊥) → RelyEntry (word z r.world) (word z r'.world) r.history r'.history t k.activity k (r.seats t)
+      which : (word z r.world (name.Pend l.rebalance.hand j) ≡ pend_word l.rebalance.entry) ⊎ (word z r.world (name.Pend l.rebalance.hand j) ≡ pend_word l.rebalance.entry → ⊥) → RelyEntry (word z r.world) (word z r'.world) r.history r'.history t k.activity k (r.seats t)
       which (inl f) = by l.rebalance.entry refl (subst (λ x. IsToFreeze x l) h.activity (i.puts.tries s l h.knows)) f
       which (inr n) = left n

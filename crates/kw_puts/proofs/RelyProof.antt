@@ -47,8 +47,7 @@ use Rattle.kw_shape.proofs.InfantsRely.{linked_not_infant}
 use Rattle.kw_shape.proofs.RowsKeep.{others_kept, rely_rows}
 use Rattle.kw_shape.specs.Infants.{HasAtHand, IsInfantOf, nursing_of}
 use Rattle.kw_shape.specs.RowsIn.{has_frozen}
-use Rattle.kw_shape.proofs.LinkedRows.{hand_infant, not_hand}
-use Rattle.kw_shape.proofs.LinkedWords.{linked_given, linked_key, linked_link, linked_value, linked_version}
+use Rattle.kw_shape.proofs.LinkedRows.{hand_infant, linked_given, linked_key, linked_link, linked_value, linked_version, not_hand}
 use Rattle.kw_puts.proofs.Owners.{true_false, cells_apart, puts_linked, row_linked}
 use Rattle.kw_core.proofs.Changes.{made}
 use Rattle.kw_puts.proofs.RelyEntry.{change_apart, entry_apart, entry_helped, entry_freezes}

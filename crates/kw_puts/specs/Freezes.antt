@@ -1,7 +1,7 @@
 -- What holds of the rows that seats freeze: a count that is frozen gives no cell any more, an entry
 -- that was gone by is never pending again, and the stamped cells that are not listed are
 -- remembered.
-use Rattle.std.specs.Prelude.{ℕ, ◌≡◌, ◌⊎◌, ◌<◌, true, Option, Some, All, length}
+use Rattle.std.specs.Prelude.{ℕ, ◌≡◌, ◌⊎◌, ◌+◌, ◌<◌, true, if◌then◌else◌, Option, Some, All, length}
 use Rattle.kw_words.specs.declared.layout.Name.TheVariants as name
 use Rattle.kw_words.specs.declared.pend.Pend.{Pend}
 use Rattle.kw_words.specs.declared.pend.Pend.TheVariants.{Idle, Pending, Stamped, Frozen}
@@ -13,7 +13,7 @@ use Rattle.kw_world.specs.declared.activity.rebalance.Rebalance.TheVariants as R
 use Rattle.kw_world.specs.declared.local.Local.{Local}
 use Rattle.kw_world.specs.declared.marks.Mark.{Mark}
 use Rattle.kw_world.specs.Marks.{is_marked}
-use Rattle.kw_world.specs.Sane.{frozen_by}
+use Rattle.kw_world.specs.GroupPlaces.{is_row, source}
 use Rattle.kw_world.specs.Sizes.{Sizes}
 use Rattle.kw_core.specs.History.{History, attempt}
 use Rattle.kw_core.specs.Listed.{Listed}
@@ -22,8 +22,7 @@ use Rattle.kw_core.specs.Stages.{IsFresh}
 use Rattle.kw_core.specs.Words.{Words}
 use Rattle.kw_rows.specs.Ledger.{Ledger}
 use Rattle.kw_puts.specs.Here.{IsMadeIn}
--- the seat has frozen its row, and has neither replaced it nor given it up
-pub use Rattle.kw_shape.specs.Balances.{HasFrozen}
+pub use Rattle.kw_shape.specs.Hands.{HasFrozen, IsAllFrozen, IsBehind, IsOfGroup}
 use Rattle.kw_shape.specs.RowsIn.{has_frozen}
 
 -- the row is frozen: it gives no cell any more
@@ -53,33 +52,48 @@ pub data IsSettled (v : Words) (locals : ℕ → Option Local) (q j : ℕ) : Typ
   settled_stamped : (cell version : ℕ) → v (name.Pend q j) ≡ pend_word (Stamped cell version) → IsSettled v locals q j
   settled_idle : v (name.Pend q j) ≡ pend_word Idle → ((k : Local) → locals j ≡ Some k → IsFresh k.activity → k.row ≡ q → ⊥) → IsSettled v locals q j
 
--- the count of the row is frozen, and each entry that the seat has gone by is settled
+-- the seat has gone by the entry of seat j in this row of its group
+abbrev pub HasPassed : Activity → Local → ℕ → ℕ → Type 0
+HasPassed (Activity.Rebalance (Rebalance.Freeze (Freeze.Look i))) l q j = IsBehind l q ⊎ (q ≡ l.rebalance.hand) × (j < i)
+HasPassed (Activity.Rebalance (Rebalance.Freeze (Freeze.Entry i))) l q j = IsBehind l q ⊎ (q ≡ l.rebalance.hand) × (j < i)
+HasPassed a l q j = HasFrozen a l q
+
+-- the counts of the rows of its group are frozen, and each entry that it has gone by is settled
 pub record Freezes (z : Sizes) (v : Words) (locals : ℕ → Option Local) (a : Activity) (l : Local) : Type 0 where
-  pub count : HasFrozen a → IsFrozen v l.row
-  pub settled : HasFrozen a → (j : ℕ) → j < z.seats → j < frozen_by z a → IsSettled v locals l.row j
+  pub count : (q : ℕ) → HasFrozen a l q → IsFrozen v q
+  pub settled : (q j : ℕ) → HasPassed a l q j → j < z.seats → IsSettled v locals q j
 
 -- What a seat that freezes a row remembers of it.
 
--- a cell that is remembered is that of an attempt that is stamped with the remembered version
-pub record IsMarkOf (h : History) (o : Origins) (row : ℕ) (m : Mark) : Type 0 where
+-- the place that a cell of this row has in the seat's group
+abbrev pub place_of : Sizes → Local → ℕ → ℕ → ℕ
+place_of z l q cell = (if is_row l.rebalance.second q then z.cells else 0) + cell
+
+-- a place that is remembered is that of a cell of an attempt that is stamped with the remembered
+-- version, where the cells of these places stand for these attempts
+pub record IsMarkOf (h : History) (places : ℕ → Option ℕ) (m : Mark) : Type 0 where
   pub put : ℕ
-  pub origin : o row m.cell ≡ Some put
+  pub origin : places m.cell ≡ Some put
   pub stamped : (attempt h put).is_stamped ≡ true
   pub version : (attempt h put).version ≡ m.version
 
--- the seat goes by the entries of its row, or looks at the scans, and has gathered no cell
-abbrev pub IsBeforeTaking : Activity → Type 0
-IsBeforeTaking (Activity.Rebalance (Rebalance.Freeze (Freeze.Look i))) = Unit {0}
-IsBeforeTaking (Activity.Rebalance (Rebalance.Freeze (Freeze.Entry i))) = Unit {0}
-IsBeforeTaking (Activity.Rebalance (Rebalance.Freeze (Freeze.Scan i))) = Unit {0}
-IsBeforeTaking (Activity.Rebalance (Rebalance.Freeze (Freeze.Draw i))) = Unit {0}
-IsBeforeTaking (Activity.Rebalance (Rebalance.Freeze (Freeze.Settle i))) = Unit {0}
-IsBeforeTaking _ = ⊥
+-- the seat remembers places of its group: it goes by the entries of the rows, looks at the scans,
+-- or gathers cells
+abbrev pub IsRemembering : Activity → Type 0
+IsRemembering (Activity.Rebalance (Rebalance.Freeze _)) = Unit {0}
+IsRemembering (Activity.Rebalance (Rebalance.Gather _)) = Unit {0}
+IsRemembering _ = ⊥
 
--- what is remembered is the cells of stamped attempts. Each stamped attempt that was made in the
--- row since it was linked, and whose seat's entry was gone by, is remembered, or its cell is
--- listed, until the seat walks along the list
+-- it has still to walk along the list of this row
+abbrev pub IsToWalk : Activity → Local → ℕ → Type 0
+IsToWalk (Activity.Rebalance (Rebalance.Freeze _)) l q = IsOfGroup l q
+IsToWalk (Activity.Rebalance (Rebalance.Gather _)) l q = l.rebalance.ahead ≡ Some q
+IsToWalk _ l q = ⊥
+
+-- what is remembered is the cells of stamped attempts. Each stamped attempt that was made in a row
+-- of the group since that was linked, and whose seat's entry was gone by, is remembered, or its
+-- cell is listed, until the seat walks along that row's list
 pub record Remembers (z : Sizes) (g : Ledger) (h : History) (o : Origins) (f : Listed) (a : Activity) (l : Local) : Type 0 where
-  pub marks : HasFrozen a → All (IsMarkOf h o l.row) l.rebalance.marks
-  pub noted : IsBeforeTaking a → (p : ℕ) → p < length h.attempts → IsMadeIn g h l.row p → (attempt h p).is_stamped ≡ true → (attempt h p).seat < frozen_by z a →
-      (is_marked (attempt h p).cell l.rebalance.marks ≡ true) ⊎ (f l.row (attempt h p).cell ≡ true)
+  pub marks : IsRemembering a → All (IsMarkOf h (source z o l)) l.rebalance.marks
+  pub noted : (q p : ℕ) → IsToWalk a l q → p < length h.attempts → IsMadeIn g h q p → (attempt h p).is_stamped ≡ true → HasPassed a l q (attempt h p).seat →
+      (is_marked (place_of z l q (attempt h p).cell) l.rebalance.marks ≡ true) ⊎ (f q (attempt h p).cell ≡ true)

@@ -194,4 +194,4 @@ pub record Puts (z : Sizes) (r : Run) : Type 0 where
   pub born : (q : ℕ) → WasLinked r.ledger.rows q → (r.ledger.rows.fates q).born ≤ length r.history.log
   pub dead : (q j : ℕ) → IsDead r.ledger.rows q → j < z.seats → IsSettled (word z r.world) (slice_get r.world.locals) q j
   pub gone : (p : ℕ) → p < length r.history.attempts → IsHere r.ledger.rows r.history p → IsDead r.ledger.rows (attempt r.history p).row → (attempt r.history p).is_stamped ≡ true → (attempt r.history p).at < (r.ledger.rows.fates (attempt r.history p).row).gone
-  pub builds : (t : ℕ) (l : Local) → slice_get r.world.locals t ≡ Some l → Builds z (row_in (word z r.world) l.row (r.listed l.row)) r.history r.origin r.listed l.activity l
+  pub builds : (t : ℕ) (l : Local) → slice_get r.world.locals t ≡ Some l → Builds z (row_in (word z r.world) l.rebalance.hand (r.listed l.rebalance.hand)) r.history r.origin r.listed l.activity l

@@ -24,9 +24,9 @@ use Rattle.kw_puts.proofs.OwnScans.{call_first, drawn_kept}
 use Rattle.kw_puts.proofs.Rely.{Rely}
 use Rattle.kw_reads.specs.Contents.{HasRow, floor_of}
 use Rattle.kw_reads.specs.Inv.{Inv, lower}
-use Rattle.kw_core.proofs.BuiltNext.{built_next}
 use Rattle.kw_reads.proofs.HistoryKeeps.{history_step}
-use Rattle.kw_reads.proofs.Later.{after_building}
+use Rattle.kw_reads.proofs.Later.{after_rebalance}
+use Rattle.kw_reads.proofs.BuiltReads.{rebalance_next}
 
 -- the seat is about to walk, walks, or is at its row
 abbrev pub IsOnWay : Activity → Type 0
@@ -58,7 +58,8 @@ way_draws _ l x k e = absurd x
 
 -- a seat that names a row was on its way, and its event neither begins nor ends a call, nor draws
 pub row_from : (z : Sizes) (v : Words) (s : ℕ) (choice : Choice) (l : Local) (a : Activity) (k : Local) → Arrow z v s choice l a k → HasRow k.activity → IsOnWay a × IsUnderway a × IsNoDraw a
-row_from z v s choice l a k (builds b next y t) x = after_building k.activity (built_next z v choice l a k t) x
+row_from z v s choice l (Activity.Rebalance b) k u x = after_rebalance k.activity (rebalance_next z v s choice l b k u) x
+row_from z v s choice l a k (builds b next y t) x = absurd y
 row_from z v s choice l (Activity.Walk _) k b x = (tt, tt, tt)
 row_from z v s choice l (Activity.Look _) k b x = (tt, tt, tt)
 row_from z v s choice l (Activity.Read _) k b x = (tt, tt, tt)

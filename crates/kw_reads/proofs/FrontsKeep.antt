@@ -22,9 +22,9 @@ use Rattle.kw_reads.specs.Contents.{Contents, HasRow, IsFronted, floor_of, versi
 use Rattle.kw_reads.specs.Inv.{Inv, lower}
 use Rattle.kw_reads.proofs.Floors.{IsOnWay, floor_before, floor_other, floor_own, row_from}
 use Rattle.kw_reads.proofs.Fronts.{first_look, fronted_lasts}
-use Rattle.kw_core.proofs.BuiltNext.{built_next}
 use Rattle.kw_reads.proofs.HistoryKeeps.{history_step}
-use Rattle.kw_reads.proofs.Later.{after_building}
+use Rattle.kw_reads.proofs.Later.{after_rebalance}
+use Rattle.kw_reads.proofs.BuiltReads.{rebalance_next}
 use Rattle.kw_reads.proofs.Relying.{rely}
 
 -- a reader is at its row
@@ -62,7 +62,8 @@ left_over_from l m k a x row call version (ends_scan e f n) y = absurd y
 left_over_from l m k a x row call version (scans_on q e f n o) y = absurd y
 
 reading_from : (z : Sizes) (v : Words) (s : ℕ) (choice : Choice) (l : Local) (a : Activity) (k : Local) → Arrow z v s choice l a k → IsReading k.activity → FromReading l a k
-reading_from z v s choice l a k (builds b next y t) x = after_building k.activity (built_next z v choice l a k t) (reading_row k.activity x).0
+reading_from z v s choice l (Activity.Rebalance b) k u x = after_rebalance k.activity (rebalance_next z v s choice l b k u) (reading_row k.activity x).0
+reading_from z v s choice l a k (builds b next y t) x = absurd y
 reading_from z v s choice l a k (reads_last f n) x = absurd (omega (arith, x))
 reading_from z v s choice l a k (reads_before f w) x = absurd (omega (arith, x))
 reading_from z v s choice l a k (first_ends next e n) x = left_over_from l _ next (Activity.Read Read.Start) tt refl refl refl n x

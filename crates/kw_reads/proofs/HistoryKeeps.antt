@@ -183,9 +183,9 @@ may_make z r r' s choice l a l' c (makes_help p e f) h i =
     (helper.loaded (subst IsHelp (sym h.activity) tt))
 may_make z r r' s choice l a l' c (makes_lose j cell p x e f) h i =
     let known = i.shape.sane.locals s l h.knows in
-    let w = entry_owner i.puts l.row j cell known.below.row (subst (IsActivity z) h.activity known.ranges.activity) e in
-    let place = pending_cell i.puts l.row j cell p known.below.row (subst (IsActivity z) h.activity known.ranges.activity) e f in
-    let same : p ≡ (r.seats j).own = pending_own i.puts l.row j cell p known.below.row (subst (IsActivity z) h.activity known.ranges.activity) e f in
+    let w = entry_owner i.puts l.rebalance.hand j cell known.below.rebalance.hand (subst (IsActivity z) h.activity known.ranges.activity) e in
+    let place = pending_cell i.puts l.rebalance.hand j cell p known.below.rebalance.hand (subst (IsActivity z) h.activity known.ranges.activity) e f in
+    let same : p ≡ (r.seats j).own = pending_own i.puts l.rebalance.hand j cell p known.below.rebalance.hand (subst (IsActivity z) h.activity known.ranges.activity) e f in
     (place.within, rw same w.unstamped)
 may_make z r r' s choice l a l' c (makes_end answer) h i =
     let x = i.positions.calling s l h.knows (subst IsBusy (sym h.activity) tt) in

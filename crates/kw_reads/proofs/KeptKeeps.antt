@@ -1,6 +1,6 @@
 -- Every event keeps that rows have kept what is needed of the stamped puts: a stamp, since what was
--- stamped of its key elsewhere stands before it; the replacing of the full row, since the new rows
--- were built of it; and any other event, since no row has gained a key, nor lost a cell.
+-- stamped of its key elsewhere stands before it; the replacing of the rows of a group, since the
+-- new rows were built of them; and any other event, since no row has gained a key, nor lost a cell.
 use Rattle.std.proofs.Common.{ℕ, ◌≡◌, ◌⊎◌, inl, inr, ◌<◌, ◌≤◌, Contains, Some, arith, sym, ◌∙◌, ap, subst, length, slice_get}
 use Rattle.std.proofs.lemmas.Bool.{cases_lt}
 use Rattle.kw_words.specs.declared.layout.Name.TheVariants as name
@@ -21,6 +21,7 @@ use Rattle.kw_core.specs.Step.{Step}
 use Rattle.kw_core.proofs.Attempts.{in_range}
 use Rattle.kw_core.proofs.Happens.{Happens, log_entry}
 use Rattle.kw_shape.proofs.InfantsRely.{index_of_row}
+use Rattle.kw_shape.specs.Hands.{IsAllFrozen, IsOfGroup}
 use Rattle.kw_shape.specs.RowsIn.{rows_in}
 use Rattle.kw_shape.specs.Shape.{HoldsKey}
 use Rattle.kw_kept.specs.Kept.{Kept, Stamps}
@@ -33,9 +34,9 @@ use Rattle.kw_kept.proofs.StampKept.{stamp_kept}
 use Rattle.kw_puts.specs.Below.{Below}
 use Rattle.kw_puts.proofs.Rely.{SameAttempt}
 use Rattle.kw_puts.proofs.RelyProof.{goes_on_by}
-use Rattle.kw_reads.specs.Contents.{Contents, HasGoneByRow, InRow, IsHolding, IsOlder, Needed, Needs, Through, has_drawn, is_held, is_helped, puts_of, rows_of}
-use Rattle.kw_shape.proofs.LinkedRows.{ComesNow, FreesNow, GoesNow, full_live, linked_before, linked_fate, linked_keeps}
-use Rattle.kw_reads.proofs.NewRows.{held_by_full}
+use Rattle.kw_reads.specs.Contents.{Contents, InRow, IsHolding, IsOlder, Needed, Needs, Through, has_drawn, is_held, is_helped, puts_of, rows_of}
+use Rattle.kw_shape.proofs.LinkedRows.{ComesNow, FreesNow, GoesNow, linked_before, linked_fate, linked_keeps, rows_live}
+use Rattle.kw_reads.proofs.NewRows.{held_by_group}
 use Rattle.kw_reads.proofs.Rebuilt.{is_rebuilt}
 use Rattle.kw_reads.proofs.RowCells.{in_row_stays, in_row_was, is_put_stays, its_row_live, stamped_in_row}
 use Rattle.kw_reads.proofs.ScanMoves.{needed_before}
@@ -71,7 +72,7 @@ module _ {z : Sizes} {r r' : Run} {s : ℕ} {choice : Choice} {l l' : Local} (a 
 
 -- A row that is linked now.
 
--- what is needed is listed, or at least all versions of the full row
+-- what is needed is listed, or at least all versions of the group
 need_covered : (z : Sizes) (r : Run) (l : Local) (n : Needs z r (Activity.Rebalance (Rebalance.Replace Replace.Exchange)) l) (u : ℕ) → Needed z r u → Contains l.rebalance.needed u ⊎ (n.most ≤ u)
 need_covered z r l n u m = all_covered (word z r.world name.Clock) (Through z r) (λ j. j < z.seats) (Contains l.rebalance.needed) n.most u n.reached within n.covered m
   where
@@ -84,14 +85,17 @@ need_covered z r l n u m = all_covered (word z r.world name.Clock) (Through z r)
 rebuilt_shows : (z : Sizes) (r r' : Run) (s : ℕ) (choice : Choice) (l l' : Local) → (h : Happens z r r' s choice l l' (Activity.Rebalance (Rebalance.Replace Replace.Exchange))) → Below z r → Step r.history r'.history (log_entry z r (Activity.Rebalance (Rebalance.Replace Replace.Exchange)) s choice l) → Contents z r → (q k u : ℕ) →
     ComesNow (word z r.world) r.ledger.rows r'.ledger.rows s (length r.history.log) l (Activity.Rebalance (Rebalance.Replace Replace.Exchange)) q → HoldsKey (word z r'.world) r'.ledger.rows q k → Needed z r u → Shows (puts_of r.history) (InRow z r' q) (IsPut r.history) k u
 rebuilt_shows z r r' s choice l l' h i st c q k u y x m =
-    rebuild_shown (puts_of r.history) (InRow z r l.row) (InRow z r' q) (IsPut r.history) (Contains l.rebalance.needed) k u needs.most needs.most (is_rebuilt h i st q y k x needs) (omega arith) (need_covered z r l needs u m)
-    (c.kept l.row k u (record { live = full_live h i.shape y.won; holds = held_by_full h i.shape place.0 q place.1 k y.fate x }) m)
+    rebuild_shown (puts_of r.history) (InRow z r old.0) (InRow z r' q) (IsPut r.history) (Contains l.rebalance.needed) k u needs.most needs.most (is_rebuilt h i st q y k x old.0 old.1 old.2 needs) (omega arith) (need_covered z r l needs u m)
+    (c.kept old.0 k u (record { live = rows_live h i.shape y.won old.0 old.1; holds = old.2 }) m)
   where
     place : (n : ℕ) × (slice_get l.rebalance.taken n ≡ Some q)
     place = index_of_row l.rebalance.taken q y.taken
 
+    old : (g : ℕ) × IsOfGroup l g × HoldsKey (word z r.world) r.ledger.rows g k
+    old = held_by_group h i.shape place.0 q place.1 k y.fate x
+
     needs : Needs z r (Activity.Rebalance (Rebalance.Replace Replace.Exchange)) l
-    needs = subst (λ b. Needs z r b l) h.activity (c.needs s l h.knows (subst HasGoneByRow (sym h.activity) tt))
+    needs = subst (λ b. Needs z r b l) h.activity (c.needs s l h.knows (subst IsAllFrozen (sym h.activity) tt))
 
 -- Over an event.
 

@@ -3,12 +3,10 @@
 use Rattle.std.proofs.Common.{ℕ, ◌≡◌, inl, inr, ◌<◌, ◌≤◌, Some, None, arith, refl, sym, ◌∙◌, ap, subst}
 use Rattle.std.proofs.lemmas.Option.{same_Some}
 use Rattle.kw_world.specs.declared.activity.Activity.{Activity}
-use Rattle.kw_world.specs.declared.activity.rebalance.engage.Engage.TheVariants as Engage
 use Rattle.kw_world.specs.declared.activity.insert.Insert.TheVariants as Insert
 use Rattle.kw_world.specs.declared.activity.look.Look.TheVariants as Look
 use Rattle.kw_world.specs.declared.activity.put.Put.TheVariants as Put
 use Rattle.kw_world.specs.declared.activity.read.Read.TheVariants as Read
-use Rattle.kw_world.specs.declared.activity.rebalance.Rebalance.TheVariants as Rebalance
 use Rattle.kw_world.specs.declared.activity.walk.Walk.TheVariants as Walk
 use Rattle.kw_world.specs.declared.local.Local.{Local}
 use Rattle.kw_world.specs.declared.event.Choice.{Choice}
@@ -24,7 +22,7 @@ use Rattle.kw_rows.proofs.Named.{held_by, normal_live}
 use Rattle.kw_shape.specs.RowsIn.{rows_in, state_seen}
 use Rattle.kw_shape.specs.Shape.{Walks}
 use Rattle.kw_reads.specs.Contents.{HasCandidate, HasRow, IsLater, IsSince}
-use Rattle.kw_core.proofs.BuiltNext.{IsAfterBuilding, built_next}
+use Rattle.kw_reads.proofs.BuiltReads.{IsAfterRebalance, rebalance_next}
 
 -- Along the arrows; the ledger is that before the event.
 
@@ -44,19 +42,16 @@ pub candidate_has : (a : Activity) → HasCandidate a → HasRow a
 candidate_has (Activity.Walk Walk.NextLeast) x = tt
 candidate_has _ x = absurd x
 
--- new rows are taken, written and linked at no row of a walk
-pub after_building : {A : Type 0} (a : Activity) → IsAfterBuilding a → HasRow a → A
-after_building Activity.Retry x y = absurd y
-after_building (Activity.Rebalance (Rebalance.Engage Engage.Clock)) x y = absurd y
-after_building (Activity.Leave answer) x y = absurd y
-after_building (Activity.Walk Walk.GuessedLeast) x y = absurd x
-after_building (Activity.Walk Walk.Next) x y = absurd x
-after_building (Activity.Walk Walk.NextLeast) x y = absurd x
-after_building (Activity.Look _) x y = absurd x
-after_building (Activity.Read _) x y = absurd x
-after_building (Activity.Put _) x y = absurd x
-after_building (Activity.Insert _) x y = absurd x
-after_building _ x y = absurd y
+-- a seat that rebalances, or has done so, is at no row of a walk
+pub after_rebalance : {A : Type 0} (a : Activity) → IsAfterRebalance a → HasRow a → A
+after_rebalance (Activity.Walk Walk.GuessedLeast) x y = absurd x
+after_rebalance (Activity.Walk Walk.Next) x y = absurd x
+after_rebalance (Activity.Walk Walk.NextLeast) x y = absurd x
+after_rebalance (Activity.Look _) x y = absurd x
+after_rebalance (Activity.Read _) x y = absurd x
+after_rebalance (Activity.Put _) x y = absurd x
+after_rebalance (Activity.Insert _) x y = absurd x
+after_rebalance _ x y = absurd y
 
 module _ (g : Ledger) (d : ℕ) where
   -- a seat that is at no row of a walk names none
@@ -105,10 +100,10 @@ module _ (g : Ledger) (d : ℕ) where
 
 -- by the arrow that the seat takes
 pub later_by : (z : Sizes) (v : Words) (g : Ledger) {now : ℕ} (s : ℕ) (choice : Choice) (l : Local) (a : Activity) (l' : Local) (d : ℕ) → Arrow z v s choice l a l' → Structure (rows_in v) g now → Walks v g s a l → IsLater g d a l → IsLater g d l'.activity l'
-later_by z v g s choice l a l' d (builds b next y t) c k w = built l' (built_next z v choice l a l' t)
-  where
-    built : (k : Local) → IsAfterBuilding k.activity → IsLater g d k.activity k
-    built k x = record { row = λ q. after_building k.activity x q; saw = λ q. after_building k.activity x (candidate_has k.activity q); next = λ q. after_building k.activity x (at_row_has k.activity q) }
+later_by z v g s choice l (Activity.Rebalance b) l' d u c k w =
+    let x = rebalance_next z v s choice l b l' u in
+    record { row = λ q. after_rebalance l'.activity x q; saw = λ q. after_rebalance l'.activity x (candidate_has l'.activity q); next = λ q. after_rebalance l'.activity x (at_row_has l'.activity q) }
+later_by z v g s choice l a l' d (builds b next y t) c k w = absurd y
 later_by z v g s choice l a l' d starts_at_head c k w = in_list g d (Activity.Walk Walk.Next) _ (subst (IsLive g) (sym (ap row_or_first c.chain.leads)) c.chain.first_live) (λ x. x) (λ x. x)
 later_by z v g s choice l a l' d takes_head c k w = in_list g d (Activity.Walk Walk.Next) _ (subst (IsLive g) (sym (ap row_or_first c.chain.leads)) c.chain.first_live) (λ x. x) (λ x. x)
 later_by z v g s choice l a l' d (guesses q y n) c k w = in_list g d (Activity.Walk Walk.GuessedLeast) _ (normal_live (rows_in v) g q c.states (ap state_seen n)) (λ x. x) (λ x. x)

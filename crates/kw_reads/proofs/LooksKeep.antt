@@ -43,11 +43,9 @@ use Rattle.kw_core.specs.Stages.{IsLooking, IsTaking}
 use Rattle.kw_rows.specs.Rows.{WasLinked}
 use Rattle.kw_reads.specs.Readers.{IsDue, IsNoted, IsReady, IsMarkOf, Looks}
 use Rattle.kw_puts.proofs.Owners.{true_false}
-use Rattle.kw_core.proofs.BuiltNext.{built_next}
 use Rattle.kw_core.proofs.InRange.{unmarked_in_range}
 use Rattle.kw_core.specs.Listed.{Listed}
-use Rattle.kw_puts.proofs.BuiltStages.{building_after}
-use Rattle.kw_reads.proofs.BuiltReads.{after_rests, looking_reads, reader_reads}
+use Rattle.kw_reads.proofs.BuiltReads.{after_rests, rebalance_next, looking_reads, reader_reads}
 use Rattle.kw_puts.proofs.CellsOf.{cell_key}
 use Rattle.kw_puts.proofs.ListSteps.{listed_stays}
 use Rattle.kw_reads.proofs.Relying.{record_stays}
@@ -73,7 +71,7 @@ module _ {z : Sizes} {r r' : Run} {s : ℕ} {choice : Choice} {l l' : Local} whe
       which true m x = set_within z.cells r.origin l.row (given_of (count_of (word z r.world (name.Count l.row)))) (Some (length r.history.attempts)) (room_below z (count_of (word z r.world (name.Count l.row))) m) i.readers.within q c p x
       which false m x = i.readers.within q c p x
   within_keeps (Activity.Rebalance (Rebalance.Write (Write.Version j))) h i q c p e =
-      set_within z.cells r.origin (infant l) j (copied r.origin l.row (slice_get (infant_cells l) j)) (subst (IsActivity z) h.activity (i.shape.sane.locals s l h.knows).ranges.activity) i.readers.within q c p (subst (λ (o : Origins). o q c ≡ Some p) h.origin e)
+      set_within z.cells r.origin (infant l) j (copied z r.origin l (slice_get (infant_cells l) j)) (subst (IsActivity z) h.activity (i.shape.sane.locals s l h.knows).ranges.activity) i.readers.within q c p (subst (λ (o : Origins). o q c ≡ Some p) h.origin e)
   within_keeps a h i q c p e = i.readers.within q c p (subst (λ (o : Origins). o q c ≡ Some p) h.origin e)
 
 -- one more cell is remembered: what is noted stays so, and the cell is noted
@@ -233,7 +231,8 @@ module _ {z : Sizes} {r r' : Run} {s : ℕ} {choice : Choice} {l l' : Local} (h 
 
 -- the cells that the acting reader remembers
 pub marks_by : (z : Sizes) (r r' : Run) (s : ℕ) (choice : Choice) (l : Local) (a : Activity) (l' : Local) → Arrow z (word z r.world) s choice l a l' → Happens z r r' s choice l l' a → Inv z r → Below z r' → IsLooking l'.activity ⊎ IsTaking l'.activity → All (IsMarkOf r'.history r'.origin l'.row) l'.remembered
-marks_by z r r' s choice l a l' (builds b next y t) h i k p = after_rests l'.activity (built_next z (word z r.world) choice l b l' t) p
+marks_by z r r' s choice l (Activity.Rebalance b) l' x h i k p = after_rests l'.activity (rebalance_next z (word z r.world) s choice l b l' x) p
+marks_by z r r' s choice l a l' (builds b next y t) h i k p = absurd y
 marks_by z r r' s choice l _ _ (reads_last f n) h i k p = All-nil (IsMarkOf r'.history r'.origin l.row)
 marks_by z r r' s choice l _ _ (reads_before f w) h i k p = All-nil (IsMarkOf r'.history r'.origin l.row)
 marks_by z r r' s choice l _ _ (sees_pending j c e) h i k p = marks_after h i (inl tt)
@@ -279,8 +278,9 @@ gone_by {z} {r} k within l linked w c p looked e f d (inl m) =
 
 -- the entries that it has looked at, after its last look too
 pub looks_by : (z : Sizes) (r r' : Run) (s : ℕ) (choice : Choice) (l : Local) (a : Activity) (l' : Local) → Arrow z (word z r.world) s choice l a l' → Happens z r r' s choice l l' a → Inv z r → Below z r' → IsLooking l'.activity ⊎ IsLooking a → Looks z r'.listed r'.history r'.origin l'.activity l' (r'.seats s)
-looks_by z r r' s choice l a l' (builds b next y t) h i k (inl p) = after_rests l'.activity (built_next z (word z r.world) choice l b l' t) (inl p)
-looks_by z r r' s choice l a l' (builds b next y t) h i k (inr p) = after_rests b (building_after b y) (inl p)
+looks_by z r r' s choice l (Activity.Rebalance b) l' x h i k (inl p) = after_rests l'.activity (rebalance_next z (word z r.world) s choice l b l' x) (inl p)
+looks_by z r r' s choice l (Activity.Rebalance b) l' x h i k (inr p) = absurd p
+looks_by z r r' s choice l a l' (builds b next y t) h i k p = absurd y
 looks_by z r r' s choice l _ _ (reads_last f n) h i k p = record { past = λ c p d w. absurd (omega (arith, w)); here = λ m. absurd m }
 looks_by z r r' s choice l _ _ (reads_before f w) h i k p = record { past = λ c p d w. absurd (omega (arith, w)); here = λ m. absurd m }
 looks_by z r r' s choice l _ _ (sees_pending j d e) h i k p = record {

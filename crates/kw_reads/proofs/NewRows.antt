@@ -1,5 +1,5 @@
--- The keys of new rows: each key of a new row is one that the full row holds, and all kept cells of
--- the key are in that new row.
+-- The keys of new rows: each key of a new row is one that a row of the group holds, and all kept
+-- cells of the key are in that new row.
 use Rattle.std.proofs.Common.{ℕ, zero, suc, ◌≡◌, ◌⊎◌, inl, inr, ◌+◌, ◌-◌, ◌<◌, ◌≤◌, All, Contains, List, [], ◌∷◌, Option, Some, None, arith, refl, sym, ◌∙◌, ap, subst, drop, get_or, length, slice_get, slice_index, take}
 use Rattle.std.proofs.lemmas.Bool.{cases_lt, cases_order}
 use Rattle.std.proofs.lemmas.List.{get_or-drop, get_or-take, get_or_default, get_or_past, length-drop, length-take}
@@ -10,10 +10,10 @@ use Rattle.kw_words.specs.Plain.{key_of_word}
 use Rattle.kw_words.proofs.LinkWords.{link_of-link_word}
 use Rattle.kw_cells.specs.declared.cell.Cell.{Cell}
 use Rattle.kw_cells.specs.Cuts.{end_of}
-use Rattle.kw_rows.specs.Events.{IsIn}
-use Rattle.kw_rows.specs.Ledger.{Fate}
+use Rattle.kw_rows.specs.Events.{Holds, IsIn}
+use Rattle.kw_rows.specs.Ledger.{Fate, IsHeld}
 use Rattle.kw_rows.specs.Rows.{bound}
-use Rattle.kw_rows.proofs.Named.{held_by}
+use Rattle.kw_rows.proofs.Named.{ends_at}
 use Rattle.kw_world.specs.declared.activity.Activity.TheVariants as Activity
 use Rattle.kw_world.specs.declared.activity.rebalance.Rebalance.TheVariants as Rebalance
 use Rattle.kw_world.specs.declared.activity.rebalance.replace.Replace.TheVariants as Replace
@@ -26,14 +26,14 @@ use Rattle.kw_world.specs.Transition.{row_linked}
 use Rattle.kw_world.specs.WriteTransitions.{infant_cells, infant_least, infant_link, row_or}
 use Rattle.kw_core.specs.Ledger.{fate_live, least_of}
 use Rattle.kw_core.specs.Run.{Run}
-use Rattle.kw_core.specs.Stages.{IsBalancing}
 use Rattle.kw_core.specs.Words.{least_in, next_in}
 use Rattle.kw_core.proofs.Happens.{Happens}
 use Rattle.kw_shape.proofs.BuildEvents.{least_word}
+use Rattle.kw_shape.specs.Hands.{IsOfGroup}
 use Rattle.kw_shape.specs.RowsIn.{rows_in}
 use Rattle.kw_shape.specs.Shape.{HoldsKey, Shape}
 use Rattle.kw_shape.proofs.Planned.{IsPlan, cells_below, cells_from, leasts_rise}
-use Rattle.kw_shape.proofs.MayReplace.{has_start, is_plan, kept_from, least_of_new, may_replace}
+use Rattle.kw_shape.proofs.MayReplace.{has_start, held_row, is_plan, kept_from, least_of_new, may_replace}
 use Rattle.kw_shape.proofs.LinkedRows.{infants_at}
 
 -- Each kept cell is in one of the rows.
@@ -128,7 +128,7 @@ row_of_index (x ∷ xs) zero q e = inl (sym (same_Some x q e))
 row_of_index (x ∷ xs) (suc n) q e = inr (row_of_index xs n q e)
 
 module _ {z : Sizes} {r r' : Run} {s : ℕ} {choice : Choice} {l l' : Local} (h : Happens z r r' s choice l l' (Activity.Rebalance (Rebalance.Replace Replace.Exchange))) (i : Shape z r) (n q : ℕ) (e : slice_get l.rebalance.taken n ≡ Some q) where
-  -- its link leads to the next of the new rows, or to the row after the full one
+  -- its link leads to the next of the new rows, or to the row after the group
   next_is : next_in (word z r.world) q ≡ row_or (slice_get l.rebalance.taken (n + 1)) l.rebalance.after
   next_is = let m = may_replace h i in ap (λ w. row_linked (link_of w)) ((m.whole n q e).next tt) ∙ ap row_linked (link_of-link_word (infant_link (at_infant n l)) (m.links n))
 
@@ -141,13 +141,10 @@ module _ {z : Sizes} {r r' : Run} {s : ℕ} {choice : Choice} {l l' : Local} (h 
     key_below : (b : Option ℕ) → row_or (slice_get l.rebalance.taken (n + 1)) l.rebalance.after ≡ b → (p : ℕ) → b ≡ Some p → k < least_in (word z r.world) p
     key_below b f p g = x.below (least_in (word z r.world) p) (ap (λ (y : Fate). y.upper) fate ∙ ap (least_of (word z r.world)) (next_is ∙ f ∙ g))
 
-    -- so it is one that the full row holds
-    pub held_by_full : HoldsKey (word z r.world) r.ledger.rows l.row k
-    held_by_full = record { from = omega (arith, (may_replace h i).lower, least_from z.built l (is_plan h i) (kept_from h i) n (has_start h i n q e), key_from); below = λ u f. under l.rebalance.after refl u (sym ends ∙ f) (slice_get l.rebalance.taken (n + 1)) refl }
+    -- so it is below where the group ends
+    key_under : (u : ℕ) → bound (rows_in (word z r.world)) l.rebalance.after ≡ Some u → k < u
+    key_under u g = under l.rebalance.after refl u g (slice_get l.rebalance.taken (n + 1)) refl
       where
-        ends : (r.ledger.rows.fates l.row).upper ≡ bound (rows_in (word z r.world)) l.rebalance.after
-        ends = i.rows.closed.upper l.row (held_by r.ledger.rows s l.row ((i.balances s l h.knows).fresh (subst IsBalancing (sym h.activity) tt))) ∙ ap (bound (rows_in (word z r.world))) (may_replace h i).group.0.next
-
         under : (b : Option ℕ) → l.rebalance.after ≡ b → (u : ℕ) → bound (rows_in (word z r.world)) l.rebalance.after ≡ Some u → (o : Option ℕ) → slice_get l.rebalance.taken (n + 1) ≡ o → k < u
         under None f u g o y = let t : None ≡ Some u = sym (ap (bound (rows_in (word z r.world))) f) ∙ g in absurd (cc)
         under (Some b) f u g None y =
@@ -156,6 +153,27 @@ module _ {z : Sizes} {r r' : Run} {s : ℕ} {choice : Choice} {l l' : Local} (h 
         under (Some b) f u g (Some p) y =
             let t = same_Some (least_in (word z r.world) b) u (sym (ap (bound (rows_in (word z r.world))) f) ∙ g) in
             omega (arith, t, key_below (Some p) (ap (λ a. row_or a l.rebalance.after) y) p refl, (may_replace h i).below p b (row_of_index l.rebalance.taken (n + 1) p y) f)
+
+    -- so one of the rows of the group holds it
+    pub held_by_group : (g : ℕ) × IsOfGroup l g × HoldsKey (word z r.world) r.ledger.rows g k
+    held_by_group = which l.rebalance.second refl (may_replace h i).group
+      where
+        held : IsHeld r.ledger.rows l.row
+        held = held_row h i l.row (inl refl)
+
+        low : least_in (word z r.world) l.row ≤ k
+        low = omega (arith, (may_replace h i).lower, least_from z.built l (is_plan h i) (kept_from h i) n (has_start h i n q e), key_from)
+
+        last : (g : ℕ) → IsHeld r.ledger.rows g → next_in (word z r.world) g ≡ l.rebalance.after → least_in (word z r.world) g ≤ k → HoldsKey (word z r.world) r.ledger.rows g k
+        last g m f o = record { from = o; below = λ u t. key_under u (ap (bound (rows_in (word z r.world))) (sym f) ∙ sym (i.rows.closed.upper g m) ∙ t) }
+
+        which : (b : Option ℕ) → l.rebalance.second ≡ b → Holds (rows_in (word z r.world)) r.ledger.rows l.row b l.rebalance.after → (g : ℕ) × IsOfGroup l g × HoldsKey (word z r.world) r.ledger.rows g k
+        which None f m = (l.row, inl refl, last l.row held m.0.next low)
+        which (Some c) f m = at (cases_lt k (least_in (word z r.world) c))
+          where
+            at : (k < least_in (word z r.world) c) ⊎ (least_in (word z r.world) c ≤ k) → (g : ℕ) × IsOfGroup l g × HoldsKey (word z r.world) r.ledger.rows g k
+            at (inl o) = (l.row, inl refl, record { from = low; below = λ u t. let x = same_Some (least_in (word z r.world) c) u (sym (ends_at (rows_in (word z r.world)) r.ledger.rows i.rows.closed l.row c held m.0.next) ∙ t) in omega (arith, o, x) })
+            at (inr o) = (c, inr f, last c (i.rows.closed.linked l.row c held m.0.next) m.1.next o)
 
     -- and all kept cells of the key are in the row
     pub cell_in_new : (c : Cell) → Contains l.rebalance.kept c → c.key ≡ k → Contains (infant_cells (at_infant n l)) c

@@ -1,23 +1,22 @@
--- A new row was built of the full row as the laws of what rows keep want it: its cells of a key are
--- the kept ones, which show what the gathered cells show at each listed version and at one that
--- none is above, and all cells of the full row were gathered.
-use Rattle.std.proofs.Common.{ℕ, zero, suc, ◌≡◌, ◌≢◌, ◌⊎◌, inl, inr, ◌+◌, ◌-◌, ◌<◌, ◌≤◌, All, Contains, Bool, true, false, List, [], ◌∷◌, Option, Some, None, arith, refl, sym, ◌∙◌, ap, subst, drop, get_or, length, slice_get, slice_index, take}
+-- A new row was built of the rows of the group as the laws of what rows keep want it: its cells of
+-- a key are the kept ones, which show what the gathered cells show at each listed version and at
+-- one that none is above, and all cells of the row of the group that held the key were gathered.
+use Rattle.std.proofs.Common.{ℕ, zero, suc, ◌≡◌, ◌≢◌, ◌⊎◌, inl, inr, ◌+◌, ◌-◌, ◌<◌, ◌≤◌, All, Contains, Bool, true, false, List, [], ◌∷◌, Option, Some, None, arith, refl, sym, ◌∙◌, ap, subst, drop, get_or, length, slice_get, take}
 use Rattle.std.proofs.lemmas.Bool.{cases_eq, cases_order}
 use Rattle.std.proofs.lemmas.List.{get_or-drop, get_or-take, length-drop, length-take}
 use Rattle.std.proofs.lemmas.List.Elements.{All-contains, Contains-get_or}
 use Rattle.std.proofs.lemmas.Option.{get_or_from_slice_get, same_Some, slice_get-get_or, slice_get_within}
 use Rattle.kw_cells.specs.declared.cell.Cell.{Cell}
 use Rattle.kw_cells.specs.Cells.{AreApart}
-use Rattle.kw_cells.specs.Cuts.{end_of}
 use Rattle.kw_cells.specs.Kept.{IsKeptList, kept_of}
 use Rattle.kw_cells.proofs.KeptOf.{kept_of-all, kept_of-given, kept_of-list}
 use Rattle.kw_cells.proofs.Shown.{shows_the_same}
-use Rattle.kw_rows.specs.Rows.{WasLinked}
 use Rattle.kw_world.specs.declared.activity.Activity.TheVariants as Activity
 use Rattle.kw_world.specs.declared.activity.rebalance.Rebalance.TheVariants as Rebalance
 use Rattle.kw_world.specs.declared.activity.rebalance.replace.Replace.TheVariants as Replace
 use Rattle.kw_world.specs.declared.event.Choice.{Choice}
 use Rattle.kw_world.specs.declared.local.Local.{Local}
+use Rattle.kw_world.specs.GroupPlaces.{cell_at, row_at, source}
 use Rattle.kw_world.specs.SeekTransitions.{at_infant}
 use Rattle.kw_world.specs.Sizes.{Sizes}
 use Rattle.kw_world.specs.Step.{word}
@@ -29,8 +28,11 @@ use Rattle.kw_core.proofs.Attempts.{in_range}
 use Rattle.kw_core.proofs.Copies.{origin_stays}
 use Rattle.kw_core.proofs.Happens.{Happens, chosen, log_entry, not_chosen}
 use Rattle.kw_shape.proofs.InfantsRely.{index_of_row}
+use Rattle.kw_shape.specs.Hands.{IsOfGroup}
 use Rattle.kw_shape.specs.Infants.{IsWhole, nursing_of}
+use Rattle.kw_shape.specs.Keyed.{HasGathered, HoldsGathered}
 use Rattle.kw_shape.specs.Plans.{Plans}
+use Rattle.kw_shape.specs.RowsIn.{rows_in}
 use Rattle.kw_shape.specs.Shape.{HoldsKey}
 use Rattle.kw_kept.specs.Kept.{Rebuilds}
 use Rattle.kw_kept.specs.Puts.{HasGreatest, Shows}
@@ -40,9 +42,12 @@ use Rattle.kw_puts.specs.Below.{Below}
 use Rattle.kw_reads.specs.Contents.{InRow, Needs, puts_of}
 use Rattle.kw_puts.proofs.CellsOf.{place_order}
 use Rattle.kw_puts.specs.Builds.{Copied, HasPlanned, IsCellOf, IsGathered, has_place}
-use Rattle.kw_shape.proofs.LinkedRows.{ComesNow}
-use Rattle.kw_shape.proofs.MayReplace.{may_replace}
-use Rattle.kw_puts.proofs.GatheredCells.{gathered_below}
+use Rattle.kw_shape.proofs.Hands.{HasGroup, row_of_group}
+use Rattle.kw_shape.proofs.LinkedRows.{ComesNow, balance_at}
+use Rattle.kw_shape.proofs.MayReplace.{has_start, held_row, may_replace}
+use Rattle.kw_puts.proofs.GroupCells.{cell_below}
+use Rattle.kw_puts.proofs.GroupRows.{second_apart}
+use Rattle.kw_puts.proofs.GroupKeys.{cells_rise, place_of_cell, same_row}
 use Rattle.kw_reads.proofs.NewRows.{cell_in_new}
 use Rattle.kw_reads.proofs.RowCells.{is_put_stays}
 use Rattle.kw_reads.proofs.ShownCells.{AreInOrder, IsPutIn, cell_of, gathered_apart, shown_cells}
@@ -72,10 +77,6 @@ place_has (d ∷ cells) n e = which (cases_eq d.place n) (place_has cells n)
     which : (d.place ≡ n) ⊎ (d.place ≡ n → ⊥) → (has_place n cells ≡ true → (c : Cell) × Contains cells c × (c.place ≡ n)) → (c : Cell) × Contains (d ∷ cells) c × (c.place ≡ n)
     which (inl f) g = (d, (0, omega arith, refl), f)
     which (inr f) g = let x = g (sym (not_chosen d.place n true (has_place n cells) f) ∙ e) in (x.0, (suc x.1.0, omega (arith, x.1.1), x.1.2), x.2)
-
--- a part has no more cells than there are, and each is one of all
-part_short : (a b : ℕ) (cells : List Cell) → length (take a (drop b cells)) ≤ length cells
-part_short a b cells = omega (arith, length-take a (drop b cells), length-drop b cells)
 
 -- each cell of a part is one of all
 part_contains : (a b : ℕ) (cells : List Cell) (c : Cell) → Contains (take a (drop b cells)) c → Contains cells c
@@ -142,9 +143,9 @@ module _ {z : Sizes} {r r' : Run} {s : ℕ} {choice : Choice} {l l' : Local} (h 
   whole : IsWhole (nursing_of l.activity) l place.0
   whole = subst (λ a. IsWhole (nursing_of a) l place.0) (sym h.activity) tt
 
-  -- the full row was linked
-  full_linked : WasLinked r.ledger.rows l.row
-  full_linked = (may_replace h i.shape).linked
+  -- each key is of one row of its group
+  one_row : (x w k : ℕ) → IsOfGroup l x → IsOfGroup l w → HoldsKey (word z r.world) r.ledger.rows x k → HoldsKey (word z r.world) r.ledger.rows w k → x ≡ w
+  one_row = same_row (rows_in (word z r.world)) r.ledger.rows i.shape.rows.closed l (held_row h i.shape l.row (inl refl)) (balance_at (Activity.Rebalance (Rebalance.Replace Replace.Exchange)) h i.shape).group
 
   -- What is gathered, and what is kept of it.
 
@@ -152,50 +153,77 @@ module _ {z : Sizes} {r r' : Run} {s : ℕ} {choice : Choice} {l l' : Local} (h 
   kept_is : l.rebalance.kept ≡ kept_of l.rebalance.gathered l.rebalance.needed
   kept_is = (subst (λ b. Plans z b l) h.activity (i.shape.plans s l h.knows)).kept tt
 
-  -- the gathered cells are of the full row
-  gathered : All (IsGathered r.history r.origin l.row) l.rebalance.gathered
+  -- the gathered cells are of the group
+  gathered : All (IsGathered r.history (source z r.origin l)) l.rebalance.gathered
   gathered = (i.puts.builds s l h.knows).collected planned
+
+  -- the rows there may hold their keys
+  held : All (HoldsGathered z (word z r.world) r.ledger.rows l) l.rebalance.gathered
+  held = (i.shape.keys s l h.knows).gathered (subst HasGathered (sym h.activity) tt)
 
   -- each kept cell was gathered
   kept_given : (c : Cell) → Contains l.rebalance.kept c → Contains l.rebalance.gathered c
   kept_given c x = All-contains (Contains l.rebalance.gathered) l.rebalance.kept c (subst (All (Contains l.rebalance.gathered)) (sym kept_is) (kept_of-given l.rebalance.gathered l.rebalance.needed)) x
 
-  -- so the kept cells are of the full row
-  kept : All (IsGathered r.history r.origin l.row) l.rebalance.kept
-  kept = subst (All (IsGathered r.history r.origin l.row)) (sym kept_is) (kept_of-all (IsGathered r.history r.origin l.row) l.rebalance.gathered l.rebalance.needed gathered)
+  -- so the kept cells are of the group
+  kept : All (IsGathered r.history (source z r.origin l)) l.rebalance.kept
+  kept = subst (All (IsGathered r.history (source z r.origin l))) (sym kept_is) (kept_of-all (IsGathered r.history (source z r.origin l)) l.rebalance.gathered l.rebalance.needed gathered)
+
+  -- a gathered cell is of the put at its place
+  is_cell : (c : Cell) (p : ℕ) → Contains l.rebalance.gathered c → source z r.origin l c.place ≡ Some p → IsCellOf r.history c p
+  is_cell c p x e = cell_of r.history (source z r.origin l) c p (All-contains (IsGathered r.history (source z r.origin l)) l.rebalance.gathered c gathered x) e
+
+  -- its place is one of the group, and the row there holds the key
+  is_held : (c : Cell) → Contains l.rebalance.gathered c → HoldsGathered z (word z r.world) r.ledger.rows l c
+  is_held c x = All-contains (HoldsGathered z (word z r.world) r.ledger.rows l) l.rebalance.gathered c held x
+
+  is_place : (c : Cell) → Contains l.rebalance.gathered c → IsOfGroup l (row_at z l c.place)
+  is_place c x = row_of_group z l c.place (is_held c x).0
+
+  -- so cells of one key are of one row
+  cells_together : (c d : Cell) → Contains l.rebalance.gathered c → Contains l.rebalance.gathered d → c.key ≡ d.key → row_at z l c.place ≡ row_at z l d.place
+  cells_together c d x w e = one_row (row_at z l c.place) (row_at z l d.place) d.key (is_place c x) (is_place d w) (subst (HoldsKey (word z r.world) r.ledger.rows (row_at z l c.place)) e (is_held c x).1) (is_held d w).1
 
   -- gathered cells of one key and version stand in the order of their puts
-  in_order : AreInOrder r.history r.origin l.row l.rebalance.gathered
-  in_order c d p e a b o x w k v = place_order i.puts i.history l.row c.place d.place p e full_linked o (gathered_below z l.rebalance.gathered (i.shape.sane.locals s l h.knows).ranges.rebalance.placed d.place (has_its_place l.rebalance.gathered d b)) x w k v
+  in_order : AreInOrder r.history (source z r.origin l) l.rebalance.gathered
+  in_order c d p e a b o x w k v =
+      let row = cells_together c d a b (sym (is_cell c p a x).key ∙ k ∙ (is_cell d e b w).key) in
+      place_order i.puts i.history (row_at z l c.place) (cell_at z c.place) (cell_at z d.place) p e ((may_replace h i.shape).linked (row_at z l c.place) (is_place c a)) (cells_rise z l apart c.place d.place o (is_held d b).0 row) (cell_below z l d.place (is_held d b).0) x (ap (λ g. r.origin g (cell_at z d.place)) row ∙ w) k v
+    where
+      apart : l.rebalance.second ≢ Some l.row
+      apart = second_apart z r i.shape s l h.knows (subst HasGroup (sym h.activity) tt)
 
   -- at a listed version, and at one that no gathered cell is above, the kept cells show what the
   -- gathered ones do
-  kept_shows : (k u : ℕ) → Contains l.rebalance.needed u ⊎ All (λ c. c.version ≤ u) l.rebalance.gathered → Shows (puts_of r.history) (IsPutIn r.origin l.row l.rebalance.kept) (IsPutIn r.origin l.row l.rebalance.gathered) k u
-  kept_shows k u at = shown_cells r.history r.origin l.row l.rebalance.gathered l.rebalance.kept gathered in_order kept (λ c d p e a b. in_order c d p e (kept_given c a) (kept_given d b)) k u
+  kept_shows : (k u : ℕ) → Contains l.rebalance.needed u ⊎ All (λ c. c.version ≤ u) l.rebalance.gathered → Shows (puts_of r.history) (IsPutIn (source z r.origin l) l.rebalance.kept) (IsPutIn (source z r.origin l) l.rebalance.gathered) k u
+  kept_shows k u at = shown_cells r.history (source z r.origin l) l.rebalance.gathered l.rebalance.kept gathered in_order kept (λ c d p e a b. in_order c d p e (kept_given c a) (kept_given d b)) k u
       (shows_the_same l.rebalance.gathered l.rebalance.needed l.rebalance.kept apart list k u at)
     where
       apart : AreApart l.rebalance.gathered
-      apart = gathered_apart r.history r.origin l.row l.rebalance.gathered gathered
+      apart = gathered_apart r.history (source z r.origin l) l.rebalance.gathered gathered
 
       list : IsKeptList l.rebalance.gathered l.rebalance.needed l.rebalance.kept
       list = subst (IsKeptList l.rebalance.gathered l.rebalance.needed) (sym kept_is) (kept_of-list l.rebalance.gathered l.rebalance.needed apart)
 
-  -- The full row.
+  -- The rows of the group.
 
-  -- each put of which it has a cell has a gathered one
-  full_is : (p : ℕ) → InRow z r l.row p → IsPutIn r.origin l.row l.rebalance.gathered p
-  full_is p x =
-      let g = place_has l.rebalance.gathered x.cell ((i.puts.builds s l h.knows).holds planned x.cell p x.within x.origin x.is_put) in
-      record { cell = g.0; among = g.1; origin = subst (λ n. r.origin l.row n ≡ Some p) (sym g.2) x.origin }
+  -- each put of which such a row has a cell has a gathered one
+  row_is : (g p : ℕ) → IsOfGroup l g → InRow z r g p → IsPutIn (source z r.origin l) l.rebalance.gathered p
+  row_is g p o x =
+      let c = place_of_cell z l g x.cell o x.within in
+      let e : source z r.origin l c.0 ≡ Some p = ap (λ b. r.origin b (cell_at z c.0)) c.2 ∙ ap (r.origin g) c.3 ∙ x.origin in
+      let m = place_has l.rebalance.gathered c.0 ((i.puts.builds s l h.knows).holds planned c.0 p c.1 e x.is_put) in
+      record { cell = m.0; among = m.1; origin = subst (λ n. source z r.origin l n ≡ Some p) (sym m.2) e }
 
-  -- and each gathered cell is one of it
-  full_has : (p : ℕ) → IsPutIn r.origin l.row l.rebalance.gathered p → InRow z r l.row p
-  full_has p x = record {
-    cell = x.cell.place;
-    within = gathered_below z l.rebalance.gathered (i.shape.sane.locals s l h.knows).ranges.rebalance.placed x.cell.place (has_its_place l.rebalance.gathered x.cell x.among);
-    origin = x.origin;
-    is_put = (cell_of r.history r.origin l.row x.cell p (All-contains (IsGathered r.history r.origin l.row) l.rebalance.gathered x.cell gathered x.among) x.origin).stamped;
-  }
+  -- each gathered cell is one of the row at its place
+  cell_in : (c : Cell) (p : ℕ) → Contains l.rebalance.gathered c → source z r.origin l c.place ≡ Some p → InRow z r (row_at z l c.place) p
+  cell_in c p x e = record { cell = cell_at z c.place; within = cell_below z l c.place (is_held c x).0; origin = e; is_put = (is_cell c p x e).stamped }
+
+  -- so those of a key that a row holds are of that row
+  row_has : (g k p : ℕ) → IsOfGroup l g → HoldsKey (word z r.world) r.ledger.rows g k → (attempt r.history p).key ≡ k → IsPutIn (source z r.origin l) l.rebalance.gathered p → InRow z r g p
+  row_has g k p o x e m =
+      let key : m.cell.key ≡ k = sym (is_cell m.cell p m.among m.origin).key ∙ e in
+      subst (λ b. InRow z r b p) (one_row (row_at z l m.cell.place) g k (is_place m.cell m.among) o (subst (HoldsKey (word z r.world) r.ledger.rows (row_at z l m.cell.place)) key (is_held m.cell m.among).1) x) (cell_in m.cell p m.among m.origin)
 
   -- The new row.
 
@@ -208,10 +236,10 @@ module _ {z : Sizes} {r r' : Run} {s : ℕ} {choice : Choice} {l l' : Local} (h 
   stays c = origin_stays (Activity.Rebalance (Rebalance.Replace Replace.Exchange)) h q c (λ x. x)
 
   -- each put of which it has a cell has a kept one
-  new_is : (p : ℕ) → InRow z r' q p → IsPutIn r.origin l.row l.rebalance.kept p
+  new_is : (p : ℕ) → InRow z r' q p → IsPutIn (source z r.origin l) l.rebalance.kept p
   new_is p x = which (slice_get (infant_cells (at_infant place.0 l)) x.cell) refl
     where
-      which : (o : Option Cell) → slice_get (infant_cells (at_infant place.0 l)) x.cell ≡ o → IsPutIn r.origin l.row l.rebalance.kept p
+      which : (o : Option Cell) → slice_get (infant_cells (at_infant place.0 l)) x.cell ≡ o → IsPutIn (source z r.origin l) l.rebalance.kept p
       which None e = let w : Some p ≡ None = sym x.origin ∙ stays x.cell ∙ copied.rest x.cell x.within tt e in absurd (cc)
       which (Some c) e = record {
         cell = c;
@@ -220,7 +248,7 @@ module _ {z : Sizes} {r r' : Run} {s : ℕ} {choice : Choice} {l l' : Local} (h 
       }
 
   -- and of each kept cell of a key that it holds it has one
-  new_has : (k p : ℕ) → HoldsKey (word z r'.world) r'.ledger.rows q k → (attempt r.history p).key ≡ k → IsPutIn r.origin l.row l.rebalance.kept p → InRow z r' q p
+  new_has : (k p : ℕ) → HoldsKey (word z r'.world) r'.ledger.rows q k → (attempt r.history p).key ≡ k → IsPutIn (source z r.origin l) l.rebalance.kept p → InRow z r' q p
   new_has k p x e m = record {
     cell = j.0;
     within = few;
@@ -229,38 +257,39 @@ module _ {z : Sizes} {r r' : Run} {s : ℕ} {choice : Choice} {l l' : Local} (h 
   }
     where
       is : IsCellOf r.history m.cell p
-      is = cell_of r.history r.origin l.row m.cell p (All-contains (IsGathered r.history r.origin l.row) l.rebalance.kept m.cell kept m.among) m.origin
+      is = cell_of r.history (source z r.origin l) m.cell p (All-contains (IsGathered r.history (source z r.origin l)) l.rebalance.kept m.cell kept m.among) m.origin
 
       j : Contains (infant_cells (at_infant place.0 l)) m.cell
       j = cell_in_new h i.shape place.0 q place.1 k y.fate x m.cell m.among (sym is.key ∙ e)
 
       few : j.0 < z.cells
-      few = omega (arith, j.1, part_short (end_of l.rebalance.kept l.rebalance.starts place.0 - slice_index l.rebalance.starts place.0) (slice_index l.rebalance.starts place.0) l.rebalance.kept, (i.shape.sane.locals s l h.knows).ranges.rebalance.few)
+      few = omega (arith, j.1, (i.shape.sane.locals s l h.knows).ranges.rebalance.fits place.0 (omega (arith, has_start h i.shape place.0 q place.1)))
 
       at : slice_get (infant_cells (at_infant place.0 l)) j.0 ≡ Some m.cell
       at = slice_get-get_or (infant_cells (at_infant place.0 l)) j.0 m.cell j.1 ∙ ap Some j.2
 
   -- Together.
 
-  module _ (k : ℕ) (x : HoldsKey (word z r'.world) r'.ledger.rows q k) where
-    -- the new row shows what the full one did
-    new_shows : (u : ℕ) → Contains l.rebalance.needed u ⊎ All (λ c. c.version ≤ u) l.rebalance.gathered → Shows (puts_of r.history) (InRow z r' q) (InRow z r l.row) k u
+  -- a row of the group that held a key of the new one
+  module _ (k : ℕ) (x : HoldsKey (word z r'.world) r'.ledger.rows q k) (g : ℕ) (o : IsOfGroup l g) (f : HoldsKey (word z r.world) r.ledger.rows g k) where
+    -- the new row shows what that one did
+    new_shows : (u : ℕ) → Contains l.rebalance.needed u ⊎ All (λ c. c.version ≤ u) l.rebalance.gathered → Shows (puts_of r.history) (InRow z r' q) (InRow z r g) k u
     new_shows u at b t v w = kept_shows k u at b t
-        (greatest_of_same (puts_of r.history) (InRow z r' q) (IsPutIn r.origin l.row l.rebalance.kept) k u u b (λ p e m o. (new_is p m, o)) (λ p e m o. (new_has k p x e m, o)) v)
-        (greatest_of_same (puts_of r.history) (InRow z r l.row) (IsPutIn r.origin l.row l.rebalance.gathered) k u u t (λ p e m o. (full_is p m, o)) (λ p e m o. (full_has p m, o)) w)
+        (greatest_of_same (puts_of r.history) (InRow z r' q) (IsPutIn (source z r.origin l) l.rebalance.kept) k u u b (λ p e m n. (new_is p m, n)) (λ p e m n. (new_has k p x e m, n)) v)
+        (greatest_of_same (puts_of r.history) (InRow z r g) (IsPutIn (source z r.origin l) l.rebalance.gathered) k u u t (λ p e m n. (row_is g p o m, n)) (λ p e m n. (row_has g k p o f e m, n)) w)
 
     -- so it was built of it
-    pub is_rebuilt : (n : Needs z r (Activity.Rebalance (Rebalance.Replace Replace.Exchange)) l) → Rebuilds (puts_of r.history) (InRow z r l.row) (InRow z r' q) (Contains l.rebalance.needed) k n.most n.most
+    pub is_rebuilt : (n : Needs z r (Activity.Rebalance (Rebalance.Replace Replace.Exchange)) l) → Rebuilds (puts_of r.history) (InRow z r g) (InRow z r' q) (Contains l.rebalance.needed) k n.most n.most
     is_rebuilt n = record {
-      of_old = λ p m e. let w = new_is p m in full_has p (record { cell = w.cell; among = kept_given w.cell w.among; origin = w.origin });
-      bound = λ p m e. n.bound p m;
-      found = λ u. row_greatest z r i l.row k u;
+      of_old = λ p m e. let w = new_is p m in row_has g k p o f e (record { cell = w.cell; among = kept_given w.cell w.among; origin = w.origin });
+      bound = λ p m e. n.bound g p o m;
+      found = λ u. row_greatest z r i g k u;
       at_listed = λ u m. new_shows u (inl m);
       at_newest = new_shows n.most (inr below);
     }
       where
         below : All (λ c. c.version ≤ n.most) l.rebalance.gathered
-        below j d o =
-            let g = gathered j d o in
-            let among : Contains l.rebalance.gathered (get_or l.rebalance.gathered j d) = Contains-get_or l.rebalance.gathered j d o in
-            omega (arith, g.is.version, n.bound g.put (full_has g.put (record { cell = get_or l.rebalance.gathered j d; among = among; origin = g.origin })))
+        below j d u =
+            let w = gathered j d u in
+            let among : Contains l.rebalance.gathered (get_or l.rebalance.gathered j d) = Contains-get_or l.rebalance.gathered j d u in
+            omega (arith, w.is.version, n.bound _ w.put (is_place (get_or l.rebalance.gathered j d) among) (cell_in (get_or l.rebalance.gathered j d) w.put among w.origin))

@@ -6,6 +6,9 @@ use Rattle.kw_world.specs.Answers.{reply_of}
 use Rattle.kw_world.specs.declared.activity.Activity.{Activity}
 use Rattle.kw_world.specs.declared.activity.look.Look.TheVariants as Look
 use Rattle.kw_world.specs.declared.activity.read.Read.TheVariants as Read
+use Rattle.kw_world.specs.declared.activity.rebalance.engage.Engage.TheVariants as Engage
+use Rattle.kw_world.specs.declared.activity.rebalance.Rebalance.{Rebalance}
+use Rattle.kw_world.specs.declared.activity.rebalance.Rebalance.TheVariants as Rebalance
 use Rattle.kw_world.specs.declared.activity.walk.Walk.TheVariants as Walk
 use Rattle.kw_world.specs.declared.local.Local.{Local}
 use Rattle.kw_world.specs.declared.event.Choice.{Choice}
@@ -28,23 +31,20 @@ use Rattle.kw_reads.specs.Contents.{Contents}
 use Rattle.kw_reads.specs.Inv.{Inv}
 use Rattle.kw_core.proofs.Lasts.{get_lasts}
 use Rattle.kw_core.proofs.Happens.{Happens, each_seat}
-use Rattle.kw_core.proofs.BuiltNext.{IsAfterBuilding, built_goes, built_next}
-use Rattle.kw_core.proofs.Arrows.{builds, Arrow, ends_at_clock, ends_at_epoch, ends_at_state, ends_undecided}
+use Rattle.kw_core.proofs.Arrows.{builds, Arrow}
 use Rattle.kw_puts.proofs.Rely.{Rely}
-use Rattle.kw_reads.proofs.BuiltReads.{after_enters, after_pairs}
-use Rattle.kw_shape.proofs.AfterBuilding.{built_kinds}
+use Rattle.kw_reads.proofs.BuiltReads.{IsAfterRebalance, after_enters, after_pairs, rebalance_goes, rebalance_next}
 use Rattle.kw_reads.proofs.Relying.{rely}
 use Rattle.kw_reads.proofs.ReadersKeep.{Before}
 use Rattle.std.proofs.lemmas.Bool.{and_parts}
 use Rattle.kw_world.specs.Transition.{leave}
-use Rattle.kw_core.proofs.NextBuilt.{over, refused}
 use Rattle.kw_world.specs.ScanTransitions.{answer_or_stopped}
 use Rattle.kw_core.specs.Stages.{IsEarly}
-use Rattle.kw_shape.specs.Shape.{IsKind, IsPutCall, IsReadCall, Kinds}
+use Rattle.kw_shape.specs.Shape.{IsKind, IsPutCall, IsReadCall}
 use Rattle.kw_shape.proofs.NextCalls.{cell_call}
 use Rattle.kw_puts.proofs.Owners.{true_false}
 use Rattle.kw_reads.proofs.Relying.{goes_on_by}
-use Rattle.kw_core.proofs.Arrows.{NextLook, looks, lists, begins, enters, is_spent, settles_empty, settles, stops, sees_stamped, sees_neither, is_gone_by, helps, finds_stamped, finds_other, list_ends, key_above, left_over_gone_by, gathers_left_over, clears_scan, clears, leaves, NextLeftOver, retries, clock_is_spent, epoch_is_spent, ends_at_clock, ends_at_epoch, first_ends}
+use Rattle.kw_core.proofs.Arrows.{NextLook, looks, lists, begins, enters, is_spent, settles_empty, settles, stops, sees_stamped, sees_neither, is_gone_by, helps, finds_stamped, finds_other, list_ends, key_above, left_over_gone_by, gathers_left_over, clears_scan, clears, leaves, NextLeftOver, retries, first_ends}
 use Rattle.kw_puts.proofs.OwnScans.{IsAfterRead, after_read}
 use Rattle.kw_reads.proofs.OwnPairs.{covers_last, stays, settled_pairs, no_pairs, leave_covered, cell_pairs, put_answered, scan_answered, scan_call_answered, cell_answered}
 
@@ -135,7 +135,8 @@ EndsVisit _ = ⊥
 
 -- a call that has read no row had read none
 arrow_early : (z : Sizes) (v : Words) (s : ℕ) (choice : Choice) (l : Local) (a : Activity) (k : Local) → Arrow z v s choice l a k → (EndsVisit a → ⊥) → IsEarly k.activity → IsEarly a
-arrow_early z v s choice l a k (builds b next y t) n x = after_enters k.activity (built_next z v choice l b k t) x
+arrow_early z v s choice l (Activity.Rebalance b) k u n x = after_enters k.activity (rebalance_next z v s choice l b k u) x
+arrow_early z v s choice l a k (builds b next y t) n x = absurd y
 arrow_early z v s choice l a k (begins call e m) n x = tt
 arrow_early z v s choice l (Activity.Enter _) k b n x = tt
 arrow_early z v s choice l (Activity.Draw _) k b n x = tt
@@ -156,7 +157,8 @@ arrow_early z v s choice l a k b n x = absurd x
 
 -- the pairs of the acting scan
 pub pairs_own : (z : Sizes) (r r' : Run) (s : ℕ) (choice : Choice) (l : Local) (a : Activity) (l' : Local) → Arrow z (word z r.world) s choice l a l' → Happens z r r' s choice l l' a → Before z r r' → Readers z r' → Contents z r' → HasPairs r'.history l'.activity l' (r'.seats s)
-pairs_own z r r' s choice l a l' (builds b next y t) h i n w = after_pairs r'.history l'.activity l' (r'.seats s) (built_next z (word z r.world) choice l b l' t)
+pairs_own z r r' s choice l (Activity.Rebalance b) l' x h i n w = after_pairs r'.history l'.activity l' (r'.seats s) (rebalance_next z (word z r.world) s choice l b l' x)
+pairs_own z r r' s choice l a l' (builds b next y t) h i n w = absurd y
 pairs_own z r r' s choice l a l' (settles_empty e) h i n w = record { early = λ x. absurd x; from = λ f x. absurd x; upto = λ f x. absurd x; covers = λ f x. absurd x; covered = subst (Covers r'.history (first_key l.call) _ (r'.seats s).drawn (last_key l.call + 1)) (sym ((i.inv.replies.pairs s l h.knows).early (subst IsEarly (sym h.activity) tt))) (no_pairs r'.history l.call _ (r'.seats s).drawn e) }
 pairs_own z r r' s choice l a l' (settles e) h i n w = settled_pairs r'.history l _ (r'.seats s) refl refl ((i.inv.replies.pairs s l h.knows).early (subst IsEarly (sym h.activity) tt)) e
 pairs_own z r r' s choice l a l' (clears_scan answer) h i n w = record {
@@ -197,7 +199,8 @@ left_over_unpaired : {A : Type 0} (l k next : Local) → k.call ≡ l.call → N
 left_over_unpaired l k next e n x y = reads_or_puts l.call x (subst IsPutCall ((cell_call k next n).0 ∙ e) y)
 
 unpaired_own : (z : Sizes) (r r' : Run) (s : ℕ) (choice : Choice) (l : Local) (a : Activity) (l' : Local) → Arrow z (word z r.world) s choice l a l' → Happens z r r' s choice l l' a → Inv z r → IsPutCall l'.call → l'.pairs ≡ []
-unpaired_own z r r' s choice l a l' (builds b next y t) h i p = let n = built_goes z (word z r.world) choice l b l' t in n.pairs ∙ i.replies.unpaired s l h.knows (subst IsPutCall n.call p)
+unpaired_own z r r' s choice l (Activity.Rebalance b) l' x h i p = let n = rebalance_goes z (word z r.world) s choice l b l' x in n.pairs ∙ i.replies.unpaired s l h.knows (subst IsPutCall n.call p)
+unpaired_own z r r' s choice l a l' (builds b next y t) h i p = absurd y
 unpaired_own z r r' s choice l a l' (begins call e x) h i p = (i.replies.pairs s l h.knows).early (subst IsEarly (sym h.activity) tt)
 unpaired_own z r r' s choice l a l' (first_ends next e x) h i p = left_over_unpaired l _ next refl x (kind_of z r r' s choice l l' h i) p
 unpaired_own z r r' s choice l a l' (list_ends next e x) h i p = left_over_unpaired l _ next refl x (kind_of z r r' s choice l l' h i) p
@@ -207,16 +210,22 @@ unpaired_own z r r' s choice l a l' (gathers_left_over next x) h i p = left_over
 unpaired_own z r r' s choice l a l' (leaves answer) h i p = refl
 unpaired_own z r r' s choice l a l' b h i p = i.replies.unpaired s l h.knows p
 
--- what follows the building of rows is no answer of a get
-after_answered : (a : Activity) (call : Option Call) (h : History) (l : Local) (g : SeatLog) → IsAfterBuilding a → IsPutCall call → IsAnswered a call h l g
+-- what follows a rebalance is no answer of a get
+after_answered : (a : Activity) (call : Option Call) (h : History) (l : Local) (g : SeatLog) → IsAfterRebalance a → IsPutCall call → IsAnswered a call h l g
 after_answered (Activity.Leave answer) call h l g b p = put_answered call answer h l g p
 after_answered _ call h l g b p = tt
 
+-- a call that rebalances is a put or a delete
+rebalance_puts : (b : Rebalance) (l : Local) → IsKind (Activity.Rebalance b) l → IsPutCall l.call
+rebalance_puts (Rebalance.Engage (Engage.Decide count)) l k = k.0
+rebalance_puts _ l k = k
+
 -- the answer of the acting get
 pub answers_own : (z : Sizes) (r r' : Run) (s : ℕ) (choice : Choice) (l : Local) (a : Activity) (l' : Local) → Arrow z (word z r.world) s choice l a l' → Happens z r r' s choice l l' a → Before z r r' → Readers z r' → Contents z r' → IsAnswered l'.activity l'.call r'.history l' (r'.seats s)
-answers_own z r r' s choice l a l' (builds b next y t) h i n w =
-    let g = built_goes z (word z r.world) choice l b l' t in
-    after_answered l'.activity l'.call r'.history l' (r'.seats s) g.next (subst IsPutCall (sym g.call) (built_kinds b l y (subst (λ q. Kinds q l) h.activity (i.inv.shape.kinds s l h.knows))))
+answers_own z r r' s choice l (Activity.Rebalance b) l' x h i n w =
+    let g = rebalance_goes z (word z r.world) s choice l b l' x in
+    after_answered l'.activity l'.call r'.history l' (r'.seats s) g.next (subst IsPutCall (sym g.call) (rebalance_puts b l (kind_of z r r' s choice l l' h i.inv)))
+answers_own z r r' s choice l a l' (builds b next y t) h i n w = absurd y
 answers_own z r r' s choice l a l' (is_spent e) h i n w = scan_call_answered l.call Spent r'.history (leave Spent l).local (r'.seats s) (kind_of z r r' s choice l l' h i.inv)
 answers_own z r r' s choice l a l' (clears_scan answer) h i n w = scan_call_answered l.call (answer_or_stopped answer choice) r'.history (leave (answer_or_stopped answer choice) l).local (r'.seats s) (kind_of z r r' s choice l l' h i.inv).0
 answers_own z r r' s choice l a l' (stops e) h i n w = scan_answered l.call Stopped r'.history (leave Stopped l).local (r'.seats s) (and_parts _ _ (and_parts _ _ e).1).0
@@ -232,12 +241,6 @@ answers_own z r r' s choice l a l' (is_gone_by next e x) h i n w = look_answered
 answers_own z r r' s choice l a l' (helps next e x) h i n w = look_answered z _ next x l.call r'.history _ (r'.seats s)
 answers_own z r r' s choice l a l' (finds_stamped c version next e x) h i n w = look_answered z _ next x l.call r'.history _ (r'.seats s)
 answers_own z r r' s choice l a l' (finds_other next e x) h i n w = look_answered z _ next x l.call r'.history _ (r'.seats s)
-answers_own z r r' s choice l a l' (clock_is_spent e nd) h i n w = put_answered l.call Spent r'.history (refused Spent l).local (r'.seats s) (kind_of z r r' s choice l l' h i.inv)
-answers_own z r r' s choice l a l' (ends_at_clock dn) h i n w = put_answered l.call Done r'.history (over l).local (r'.seats s) (kind_of z r r' s choice l l' h i.inv)
-answers_own z r r' s choice l a l' (epoch_is_spent e nd) h i n w = put_answered l.call Spent r'.history (refused Spent l).local (r'.seats s) (kind_of z r r' s choice l l' h i.inv)
-answers_own z r r' s choice l a l' (ends_at_epoch dn) h i n w = put_answered l.call Done r'.history (over l).local (r'.seats s) (kind_of z r r' s choice l l' h i.inv)
-answers_own z r r' s choice l a l' (ends_at_state dn) h i n w = put_answered l.call Done r'.history (over l).local (r'.seats s) (kind_of z r r' s choice l l' h i.inv)
-answers_own z r r' s choice l a l' (ends_undecided count dn) h i n w = put_answered l.call Done r'.history (over l).local (r'.seats s) (kind_of z r r' s choice l l' h i.inv).0
 answers_own z r r' s choice l a l' b h i n w = tt
 
 -- The group.

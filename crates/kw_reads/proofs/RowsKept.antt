@@ -21,12 +21,13 @@ use Rattle.kw_core.proofs.Attempts.{in_range}
 use Rattle.kw_core.proofs.Happens.{Happens, each_seat, log_entry}
 use Rattle.kw_core.proofs.Steps.{announced_within, stands_before}
 use Rattle.kw_shape.proofs.ShapeOpens.{each_rests, opens}
+use Rattle.kw_shape.specs.Hands.{IsAllFrozen}
 use Rattle.kw_shape.specs.Shape.{HoldsKey}
 use Rattle.kw_kept.specs.Kept.{Kept}
 use Rattle.kw_kept.specs.Puts.{Greatest, Same, Shows}
 use Rattle.kw_puts.specs.Below.{Below}
 use Rattle.kw_puts.specs.Here.{IsHere}
-use Rattle.kw_reads.specs.Contents.{Borns, HasGoneByRow, InRow, IsGone, IsOlder, IsPast, IsStanding, Needed, Needs, WasPut, puts_of, rows_of}
+use Rattle.kw_reads.specs.Contents.{Borns, InRow, IsGone, IsOlder, IsPast, IsStanding, Needed, Needs, WasPut, puts_of, rows_of}
 use Rattle.kw_reads.specs.Inv.{Inv, lower}
 use Rattle.kw_reads.proofs.DeadRows as dead_rows
 use Rattle.kw_reads.proofs.DeadRows.{inside_of, over_of}
@@ -73,8 +74,8 @@ module _ (z : Sizes) (r r' : Run) (s : ℕ) (choice : Choice) (l : Local) (a : A
   dead_keeps = dead_rows.dead_keeps z r r' s choice l a l' h (lower i) step i.contents
 
   -- what rebalances know of needed versions
-  pub needs_keeps : (t : ℕ) (k : Local) → slice_get r'.world.locals t ≡ Some k → HasGoneByRow k.activity → Needs z r' k.activity k
-  needs_keeps = each_seat h (λ t k. HasGoneByRow k.activity → Needs z r' k.activity k) (needs_own z r r' s choice l a l' h (lower i) step after i.contents) (needs_other z r r' s choice l a l' h (lower i) step i.contents)
+  pub needs_keeps : (t : ℕ) (k : Local) → slice_get r'.world.locals t ≡ Some k → IsAllFrozen k.activity → Needs z r' k.activity k
+  needs_keeps = each_seat h (λ t k. IsAllFrozen k.activity → Needs z r' k.activity k) (needs_own z r r' s choice l a l' h (lower i) step after i.contents) (needs_other z r r' s choice l a l' h (lower i) step i.contents)
 
 -- Where nothing happened: no put is stamped, and no row is dead.
 
@@ -131,5 +132,5 @@ module _ (z : Sizes) (o : Opening) (i : IsOpening z o) where
   dead_start q k u d x n = none_dead o q d
 
   -- what rebalances know of needed versions
-  pub needs_start : (t : ℕ) (k : Local) → slice_get (start z o).world.locals t ≡ Some k → HasGoneByRow k.activity → Needs z (start z o) k.activity k
-  needs_start = each_rests z o (λ t l. HasGoneByRow l.activity → Needs z (start z o) l.activity l) (λ t x. absurd x)
+  pub needs_start : (t : ℕ) (k : Local) → slice_get (start z o).world.locals t ≡ Some k → IsAllFrozen k.activity → Needs z (start z o) k.activity k
+  needs_start = each_rests z o (λ t l. IsAllFrozen l.activity → Needs z (start z o) l.activity l) (λ t x. absurd x)

@@ -14,8 +14,10 @@ use Rattle.kw_world.specs.declared.activity.rebalance.Rebalance.TheVariants as R
 use Rattle.kw_world.specs.declared.activity.rebalance.replace.Replace.TheVariants as Replace
 use Rattle.kw_world.specs.declared.activity.walk.Walk.TheVariants as Walk
 use Rattle.kw_world.specs.declared.activity.enter.Enter.TheVariants as Enter
+use Rattle.kw_world.specs.declared.activity.rebalance.claim.Claim.TheVariants as Claim
 use Rattle.kw_world.specs.declared.activity.rebalance.engage.Engage.TheVariants as Engage
 use Rattle.kw_world.specs.declared.activity.rebalance.gather.Gather.TheVariants as Gather
+use Rattle.kw_world.specs.declared.activity.rebalance.left.Left.TheVariants as Left
 use Rattle.kw_world.specs.declared.activity.look.Look.TheVariants as Look
 use Rattle.kw_world.specs.declared.activity.put.Put.TheVariants as Put
 use Rattle.kw_world.specs.declared.activity.read.Read.TheVariants as Read
@@ -29,12 +31,14 @@ use Rattle.kw_world.specs.Step.{word}
 use Rattle.kw_world.specs.WalkTransitions.{is_stopped}
 use Rattle.kw_core.specs.Run.{Run}
 use Rattle.kw_core.specs.Words.{Words}
-use Rattle.kw_core.proofs.Arrows.{builds, Arrow, NextLook, looks, lists, NextLeftOver, goes_to_left_over, answers, ends_scan, scans_on, sees_stamped, sees_neither, is_gone_by, helps, finds_stamped, finds_other, list_ends, key_above, left_over_gone_by, gathers_left_over, draws, draws_for, first_ends}
+use Rattle.kw_core.proofs.Arrows.{builds, Arrow, NextLook, looks, lists, NextLeftOver, goes_to_left_over, answers, ends_scan, scans_on, sees_stamped, sees_neither, is_gone_by, helps, finds_stamped, finds_other, list_ends, key_above, left_over_gone_by, gathers_left_over, draws, draws_for, first_ends, freezes_last, keeps_no_more, remembers_last, sees_frozen_last, takes_no_more, decides, marks_led}
+use Rattle.kw_core.proofs.Grouping.{NextFrozen, freezes_ahead, froze_all, NextGathered, gathers_ahead, gathered_all}
 use Rattle.kw_core.proofs.Frame.{no_link, same_scan, unwritten, writes}
 use Rattle.kw_core.proofs.FreezeFrame.{clock_never_falls}
 use Rattle.kw_core.proofs.Happens.{Happens, knows_next, knows_other, exchanged, not_exchanged}
 use Rattle.kw_kept.specs.Needed.{Moves}
 use Rattle.kw_kept.proofs.NeededLists.{needed_was}
+use Rattle.kw_puts.proofs.BuiltStages.{counted_not}
 use Rattle.kw_puts.specs.Below.{Below}
 use Rattle.kw_puts.specs.Positions.{HelpsScan, IsToWait}
 use Rattle.kw_puts.proofs.OwnScans.{goes_on_walk, stopped_clears}
@@ -74,6 +78,15 @@ built_holds (Activity.Draw Draw.Settle) n x = absurd n
 built_holds (Activity.Rebalance (Rebalance.Freeze (Freeze.Settle i))) n x = absurd n
 built_holds _ n x = absurd x
 
+-- nor where it is done with a row of its group
+frozen_holds : {A : Type 0} (l k : Local) → NextFrozen l k → IsHolder k.activity → A
+frozen_holds l k (freezes_ahead r e) x = absurd x
+frozen_holds l k (froze_all e) x = absurd x
+
+gathered_holds : {A : Type 0} (z : Sizes) (l k : Local) → NextGathered z l k → IsHolder k.activity → A
+gathered_holds z l k (gathers_ahead r e) x = absurd x
+gathered_holds z l k (gathered_all e) x = absurd x
+
 -- a seat that holds one has just drawn it
 drawn_now : (z : Sizes) (v : Words) (s : ℕ) (choice : Choice) (l : Local) (a : Activity) (k : Local) → Arrow z v s choice l a k → IsHolder k.activity → held_by k.activity k ≡ v name.Clock
 drawn_now z v s choice l a k (builds b next y t) x = built_holds k.activity (built_goes z v choice l b k t).next x
@@ -90,6 +103,13 @@ drawn_now z v s choice l a k (list_ends next e n) x = cell_holds _ next n x
 drawn_now z v s choice l a k (key_above next e n) x = cell_holds _ next n x
 drawn_now z v s choice l a k (left_over_gone_by next e n) x = cell_holds _ next n x
 drawn_now z v s choice l a k (gathers_left_over next n) x = cell_holds _ next n x
+drawn_now z v s choice l a k (remembers_last i c version next e o n) x = frozen_holds _ next n x
+drawn_now z v s choice l a k (sees_frozen_last i next e o n) x = frozen_holds _ next n x
+drawn_now z v s choice l a k (freezes_last i next e o n) x = frozen_holds _ next n x
+drawn_now z v s choice l a k (takes_no_more next e none n) x = gathered_holds z _ next n x
+drawn_now z v s choice l a k (keeps_no_more next none n) x = gathered_holds z _ next n x
+drawn_now z v s choice l a k (marks_led count next d n) x = absurd (counted_not IsHolder (λ y. y) (λ y. y) n x)
+drawn_now z v s choice l a k (decides count m next e n) x = absurd (counted_not IsHolder (λ y. y) (λ y. y) n x)
 drawn_now z v s choice l a k b x = absurd x
 
 -- The word of a scan that says what was drawn.
@@ -155,6 +175,8 @@ module _ {z : Sizes} {r r' : Run} {s : ℕ} {choice : Choice} {l l' : Local} whe
   drawn_was (Activity.Read Read.Link) h i u o w = has_drawn o (sym (unwritten (Activity.Read Read.Link) h (name.Scan i) o (λ e. cc)) ∙ w)
   drawn_was (Activity.Put Put.Count) h i u o w = has_drawn o (sym (unwritten (Activity.Put Put.Count) h (name.Scan i) o (λ e. cc)) ∙ w)
   drawn_was (Activity.Rebalance (Rebalance.Engage Engage.Clock)) h i u o w = has_drawn o (sym (unwritten (Activity.Rebalance (Rebalance.Engage Engage.Clock)) h (name.Scan i) o (λ e. cc)) ∙ w)
+  drawn_was (Activity.Rebalance (Rebalance.Claim Claim.Count)) h i u o w = has_drawn o (sym (unwritten (Activity.Rebalance (Rebalance.Claim Claim.Count)) h (name.Scan i) o (λ e. cc)) ∙ w)
+  drawn_was (Activity.Rebalance (Rebalance.Left Left.Next)) h i u o w = has_drawn o (sym (unwritten (Activity.Rebalance (Rebalance.Left Left.Next)) h (name.Scan i) o (λ e. cc)) ∙ w)
   drawn_was (Activity.Rebalance (Rebalance.Gather Gather.Link)) h i u o w = has_drawn o (sym (unwritten (Activity.Rebalance (Rebalance.Gather Gather.Link)) h (name.Scan i) o (λ e. cc)) ∙ w)
   drawn_was (Activity.Rebalance (Rebalance.Seek Seek.Next)) h i u o w = has_drawn o (sym (unwritten (Activity.Rebalance (Rebalance.Seek Seek.Next)) h (name.Scan i) o (λ e. cc)) ∙ w)
   drawn_was (Activity.Rebalance (Rebalance.Write Write.Count)) h i u o w = has_drawn o (sym (unwritten (Activity.Rebalance (Rebalance.Write Write.Count)) h (name.Scan i) o (λ e. cc)) ∙ w)

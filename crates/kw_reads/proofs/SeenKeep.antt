@@ -44,7 +44,6 @@ use Rattle.kw_rows.specs.Ledger.{IsFresh}
 use Rattle.kw_rows.specs.Rows.{WasLinked}
 use Rattle.kw_reads.specs.Readers.{IsDue, IsCopyOf, IsInHand, AreCopies, Gathers, Apart, HasSeen, IsReadRow}
 use Rattle.kw_reads.specs.Inv.{Inv}
-use Rattle.kw_core.proofs.BuiltNext.{built_goes}
 use Rattle.kw_core.proofs.Attempts.{in_range}
 use Rattle.kw_core.proofs.Arrows.{builds, NextLook, looks, lists, Arrow, begins, reads_last, reads_before, sees_pending, sees_stamped, sees_neither, is_wanted, is_gone_by, loads_to_help, helps, finds_stamped, finds_other, list_leads, list_ends, key_below, key_within, key_above, loads_version, gathers_listed, left_over_wanted, left_over_gone_by, gathers_left_over, takes_cell, enters, enters_scan, leaves, retries, takes_full, settles_empty, settles, begins_at_first, begins_behind, first_ends, first_leads}
 use Rattle.kw_core.proofs.SeatLogs.{settled_same}
@@ -56,8 +55,7 @@ use Rattle.kw_reads.proofs.Ready.{due_before, stamped_lasts, stamped_same, copie
 use Rattle.kw_puts.specs.Below.{Below}
 use Rattle.kw_reads.proofs.LooksKeep.{goes}
 use Rattle.kw_reads.proofs.CellsKeep.{seen_next, copies_next, cells_before, unread_before, left_at_end, left_above, left_gone_by, left_gathered, value_stands}
-use Rattle.kw_puts.proofs.BuiltStages.{after_reading}
-use Rattle.kw_reads.proofs.BuiltReads.{after_rests, building_keeping, building_log, taking_reads}
+use Rattle.kw_reads.proofs.BuiltReads.{after_reading, after_rests, rebalance_goes, rebalance_log, taking_reads}
 use Rattle.kw_shape.proofs.AfterBuilding.{built_pass}
 use Rattle.kw_shape.proofs.LinkedRows.{fresh_linked}
 use Rattle.kw_shape.proofs.NextCalls.{arrow_call}
@@ -137,10 +135,11 @@ look_empty j now g f = which (cases_eq j 0)
 
 -- what the acting seat has seen of a row that it has read
 pub seen_by : (z : Sizes) (r r' : Run) (s : ℕ) (choice : Choice) (l : Local) (a : Activity) (l' : Local) → Arrow z (word z r.world) s choice l a l' → Happens z r r' s choice l l' a → Inv z r → Below z r' → HasSeen r'.history r'.origin l'.activity l' (r'.seats s)
-seen_by z r r' s choice l a l' (builds b next y t) h i k =
-    let g = building_log b y h in
-    let n = built_goes z (word z r.world) choice l b l' t in
-    seen_kept h i l'.activity (building_keeping b y) n.call (ap (λ g. g.looked) g) (ap (λ g. g.ids) g) (ap (λ g. g.read) g) (λ x. after_reading l'.activity n.next x)
+seen_by z r r' s choice l (Activity.Rebalance b) l' x h i k =
+    let g = rebalance_log b h in
+    let n = rebalance_goes z (word z r.world) s choice l b l' x in
+    seen_kept h i l'.activity tt n.call g.looked g.ids g.read (λ u. after_reading l'.activity n.next u)
+seen_by z r r' s choice l a l' (builds b next y t) h i k = absurd y
 seen_by z r r' s choice l _ _ (begins call e b) h i k = seen_unread r'.history r'.origin (Activity.Enter Enter.Announce) _ (r'.seats s) (ap (λ g. g.read) h.log ∙ ap (λ c. (log_begun c (length r.history.calls) (r.seats s)).read) e)
 seen_by z r r' s choice l _ _ (reads_last f n) h i k = record { unread = λ x. absurd (omega (arith, x)); stamped = λ x. absurd x; taken = λ x. absurd x }
 seen_by z r r' s choice l _ _ (reads_before f w) h i k = record { unread = λ x. absurd (omega (arith, x)); stamped = λ x. absurd x; taken = λ x. absurd x }
@@ -235,10 +234,11 @@ module _ {z : Sizes} {r r' : Run} {s : ℕ} {choice : Choice} {l l' : Local} {a 
 
 -- what the acting seat has gathered
 pub gathers_by : (z : Sizes) (r r' : Run) (s : ℕ) (choice : Choice) (l : Local) (a : Activity) (l' : Local) → Arrow z (word z r.world) s choice l a l' → Happens z r r' s choice l l' a → Inv z r → Below z r' → Gathers r'.history r'.origin l'.activity l' (r'.seats s)
-gathers_by z r r' s choice l a l' (builds b next y t) h i k =
-    let g = building_log b y h in
-    let n = built_goes z (word z r.world) choice l b l' t in
-    gathers_kept h i l'.activity (building_keeping b y) n.call n.gathered (ap (λ g. g.ids) g) (ap (λ g. g.read) g) (λ x. after_rests l'.activity n.next (inl x)) (λ x. after_reading l'.activity n.next (looked_reading l'.activity x)) (λ x. after_rests l'.activity n.next (inr x))
+gathers_by z r r' s choice l (Activity.Rebalance b) l' x h i k =
+    let g = rebalance_log b h in
+    let n = rebalance_goes z (word z r.world) s choice l b l' x in
+    gathers_kept h i l'.activity tt n.call n.gathered g.ids g.read (λ u. after_rests l'.activity n.next (inl u)) (λ u. after_reading l'.activity n.next (looked_reading l'.activity u)) (λ u. after_rests l'.activity n.next (inr u))
+gathers_by z r r' s choice l a l' (builds b next y t) h i k = absurd y
 gathers_by z r r' s choice l _ _ (begins call e b) h i k = record { empty = λ x. absurd x; no_ids = λ x. absurd x; taking = λ x. absurd x; kept = λ x q f. let y : None ≡ Some q = sym (ap (λ g. g.read) h.log ∙ ap (λ c. (log_begun c (length r.history.calls) (r.seats s)).read) e) ∙ f in absurd (cc) }
 gathers_by z r r' s choice l _ _ (reads_last f n) h i k = record { empty = λ x. refl; no_ids = λ x. absurd (omega (arith, x)); taking = λ x. absurd x; kept = λ x. absurd x }
 gathers_by z r r' s choice l _ _ (reads_before f w) h i k = record { empty = λ x. refl; no_ids = λ x. absurd (omega (arith, x)); taking = λ x. absurd x; kept = λ x. absurd x }

@@ -122,7 +122,7 @@ module _ {z : Sizes} {r r' : Run} {s : ℕ} {choice : Choice} {l l' : Local} (i 
       stamps_none (set_stamped r.history r'.history (r.seats s).own _ (ap (λ (x : History). x.attempts) n) own.within refl)
   by_change a c (makes_lose j cell p y m f) h n =
       let known = i.shape.sane.locals s l h.knows in
-      stamps_none (set_stamped r.history r'.history p _ (ap (λ (x : History). x.attempts) n) (entry_of_seat i l.row j cell p known.below.row (subst (IsActivity z) h.activity known.ranges.activity) m f).within refl)
+      stamps_none (set_stamped r.history r'.history p _ (ap (λ (x : History). x.attempts) n) (entry_of_seat i l.rebalance.hand j cell p known.below.rebalance.hand (subst (IsActivity z) h.activity known.ranges.activity) m f).within refl)
   by_change a c (makes_stamp e) h n =
       let own = i.puts.owns s l h.knows (subst IsPutting (sym h.activity) tt) in
       let set = ap (λ (x : History). x.attempts) n in

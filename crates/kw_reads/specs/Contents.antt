@@ -23,7 +23,7 @@ use Rattle.kw_rows.specs.Rows.{WasLinked}
 use Rattle.kw_shape.specs.Shape.{HoldsKey}
 use Rattle.kw_puts.specs.Here.{IsHere, IsMadeIn}
 use Rattle.kw_puts.specs.Positions.{HelpsScan}
-use Rattle.kw_puts.specs.Freezes.{HasFrozen}
+use Rattle.kw_puts.specs.Freezes.{IsAllFrozen, IsOfGroup}
 use Rattle.kw_core.specs.History.{Kind}
 use Rattle.kw_kept.specs.Puts.{Put, Shows}
 use Rattle.kw_kept.specs.Kept.{Rows, Kept}
@@ -123,23 +123,17 @@ pub record IsLater (g : Ledger) (d : ℕ) (a : Activity) (l : Local) : Type 0 wh
   pub saw : HasCandidate a → IsSince g d l.candidate
   pub next : IsAtRow a → (n : ℕ) → l.next ≡ Some n → IsSince g d n
 
--- all entries of the row are frozen, and the row is not replaced by this seat
-abbrev pub HasGoneByRow : Activity → Type 0
-HasGoneByRow (Activity.Rebalance (Rebalance.Freeze (Freeze.Look i))) = ⊥
-HasGoneByRow (Activity.Rebalance (Rebalance.Freeze (Freeze.Entry i))) = ⊥
-HasGoneByRow a = HasFrozen a
-
 -- it looks at the scans, or has looked at all
 abbrev pub scans_gone_by : Sizes → Activity → ℕ → Type 0
 scans_gone_by z a i = i < needed_by z a
 
 -- of what the scans need that the seat has gone by, all is listed, or at least `most`, which no
--- cell of its row is above
+-- cell of its group is above
 pub record Needs (z : Sizes) (r : Run) (a : Activity) (l : Local) : Type 0 where
   pub most : ℕ
   pub since : ℕ
   pub past : since < length r.history.log
-  pub bound : (p : ℕ) → InRow z r l.row p → (attempt r.history p).version ≤ most
+  pub bound : (q p : ℕ) → IsOfGroup l q → InRow z r q p → (attempt r.history p).version ≤ most
   pub reached : most ≤ word z r.world name.Clock
   pub late : IsLate since r.ledger.waits (Through z r) most
   pub covered : IsCovered (Through z r) (scans_gone_by z a) (Contains l.rebalance.needed) most
@@ -164,5 +158,5 @@ pub record Contents (z : Sizes) (r : Run) : Type 0 where
   pub kept : Kept (puts_of r.history) (rows_of z r) (Needed z r)
   pub dead : (q k u : ℕ) → IsDead r.ledger.rows q → HoldsKey (word z r.world) r.ledger.rows q k → Needed z r u → Shows (puts_of r.history) (InRow z r q) (WasPut r q) k u
   pub later : (t : ℕ) (l : Local) → slice_get r.world.locals t ≡ Some l → IsLater r.ledger.rows (floor_of r t l) l.activity l
-  pub needs : (t : ℕ) (l : Local) → slice_get r.world.locals t ≡ Some l → HasGoneByRow l.activity → Needs z r l.activity l
+  pub needs : (t : ℕ) (l : Local) → slice_get r.world.locals t ≡ Some l → IsAllFrozen l.activity → Needs z r l.activity l
   pub front : (t : ℕ) (l : Local) → slice_get r.world.locals t ≡ Some l → IsReading l.activity → IsFronted z r l.row (version_of l) (floor_of r t l) (r.seats t).looked

@@ -5,10 +5,10 @@ use Rattle.std.proofs.Common.{ℕ, ◌≡◌, ◌≢◌, ◌⊎◌, inl, inr, tr
 use Rattle.std.proofs.lemmas.Bool.{cases_eq}
 use Rattle.kw_rows.specs.Ledger.{Ledger, Fate, Status, Free, Infant, Live, Dead, IsLive, IsDead, IsFresh, IsHeld}
 use Rattle.kw_rows.specs.RowState as row
-use Rattle.kw_rows.specs.RowState.{State, Leader, IsLed, IsTwo, IsLeader, IsEngaged, IsDecided, IsClaimable, IsClaimed, IsTaken}
+use Rattle.kw_rows.specs.RowState.{State, Leader, IsLed, IsTwo, IsLeader, IsEngaged, IsDecided, IsClaimable, IsClaimed, IsFollowing, IsTaken}
 use Rattle.kw_rows.specs.Rows.{Rows, Chain, Closed}
 use Rattle.kw_rows.specs.States.{LinksOn, HasState, States, Marks}
-use Rattle.kw_rows.specs.Group.{View, Elsewhere, Marking, Opened, Claiming, MarkingNext, Alone, Pair, IsAlone, IsClaimedNext, WentWith, Group, Named, Pairs}
+use Rattle.kw_rows.specs.Group.{View, Elsewhere, Marking, Opened, Claiming, MarkingNext, Alone, Pair, Following, IsAlone, IsClaimedNext, WentWith, Group, Named, Pairs}
 use Rattle.kw_rows.specs.Events.{SameLinks, SameStates, SameFates, Turns, Takes, GivesBack, Fills, Reclaims, MarksLink, Freezes, Numbers, Visits, Rests}
 use Rattle.kw_rows.proofs.Statuses.{not_infant, not_free, dead_infant, dead_free, not_dead}
 use Rattle.kw_rows.proofs.StatesKeep.{Leads, SameRow, states_kept, marks_same, marks_none}
@@ -90,6 +90,7 @@ module _ (w w' : Rows) (ledger ledger' : Ledger) (k : Calm w w' ledger ledger') 
       λ a. let p = g.2 (live_was r (held r n.0) a) in record { leads = k.state r (held r n.0) ∙ p.leads; follows = k.state x (held x n.1) ∙ p.follows },
       λ a. went_with r x (held r n.0) (held x n.1) (g.3 (dead_was r (held r n.0) a)),
     )
+    group_calm (Following r) n g = same IsFollowing r (held r n) g
 
   -- what pairs of rows say stays, where no more rows are held
   pub pairs_calm : Chain w ledger → Closed w ledger → ((x : ℕ) → IsHeld ledger' x → IsHeld ledger x) → ((x : ℕ) → Pairs w ledger x) → (x : ℕ) → Pairs w' ledger' x

@@ -3,10 +3,10 @@ use Rattle.std.proofs.Common.{ℕ, ◌≡◌, ◌⊎◌, inl, inr, ◌≤◌, Op
 use Rattle.std.proofs.lemmas.Bool.{cases_eq}
 use Rattle.kw_rows.specs.Ledger.{Ledger, Fate, IsLive, IsDead}
 use Rattle.kw_rows.specs.RowState as row
-use Rattle.kw_rows.specs.RowState.{State, Normal, Leader, Follower, Retired, IsLed, IsTwo, IsLeader, IsClaimable, IsClaimed, IsTaken}
+use Rattle.kw_rows.specs.RowState.{State, Normal, Leader, Follower, Retired, IsLed, IsTwo, IsLeader, IsClaimable, IsClaimed, IsFollowing, IsTaken}
 use Rattle.kw_rows.specs.Rows.{Rows, Chain}
 use Rattle.kw_rows.specs.States.{LinksOn}
-use Rattle.kw_rows.specs.Group.{View, Elsewhere, Marking, Opened, Claiming, MarkingNext, Alone, Pair, IsAlone, IsPair, IsClaimedNext, WentWith, Group}
+use Rattle.kw_rows.specs.Group.{View, Elsewhere, Marking, Opened, Claiming, MarkingNext, Alone, Pair, Following, IsAlone, IsPair, IsClaimedNext, WentWith, Group}
 use Rattle.kw_rows.specs.Events.{SameLedger, SetsState}
 use Rattle.kw_rows.proofs.Statuses.{not_dead}
 use Rattle.kw_rows.proofs.StatesKeep.{Leads}
@@ -18,6 +18,7 @@ pub record Keeps (w : Rows) (ledger : Ledger) (x : ℕ) (s s' : State) : Type 0 
   pub claimable : (r : ℕ) → IsLive ledger r → w.next r ≡ Some x → IsClaimable r s → IsClaimable r s'
   pub claimed : (r : ℕ) → IsClaimed r s → IsClaimed r s'
   pub taken : (r : ℕ) → IsTaken r s → IsTaken r s'
+  pub following : IsFollowing s → IsFollowing s'
   pub leader : (r : ℕ) → IsLive ledger r → w.next r ≡ Some x → IsLeader s → IsLeader s'
   pub same : (n : ℕ) → IsLive ledger x → 1 ≤ n → s ≡ Leader n → s' ≡ Leader n
   pub follower : (r : ℕ) → IsLive ledger r → w.next r ≡ Some x → s ≡ Follower r → s' ≡ Follower r
@@ -94,6 +95,7 @@ module _ (w w' : Rows) (ledger ledger' : Ledger) (x : ℕ) (s s' : State) (found
     λ a. pair r c (live_was r a) g.0.next (g.2 (live_was r a)),
     λ a. went_with r c (g.3 (dead_was r a)),
   )
+  group_sets (Following r) g = at IsFollowing r (λ q. k.following) g
 
   -- live leaders of two still lead
   pub leads_on : Leads w w' ledger ledger'
@@ -118,6 +120,7 @@ from_normal w ledger x s' f = record {
   claimable = λ r a b h. f r a b;
   claimed = λ r h. absurd h;
   taken = λ r h. absurd h;
+  following = λ h. absurd h;
   leader = λ r a b h. absurd h;
   same = λ n a o q. absurd (no_normal n q);
   follower = λ r a b q. absurd (no_normal_follower r q);
@@ -139,6 +142,7 @@ from_infant w ledger x s = record {
   claimable = λ r a b h. tt;
   claimed = λ r h. absurd h;
   taken = λ r h. absurd h;
+  following = λ h. absurd h;
   leader = λ r a b h. absurd h;
   same = λ n a o q. absurd (no_infant s n q);
   follower = λ r a b q. absurd (no_infant_follower s r q);
@@ -160,6 +164,7 @@ from_open w ledger x n o = record {
   claimable = λ r a b h. tt;
   claimed = λ r h. tt;
   taken = λ r h. absurd h;
+  following = λ h. absurd h;
   leader = λ r a b h. tt;
   same = λ m a u q. absurd (no_zero m u q);
   follower = λ r a b q. absurd (no_leader_follower 0 r q);
@@ -173,6 +178,7 @@ to_retired w ledger x m s c d = record {
   claimable = λ r a b h. not_dead (ledger.fates x).status (c.linked r x a b) d;
   claimed = λ r h. tt;
   taken = λ r h. tt;
+  following = λ h. tt;
   leader = λ r a b h. not_dead (ledger.fates x).status (c.linked r x a b) d;
   same = λ n a o q. not_dead (ledger.fates x).status a d;
   follower = λ r a b q. not_dead (ledger.fates x).status (c.linked r x a b) d;

@@ -1,11 +1,11 @@
 -- What a seat comes to know of its group, from what it knew and what it finds.
-use Rattle.std.proofs.Common.{ℕ, ◌≡◌, ◌⊎◌, inl, inr, ◌≤◌, true, Option, Some, None, ◌∷◌, arith, refl, sym, ◌∙◌, ap, subst}
-use Rattle.kw_rows.specs.Ledger.{Ledger, IsLive, IsDead, IsHeld}
+use Rattle.std.proofs.Common.{ℕ, ◌≡◌, ◌≢◌, ◌⊎◌, inl, inr, ◌<◌, ◌≤◌, true, Option, Some, None, ◌∷◌, arith, refl, sym, ◌∙◌, ap, subst}
+use Rattle.kw_rows.specs.Ledger.{Ledger, IsLive, IsDead, IsFresh, IsHeld}
 use Rattle.kw_rows.specs.RowState as row
-use Rattle.kw_rows.specs.RowState.{State, Normal, Leader, Follower, Retired, IsLed, IsTwo, IsLeader, IsEngaged, IsDecided, IsClaimable, IsClaimed, IsTaken}
+use Rattle.kw_rows.specs.RowState.{State, Normal, Leader, Follower, Retired, IsLed, IsTwo, IsLeader, IsEngaged, IsDecided, IsClaimable, IsClaimed, IsFollowing, IsTaken}
 use Rattle.kw_rows.specs.Rows.{Rows}
-use Rattle.kw_rows.specs.States.{LinksOn, IsLiveState}
-use Rattle.kw_rows.specs.Group.{Marking, Opened, Claiming, MarkingNext, Alone, Pair, WentWith, Group}
+use Rattle.kw_rows.specs.States.{HasLeader, LinksOn, IsLiveState}
+use Rattle.kw_rows.specs.Group.{Marking, Opened, Claiming, MarkingNext, Alone, Pair, Following, WentWith, Group}
 use Rattle.kw_rows.specs.Events.{Holds, IsIn, rest_of}
 use Rattle.kw_rows.specs.Structure.{Structure}
 use Rattle.kw_rows.proofs.Statuses.{not_dead}
@@ -141,3 +141,37 @@ module _ (w : Rows) (ledger : Ledger) (now : ℕ) (s : Structure w ledger now) w
       which (inl b) = subst IsDecided (sym (g.2 b).follows) tt
       which (inr b) = not_dead (ledger.fates c).status (subst (IsLive ledger) e a) (g.3 b.1.dead).0
   may_freeze r (Some c) after h g x (inr (inr e)) a = absurd e
+
+-- of a row that was found a follower, the seat knows so
+pub follows : (w : Rows) (ledger : Ledger) (r p : ℕ) → w.state r ≡ Follower p → Group w ledger (Following r)
+follows w ledger r p e = subst IsFollowing (sym e) tt
+
+-- the leader that its state names is a row that the seat may name too
+pub leader_named : (w : Rows) (ledger : Ledger) (now : ℕ) → Structure w ledger now → (t r p : ℕ) → IsFresh ledger t r → w.state r ≡ Follower p → IsFresh ledger t p
+leader_named w ledger now s t r p (inl a) e =
+    let h : HasLeader w ledger r p = subst (IsLiveState w ledger r) e (live_state w ledger r s.states a) in
+    inl h.live
+leader_named w ledger now s t r p (inr f) e =
+    let g : WentWith ledger r p = (s.pairs r).together p (inr (t, f)) f.dead e in
+    inr (record { dead = g.0; since = f.since; visits = f.visits; before = subst (λ n. f.since < n) (sym g.1) f.before })
+
+-- the first row follows none: a leader has a lesser least key, and that of the first row is 0
+pub not_first : (w : Rows) (ledger : Ledger) (now : ℕ) → Structure w ledger now → (r : ℕ) → Group w ledger (Following r) → w.head ≢ Some r
+not_first w ledger now s r g e = which (w.state r) g (live_state w ledger r s.states live)
+  where
+    same : s.chain.first ≡ r
+    same = let x : Some s.chain.first ≡ Some r = sym s.chain.leads ∙ e in cc
+
+    live : IsLive ledger r
+    live = subst (IsLive ledger) same s.chain.first_live
+
+    least : w.least r ≡ 0
+    least = subst (λ x. w.least x ≡ 0) same s.chain.first_least
+
+    which : (t : State) → IsFollowing t → IsLiveState w ledger r t → ⊥
+    which (Follower p) f h = let x : w.least p < w.least r = s.chain.rises p r h.live h.link.next in omega (arith, x, least)
+    which (Retired n) f h = h
+    which row.Free f h = f
+    which (row.Infant n) f h = f
+    which Normal f h = f
+    which (Leader n) f h = f

@@ -5,10 +5,10 @@ use Rattle.std.proofs.lemmas.Bool.{cases_eq}
 use Rattle.std.proofs.lemmas.Option.{same_Some}
 use Rattle.kw_rows.specs.Ledger.{Ledger, Fate, Status, Free, Infant, Live, Dead, IsLive, IsDead, IsFresh, IsHeld}
 use Rattle.kw_rows.specs.RowState as row
-use Rattle.kw_rows.specs.RowState.{State, Normal, Leader, Follower, Retired, IsLed, IsTwo, IsLeader, IsEngaged, IsDecided, IsClaimable, IsClaimed, IsTaken}
+use Rattle.kw_rows.specs.RowState.{State, Normal, Leader, Follower, Retired, IsLed, IsTwo, IsLeader, IsEngaged, IsDecided, IsClaimable, IsClaimed, IsFollowing, IsTaken}
 use Rattle.kw_rows.specs.Rows.{Rows, Chain, WasLinked}
 use Rattle.kw_rows.specs.States.{LinksOn, HasLeader, IsLiveState, IsDeadState, HasState, States, Marks}
-use Rattle.kw_rows.specs.Group.{View, Elsewhere, Marking, Opened, Claiming, MarkingNext, Alone, Pair, IsAlone, IsPair, IsClaimedNext, WentWith, Group, Named, Pairs}
+use Rattle.kw_rows.specs.Group.{View, Elsewhere, Marking, Opened, Claiming, MarkingNext, Alone, Pair, Following, IsAlone, IsPair, IsClaimedNext, WentWith, Group, Named, Pairs}
 use Rattle.kw_rows.specs.Events.{Holds, IsIn}
 use Rattle.kw_rows.proofs.Lists.{in_or_not, link_or_not}
 use Rattle.kw_rows.proofs.Statuses.{not_dead, not_infant, dead_infant}
@@ -302,6 +302,7 @@ module _ (w w' : Rows) (ledger ledger' : Ledger) (now : ℕ) (p : Option ℕ) (r
       which : IsDead ledger q ⊎ IsOf r c q → WentWith ledger' q k
       which (inl d) = went_with q k d (h.3 d)
       which (inr o) = pair_went q k h.0 h.2 o
+  group_won t (Following q) i h = same IsFollowing q h
 
   -- Rows.
 

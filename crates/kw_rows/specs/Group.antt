@@ -1,7 +1,7 @@
 -- What a seat knows of the group that it rebalances: one row, or two neighbours.
 use Rattle.std.specs.Prelude.{ℕ, ◌≡◌, ◌⊎◌, Option, Some}
 use Rattle.kw_rows.specs.Ledger.{Ledger, IsLive, IsDead, IsFresh, IsHeld}
-use Rattle.kw_rows.specs.RowState.{Leader, Follower, IsLed, IsTwo, IsLeader, IsClaimable, IsClaimed, IsTaken}
+use Rattle.kw_rows.specs.RowState.{Leader, Follower, IsLed, IsTwo, IsLeader, IsClaimable, IsClaimed, IsFollowing, IsTaken}
 use Rattle.kw_rows.specs.Rows.{Rows}
 use Rattle.kw_rows.specs.States.{LinksOn}
 
@@ -20,6 +20,8 @@ pub data View : Type 0 where
   -- the group is r, or r and c, with what stands after it
   Alone : ℕ → Option ℕ → View
   Pair : ℕ → ℕ → Option ℕ → View
+  -- it found r a follower, and seeks its leader
+  Following : ℕ → View
 
 -- r goes alone: so it was decided, or the row after it leads a group of its own
 pub record IsAlone (w : Rows) (r : ℕ) (after : Option ℕ) : Type 0 where
@@ -47,6 +49,7 @@ Group w g (Claiming r c) = LinksOn w r (Some c) × IsTwo (w.state r) × (IsLive 
 Group w g (MarkingNext r c) = LinksOn w r (Some c) × IsTwo (w.state r) × IsTaken r (w.state c) × (IsDead g r → WentWith g r c)
 Group w g (Alone r after) = LinksOn w r after × (IsLive g r → IsAlone w r after)
 Group w g (Pair r c after) = LinksOn w r (Some c) × LinksOn w c after × (IsLive g r → IsPair w r c) × (IsDead g r → WentWith g r c)
+Group w g (Following r) = IsFollowing (w.state r)
 
 -- the seat may name the rows of its view
 abbrev pub Named : Ledger → ℕ → View → Type 0
@@ -57,6 +60,7 @@ Named g t (Claiming r c) = IsFresh g t r × IsFresh g t c
 Named g t (MarkingNext r c) = IsFresh g t r × IsFresh g t c
 Named g t (Alone r after) = IsFresh g t r
 Named g t (Pair r c after) = IsFresh g t r × IsFresh g t c
+Named g t (Following r) = IsFresh g t r
 
 -- what a row that leads, or led, two says of the next one, and a dead follower of its leader
 pub record Pairs (w : Rows) (g : Ledger) (x : ℕ) : Type 0 where

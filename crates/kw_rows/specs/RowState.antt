@@ -55,6 +55,12 @@ IsClaimed r (Follower p) = p ≡ r
 IsClaimed r (Retired m) = Unit {0}
 IsClaimed r _ = ⊥
 
+-- it goes along with some row, or has gone
+abbrev pub IsFollowing : State → Type 0
+IsFollowing (Follower p) = Unit {0}
+IsFollowing (Retired m) = Unit {0}
+IsFollowing _ = ⊥
+
 -- it goes along with r, or has gone
 abbrev pub IsTaken : ℕ → State → Type 0
 IsTaken r (Follower p) = p ≡ r

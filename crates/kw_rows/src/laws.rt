@@ -1,10 +1,10 @@
 //! The laws: nothing runs here, and the clauses are the statements.
-ghost use Rattle.std.specs.Prelude.{◌≡◌, ℕ, Option, Some, suc, true, ◌∷◌};
+ghost use Rattle.std.specs.Prelude.{◌≡◌, ◌≢◌, ℕ, Option, Some, suc, true, ◌∷◌};
 ghost use Rattle.kw_rows.specs.Ledger.{Ledger, IsLive, IsFresh, IsHeld, Past};
 ghost use Rattle.kw_rows.specs.RowState.{Leader, Follower, IsLeader, IsEngaged, IsDecided};
 ghost use Rattle.kw_rows.specs.Rows.{Rows, Chain, Closed, Follows};
 ghost use Rattle.kw_rows.specs.States.{States, Marks};
-ghost use Rattle.kw_rows.specs.Group.{View, Marking, Opened, Claiming, MarkingNext, Alone, Pair, Group, Named, Pairs};
+ghost use Rattle.kw_rows.specs.Group.{View, Marking, Opened, Claiming, MarkingNext, Alone, Pair, Following, Group, Named, Pairs};
 ghost use Rattle.kw_rows.specs.Events.{Event, Holds, IsIn, rest_of};
 ghost use Rattle.kw_rows.specs.Structure.{Structure};
 
@@ -36,8 +36,8 @@ pub fn row_laws()
 {}
 
 /// What a seat comes to know of its group, from what it knew and what it finds: of a row that
-/// leads, of one whose link is marked, and of the row after it; and which links it may mark and
-/// which rows it may freeze.
+/// leads, of one whose link is marked, of the row after it, and of one that follows; and which
+/// links it may mark and which rows it may freeze.
 pub fn view_laws()
     ensures leads { (w : Rows) (g : Ledger) (now : ℕ) → Structure w g now → (r n : ℕ) → IsHeld g r →
         w.state r ≡ Leader n → Group w g (Marking r n) }
@@ -62,4 +62,10 @@ pub fn view_laws()
     ensures may_freeze { (w : Rows) (g : Ledger) (now : ℕ) → Structure w g now →
         (r : ℕ) (c after : Option ℕ) → IsHeld g r → Holds w g r c after → (x : ℕ) →
         IsIn (r ∷ rest_of c) x → IsLive g x → (w.marked x ≡ true) × IsDecided (w.state x) }
+    ensures follows { (w : Rows) (g : Ledger) (r p : ℕ) → w.state r ≡ Follower p →
+        Group w g (Following r) }
+    ensures leader_named { (w : Rows) (g : Ledger) (now : ℕ) → Structure w g now → (t r p : ℕ) →
+        IsFresh g t r → w.state r ≡ Follower p → IsFresh g t p }
+    ensures not_first { (w : Rows) (g : Ledger) (now : ℕ) → Structure w g now → (r : ℕ) →
+        Group w g (Following r) → w.head ≢ Some r }
 {}

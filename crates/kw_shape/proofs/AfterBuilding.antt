@@ -17,7 +17,7 @@ use Rattle.kw_core.specs.Words.{Words}
 use Rattle.kw_core.proofs.Building.{IsBuilding}
 use Rattle.kw_core.proofs.BuiltNext.{IsAfterBuilding}
 use Rattle.kw_core.proofs.Frame.{WritesPass}
-use Rattle.kw_shape.specs.Balances.{HasFrozen}
+use Rattle.kw_shape.specs.Hands.{IsAllFrozen}
 use Rattle.kw_shape.specs.Shape.{IsAnswerOf, IsPutCall, Kinds, Walks}
 
 -- At such an activity.
@@ -106,8 +106,8 @@ after_walks v g t (Activity.Leave Done) l x = record { on = tt; lower = λ u. ab
 after_walks v g t (Activity.Leave NoRows) l x = record { on = tt; lower = λ u. absurd u; built = λ u. absurd u; at = λ u. absurd u; begins = λ u. absurd u; wants = λ u. absurd u }
 after_walks v g t _ l x = absurd x
 
--- a seat that has a frozen row there builds on, so what it knows of that row stays (`built_keeps`)
-pub frozen_builds : (a : Activity) → IsAfterBuilding a → HasFrozen a → IsBuilding a
+-- a seat that has frozen rows there builds on, so what it knows of them stays (`built_keeps`)
+pub frozen_builds : (a : Activity) → IsAfterBuilding a → IsAllFrozen a → IsBuilding a
 frozen_builds Activity.Retry b x = absurd x
 frozen_builds (Activity.Rebalance (Rebalance.Engage Engage.Clock)) b x = absurd x
 frozen_builds (Activity.Leave NoRows) b x = absurd x

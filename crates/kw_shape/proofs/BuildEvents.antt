@@ -1,5 +1,5 @@
 -- Which event of the rows it is when a seat takes a row, frees a retired one, gives one back,
--- writes one, makes one normal, draws a number, or retires the row that it replaced: each is one of
+-- writes one, makes one normal, draws a number, or retires a row that it replaced: each is one of
 -- those of `kw_rows`, whose laws say what it keeps.
 --
 -- What is needed beside the words stands as a premise: that states go with what has become of the
@@ -249,12 +249,12 @@ module _ {z : Sizes} {r r' : Run} {s : ℕ} {choice : Choice} {l l' : Local} whe
     others = λ k d. other_numbers h k d;
   })
 
-  -- one that retires the row that it replaced
-  pub retiring : Happens z r r' s choice l l' (Activity.Rebalance (Rebalance.Replace Replace.Retire)) → IsSane z r.world → IsState (state.Retired l.rebalance.number) → kw_rows.IsDead r.ledger.rows l.row → IsNumbered r.ledger.rows l.row l.rebalance.number →
+  -- one that retires a row that it replaced
+  pub retiring : Happens z r r' s choice l l' (Activity.Rebalance (Rebalance.Replace Replace.Retire)) → IsSane z r.world → IsState (state.Retired l.rebalance.number) → kw_rows.IsDead r.ledger.rows l.rebalance.hand → IsNumbered r.ledger.rows l.rebalance.hand l.rebalance.number →
       Event (rows_in (word z r.world)) (rows_in (word z r'.world)) r.ledger.rows r'.ledger.rows (length r.history.log)
-  retiring h sane small dead number = retires l.row l.rebalance.number (record {
+  retiring h sane small dead number = retires l.rebalance.hand l.rebalance.number (record {
     dead = dead;
     number = number;
-    sets = sets_state (Activity.Rebalance (Rebalance.Replace Replace.Retire)) h sane (λ c. c) (λ q c. c) (λ q c. c) (λ q c. c) l.row (λ q d c. d c) (row.Retired l.rebalance.number) (word_says _ (state.Retired l.rebalance.number) small (retired h));
+    sets = sets_state (Activity.Rebalance (Rebalance.Replace Replace.Retire)) h sane (λ c. c) (λ q c. c) (λ q c. c) (λ q c. c) l.rebalance.hand (λ q d c. d c) (row.Retired l.rebalance.number) (word_says _ (state.Retired l.rebalance.number) small (retired h));
     ledger = ledger_kept (Activity.Rebalance (Rebalance.Replace Replace.Retire)) h (λ q c. c) (λ c. c) (λ c. c);
   })

@@ -13,8 +13,10 @@ use Rattle.kw_world.specs.declared.local.Local.{Local}
 use Rattle.kw_world.specs.declared.event.Choice.{Choice}
 use Rattle.kw_world.specs.Sizes.{Sizes}
 use Rattle.kw_shape.specs.Rooms.{adding, adders, drawing, drawers}
+use Rattle.kw_core.specs.Stages.{IsBalancing}
 use Rattle.kw_core.specs.Words.{Words}
-use Rattle.kw_core.proofs.Arrows.{Arrow, waits, finds_room, sees_stamped, sees_neither, is_gone_by, helps, finds_stamped, finds_other, list_ends, key_above, left_over_gone_by, gathers_left_over, NextLook, looks, lists, NextLeftOver, goes_to_left_over, answers, ends_scan, scans_on, clock_serves, builds, first_ends}
+use Rattle.kw_core.proofs.Arrows.{Arrow, waits, finds_room, sees_stamped, sees_neither, is_gone_by, helps, finds_stamped, finds_other, list_ends, key_above, left_over_gone_by, gathers_left_over, NextLook, looks, lists, NextLeftOver, goes_to_left_over, answers, ends_scan, scans_on, clock_serves, builds, first_ends, remembers_last, sees_frozen_last, freezes_last, takes_no_more, keeps_no_more, decides, marks_led}
+use Rattle.kw_core.proofs.Grouping.{NextCounted, claims_row, counted_goes, goes_alone, NextFrozen, NextGathered, freezes_ahead, frozen_goes, froze_all, gathered_all, gathered_goes, gathers_ahead}
 use Rattle.kw_core.proofs.BuiltNext.{IsAfterBuilding, built_next}
 
 -- the seats that are about to ask a row for a cell, with one seat's local set
@@ -101,6 +103,20 @@ cell_draws l k next (answers o n) = refl
 cell_draws l k next (ends_scan o y n) = refl
 cell_draws l k next (scans_on r o y n w) = refl
 
+-- a seat that goes through the rows of its group neither asks for a cell nor draws more versions
+balancing_adds : (a : Activity) (row q : ℕ) → IsBalancing a → adding a row q ≡ 0
+balancing_adds (Activity.Put Put.Add) row q x = absurd x
+balancing_adds (Activity.Walk Walk.First) row q x = refl
+balancing_adds _ row q x = refl
+
+frozen_draws : (n : ℕ) (l next : Local) → NextFrozen l next → drawing n next.activity ≤ n
+frozen_draws n l next (freezes_ahead r e) = omega arith
+frozen_draws n l next (froze_all e) = omega arith
+
+gathered_draws : (z : Sizes) (n : ℕ) (l next : Local) → NextGathered z l next → drawing n next.activity ≡ 0
+gathered_draws z n l next (gathers_ahead r e) = refl
+gathered_draws z n l next (gathered_all e) = refl
+
 -- what follows where new rows are built neither asks for a cell nor draws a version
 pub built_adds : (a : Activity) (row q : ℕ) → IsAfterBuilding a → adding a row q ≡ 0
 built_adds (Activity.Put Put.Add) row q o = absurd o
@@ -116,6 +132,7 @@ built_draws n (Activity.Rebalance (Rebalance.Engage (Engage.Normal seat))) o = a
 built_draws n (Activity.Rebalance (Rebalance.Engage Engage.Lead)) o = absurd o
 built_draws n (Activity.Rebalance (Rebalance.Engage (Engage.MarkLink count))) o = absurd o
 built_draws n (Activity.Rebalance (Rebalance.Engage (Engage.Decide count))) o = absurd o
+built_draws n (Activity.Rebalance (Rebalance.Claim _)) o = absurd o
 built_draws n (Activity.Rebalance (Rebalance.Freeze _)) o = absurd o
 built_draws n _ o = refl
 
@@ -134,7 +151,19 @@ adding_next z v s choice l a l' q (list_ends next e m) n = cell_adds _ q next m
 adding_next z v s choice l a l' q (key_above next y m) n = cell_adds _ q next m
 adding_next z v s choice l a l' q (left_over_gone_by next y m) n = cell_adds _ q next m
 adding_next z v s choice l a l' q (gathers_left_over next m) n = cell_adds _ q next m
+adding_next z v s choice l a l' q (remembers_last j c version next e o m) n = balancing_adds next.activity next.row q (frozen_goes _ next m).next
+adding_next z v s choice l a l' q (sees_frozen_last j next e o m) n = balancing_adds next.activity next.row q (frozen_goes _ next m).next
+adding_next z v s choice l a l' q (freezes_last j next e o m) n = balancing_adds next.activity next.row q (frozen_goes _ next m).next
+adding_next z v s choice l a l' q (takes_no_more next e f m) n = balancing_adds next.activity next.row q (gathered_goes z _ next m).next
+adding_next z v s choice l a l' q (keeps_no_more next f m) n = balancing_adds next.activity next.row q (gathered_goes z _ next m).next
+adding_next z v s choice l a l' q (marks_led count next d m) n = balancing_adds next.activity next.row q (counted_goes _ _ next m).next
+adding_next z v s choice l a l' q (decides count c next e m) n = balancing_adds next.activity next.row q (counted_goes _ _ next m).next
 adding_next z v s choice l a l' q _ n = refl
+
+-- a seat that knows how many rows go may draw as many versions
+counted_draws : (n count : ℕ) (l k : Local) → NextCounted count l k → drawing n k.activity ≡ n
+counted_draws n count l k (claims_row q m e) = refl
+counted_draws n count l k (goes_alone d) = refl
 
 -- only a scan, or a rebalance, that found the clock below its end may draw more than before
 pub drawing_next : (z : Sizes) (v : Words) (s : ℕ) (choice : Choice) (l : Local) (a : Activity) (l' : Local) → Arrow z v s choice l a l' → (IsToWait a → ⊥) → (n : ℕ) → drawing n l'.activity ≤ drawing n a
@@ -152,4 +181,11 @@ drawing_next z v s choice l a l' (list_ends next e m) w n = omega (arith, cell_d
 drawing_next z v s choice l a l' (key_above next y m) w n = omega (arith, cell_draws _ n next m)
 drawing_next z v s choice l a l' (left_over_gone_by next y m) w n = omega (arith, cell_draws _ n next m)
 drawing_next z v s choice l a l' (gathers_left_over next m) w n = omega (arith, cell_draws _ n next m)
+drawing_next z v s choice l a l' (remembers_last j c version next e o m) w n = frozen_draws n _ next m
+drawing_next z v s choice l a l' (sees_frozen_last j next e o m) w n = frozen_draws n _ next m
+drawing_next z v s choice l a l' (freezes_last j next e o m) w n = frozen_draws n _ next m
+drawing_next z v s choice l a l' (takes_no_more next e f m) w n = omega (arith, gathered_draws z n _ next m)
+drawing_next z v s choice l a l' (keeps_no_more next f m) w n = omega (arith, gathered_draws z n _ next m)
+drawing_next z v s choice l a l' (marks_led count next d m) w n = omega (arith, counted_draws n _ _ next m)
+drawing_next z v s choice l a l' (decides count c next e m) w n = omega (arith, counted_draws n _ _ next m)
 drawing_next z v s choice l a l' _ w n = omega arith

@@ -12,7 +12,7 @@ use Rattle.kw_words.specs.declared.sizes.TheConstants.{FROZEN_BIT, MARK_BIT, NUM
 use Rattle.kw_words.specs.declared.link.Link.{Link}
 use Rattle.kw_words.specs.declared.state.State.{State}
 use Rattle.kw_words.specs.declared.state.State.TheVariants as state
-use Rattle.kw_words.specs.declared.state.State.TheVariants.{Normal, Leader}
+use Rattle.kw_words.specs.declared.state.State.TheVariants.{Normal, Leader, Follower}
 use Rattle.kw_words.specs.Link.{link_of, link_word}
 use Rattle.kw_words.specs.State.{IsState, state_of, state_word}
 use Rattle.kw_words.proofs.LinkWords.{link_of_marked}
@@ -28,10 +28,12 @@ use Rattle.kw_words.proofs.ScanWords.{scan_of-scan_word}
 use Rattle.kw_words.proofs.Places.{same_name}
 use Rattle.kw_world.specs.declared.activity.Activity.{Activity}
 use Rattle.kw_world.specs.declared.activity.draw.Draw.TheVariants as Draw
+use Rattle.kw_world.specs.declared.activity.rebalance.claim.Claim.TheVariants as Claim
 use Rattle.kw_world.specs.declared.activity.rebalance.engage.Engage.TheVariants as Engage
 use Rattle.kw_world.specs.declared.activity.enter.Enter.TheVariants as Enter
 use Rattle.kw_world.specs.declared.activity.rebalance.freeze.Freeze.TheVariants as Freeze
 use Rattle.kw_world.specs.declared.activity.insert.Insert.TheVariants as Insert
+use Rattle.kw_world.specs.declared.activity.rebalance.left.Left.TheVariants as Left
 use Rattle.kw_world.specs.declared.activity.look.Look.TheVariants as Look
 use Rattle.kw_world.specs.declared.activity.put.Put.TheVariants as Put
 use Rattle.kw_world.specs.declared.activity.rebalance.Rebalance.TheVariants as Rebalance
@@ -48,7 +50,9 @@ use Rattle.kw_world.specs.declared.event.Choice.TheVariants.{Begin, Go, Guess, S
 use Rattle.kw_world.specs.Sizes.{Sizes}
 use Rattle.kw_world.specs.Calls.{put_value}
 use Rattle.kw_world.specs.Operation.{word_after}
-use Rattle.kw_world.specs.Transition.{Transition}
+use Rattle.kw_world.specs.ClaimTransitions.{row_after}
+use Rattle.kw_world.specs.LeftTransitions.{left_transition}
+use Rattle.kw_world.specs.Transition.{Transition, row_or_first}
 use Rattle.kw_world.specs.ReplaceTransitions.{before_transition, first_infant, replaced_link}
 use Rattle.kw_world.specs.SeekTransitions.{infant, seek_first_transition}
 use Rattle.kw_world.specs.WriteTransitions.{unmarked_link}
@@ -157,6 +161,13 @@ module _ (z : Sizes) (rows : ℕ) (v : Words) (s : ℕ) (choice : Choice) (l : L
   guesses (Guess r) n = loaded (name.State r) n
   guesses Stop n = loaded name.Head n
 
+  -- the seat of a follower goes left
+  lefts : (c : Choice) → IsWithin z.seats z.cells rows (left_transition c l).operation.name → Writes (left_transition c l)
+  lefts (Begin call) n = loaded name.Head n
+  lefts Go n = loaded name.Head n
+  lefts (Guess r) n = loaded (name.Least (row_or_first l.rebalance.before)) n
+  lefts Stop n = loaded name.Head n
+
   -- a walk along a list begins with a load
   firsts : (g : Option ℕ) → IsWithin z.seats z.cells rows (first_operation g l).name → IsWord z (first_operation g l).name (word_after (first_operation g l).action (v (first_operation g l).name)) × IsLed rows (first_operation g l).name (word_after (first_operation g l).action (v (first_operation g l).name))
   firsts (Some c) n = loaded (name.Key l.row c) n
@@ -205,8 +216,12 @@ module _ (z : Sizes) (rows : ℕ) (v : Words) (s : ℕ) (choice : Choice) (l : L
   written (Activity.Rebalance (Rebalance.Engage Engage.Lead)) k n = set_state l.row Normal (Leader 0) (omega arith) tt tt n
   written (Activity.Rebalance (Rebalance.Engage (Engage.MarkLink count))) k n = marked_known rows (v (name.Next l.row)) _ refl (w.each (name.Next l.row) n) (w.led (name.Next l.row) n)
   written (Activity.Rebalance (Rebalance.Engage (Engage.Decide count))) k n = set_state l.row (Leader 0) (Leader count) k.activity tt tt n
-  written (Activity.Rebalance (Rebalance.Freeze Freeze.Count)) k n = (frozen_known (v (name.Count l.row)) _ refl (w.each (name.Count l.row) n), tt)
-  written (Activity.Rebalance (Rebalance.Freeze (Freeze.Entry i))) k n = (exchanges (λ u. IsEntry z (pend_of u)) (v (name.Pend l.row i)) _ _ (w.each (name.Pend l.row i) n) (entry_known z pend.Frozen tt tt), tt)
+  written (Activity.Rebalance (Rebalance.Claim Claim.Exchange)) k n = set_state (row_after l) Normal (Follower l.row) (omega (arith, k.below.row, w.sized.few_rows)) tt k.below.row n
+  written (Activity.Rebalance (Rebalance.Claim (Claim.Normal seat))) k n = set_state (row_after l) (state.Infant seat) Normal tt tt tt n
+  written (Activity.Rebalance (Rebalance.Claim Claim.MarkLink)) k n = marked_known rows (v (name.Next (row_after l))) _ refl (w.each (name.Next (row_after l)) n) (w.led (name.Next (row_after l)) n)
+  written (Activity.Rebalance (Rebalance.Left Left.Start)) k n = lefts choice n
+  written (Activity.Rebalance (Rebalance.Freeze Freeze.Count)) k n = (frozen_known (v (name.Count l.rebalance.hand)) _ refl (w.each (name.Count l.rebalance.hand) n), tt)
+  written (Activity.Rebalance (Rebalance.Freeze (Freeze.Entry i))) k n = (exchanges (λ u. IsEntry z (pend_of u)) (v (name.Pend l.rebalance.hand i)) _ _ (w.each (name.Pend l.rebalance.hand i) n) (entry_known z pend.Frozen tt tt), tt)
   written (Activity.Rebalance (Rebalance.Freeze (Freeze.Draw i))) k n = ((omega arith, more.clock), tt)
   written (Activity.Rebalance (Rebalance.Freeze (Freeze.Settle i))) k n = (exchanges (λ u. IsKnownWord (scan_of u)) (v (name.Scan i)) _ _ (w.each (name.Scan i) n) (scan_known (Drawn l.rebalance.drawn) k.ranges.rebalance.drawn), tt)
   written (Activity.Rebalance (Rebalance.Seek Seek.First)) k n = seeks choice n

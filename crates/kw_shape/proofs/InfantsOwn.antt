@@ -33,7 +33,7 @@ use Rattle.kw_world.specs.WriteTransitions.{unmarked_link}
 use Rattle.kw_core.specs.Ledger as ledger
 use Rattle.kw_core.specs.Run.{Run}
 use Rattle.kw_core.specs.Words.{Words}
-use Rattle.kw_core.proofs.Building.{Building, first_is_free, first_is_retired, first_is_taken, sought_is_free, sought_is_retired, sought_is_taken, pass_is_old, pass_is_young, frees_row, takes_row, loses_row, gives_one_back, gives_last_back, writes_link, begins_before, guesses_before, guess_before_fails, before_serves, before_is_above, takes_head_before, leads_to_full, leads_on_marked, leads_to_other, leads_nowhere, walks_before, walks_past, replaces_row, is_marked_before, is_replaced, makes_normal, makes_last_normal, draws_number, retires_row, marked_link, retires_and_leaves}
+use Rattle.kw_core.proofs.Building.{Building, first_is_free, first_is_retired, first_is_taken, sought_is_free, sought_is_retired, sought_is_taken, pass_is_old, pass_is_young, frees_row, takes_row, loses_row, gives_one_back, gives_last_back, writes_link, begins_before, guesses_before, guess_before_fails, before_serves, before_is_above, takes_head_before, leads_to_full, leads_on_marked, leads_to_other, leads_nowhere, walks_before, walks_past, replaces_row, is_marked_before, is_replaced, makes_normal, makes_last_normal, draws_number, retires_ahead, retires_row, marked_link, retires_and_leaves}
 use Rattle.kw_core.proofs.Building as built
 use Rattle.kw_core.proofs.Fates.{ChangesFate, fate_of_taken, fate_stays, none_freed, none_replaced, none_taken}
 use Rattle.kw_core.proofs.Happens.{Happens}
@@ -243,5 +243,6 @@ module _ {z : Sizes} {r r' : Run} {s : ℕ} {choice : Choice} {l : Local} where
   infants_own a k (makes_normal o) h states small inside x = nowhere z (word z r'.world) r'.ledger.rows s (Activity.Rebalance (Rebalance.Replace Replace.Normalise)) _ refl
   infants_own a k (makes_last_normal o) h states small inside x = nowhere z (word z r'.world) r'.ledger.rows s (Activity.Rebalance (Rebalance.Replace Replace.Number)) _ refl
   infants_own a k draws_number h states small inside x = nowhere z (word z r'.world) r'.ledger.rows s (Activity.Rebalance (Rebalance.Replace Replace.Retire)) _ refl
-  infants_own a k (retires_row nd) h states small inside x = nowhere z (word z r'.world) r'.ledger.rows s Activity.Retry _ refl
-  infants_own a k (retires_and_leaves dn) h states small inside x = nowhere z (word z r'.world) r'.ledger.rows s (Activity.Leave _) _ refl
+  infants_own a k (retires_ahead q e) h states small inside x = nowhere z (word z r'.world) r'.ledger.rows s (Activity.Rebalance (Rebalance.Replace Replace.Number)) _ refl
+  infants_own a k (retires_row n nd) h states small inside x = nowhere z (word z r'.world) r'.ledger.rows s Activity.Retry _ refl
+  infants_own a k (retires_and_leaves n dn) h states small inside x = nowhere z (word z r'.world) r'.ledger.rows s (Activity.Leave _) _ refl

@@ -37,15 +37,14 @@ use Rattle.kw_core.specs.Words.{Words, built_in}
 use Rattle.kw_core.proofs.Happens.{Happens, exchanged, not_exchanged}
 use Rattle.kw_core.proofs.InRange.{first_in_range}
 use Rattle.kw_shape.proofs.Known.{AreSane, link_below, linked_below}
-use Rattle.kw_shape.proofs.LinkedRows.{ComesNow, linked_before, linked_keeps, was_below, holds_put, holds_stays}
-use Rattle.kw_shape.proofs.LinkedWords.{linked_entry, linked_key, linked_link}
+use Rattle.kw_shape.proofs.LinkedRows.{ComesNow, holds_put, holds_stays, linked_before, linked_entry, linked_keeps, linked_key, linked_link, was_below}
 use Rattle.kw_shape.proofs.NewRowsKeyed.{new_rows_keyed}
 use Rattle.kw_shape.specs.Keyed.{HoldsCell, HoldsFrom, IsOfCell, Keyed, Keys, Reaches, is_there, leads_on}
 use Rattle.kw_shape.specs.RowsIn.{rows_in}
 use Rattle.kw_shape.specs.Shape.{Shape}
 
 -- an entry of a cell is one of a cell that the row has
-cell_of_entry : (z : Sizes) (c : ℕ) (x : Option Pend) → IsEntry z x → IsOfCell c x → c < z.cells
+pub cell_of_entry : (z : Sizes) (c : ℕ) (x : Option Pend) → IsEntry z x → IsOfCell c x → c < z.cells
 cell_of_entry z c (Some pend.Idle) e o = absurd o
 cell_of_entry z c (Some (pend.Pending cell)) e o = subst (λ (d : ℕ). d < z.cells) o e
 cell_of_entry z c (Some (pend.Stamped cell version)) e o = subst (λ (d : ℕ). d < z.cells) o e.0
@@ -91,8 +90,8 @@ LedBefore v g q at c = (cell_of_link_word (v (link_name q at)) ≡ Some c) ⊎ H
 
 module _ {z : Sizes} {r r' : Run} {s : ℕ} {choice : Choice} {l l' : Local} where
   -- what the acting seat knows of keys, at its activity
-  pub keys_at : (a : Activity) → Happens z r r' s choice l l' a → Shape z r → Keys (word z r.world) r.ledger.rows a l
-  keys_at a h i = subst (λ b. Keys (word z r.world) r.ledger.rows b l) h.activity (i.keys s l h.knows)
+  pub keys_at : (a : Activity) → Happens z r r' s choice l l' a → Shape z r → Keys z (word z r.world) r.ledger.rows a l
+  keys_at a h i = subst (λ b. Keys z (word z r.world) r.ledger.rows b l) h.activity (i.keys s l h.knows)
 
   known_at : (a : Activity) → Happens z r r' s choice l l' a → Shape z r → IsKnown z r.world.rows l
   known_at a h i = i.sane.locals s l h.knows
@@ -123,24 +122,24 @@ module _ {z : Sizes} {r r' : Run} {s : ℕ} {choice : Choice} {l l' : Local} whe
 
   -- Entries.
 
-  -- an entry of the acting seat's row, and every other one
-  at_entry : (a : Activity) → Happens z r r' s choice l l' a → Shape z r → (q j c m : ℕ) → WasLinked r.ledger.rows q → j < z.seats → IsOfCell c (pend_of (word z r'.world (name.Pend q j))) → (WasLinked r.ledger.rows l.row → IsOfCell c (pend_of (word z r'.world (name.Pend l.row m))) → HoldsCell (word z r.world) r.ledger.rows l.row c) →
-      ((q ≡ l.row → j ≡ m → ⊥) → word z r'.world (name.Pend q j) ≡ word z r.world (name.Pend q j)) → HoldsCell (word z r.world) r.ledger.rows q c
-  at_entry a h i q j c m k o x there other = which (cases_eq q l.row) (cases_eq j m)
+  -- an entry of the row on which the seat acts, and every other one
+  at_entry : (a : Activity) → Happens z r r' s choice l l' a → Shape z r → (q j c y m : ℕ) → WasLinked r.ledger.rows q → j < z.seats → IsOfCell c (pend_of (word z r'.world (name.Pend q j))) → (WasLinked r.ledger.rows y → IsOfCell c (pend_of (word z r'.world (name.Pend y m))) → HoldsCell (word z r.world) r.ledger.rows y c) →
+      ((q ≡ y → j ≡ m → ⊥) → word z r'.world (name.Pend q j) ≡ word z r.world (name.Pend q j)) → HoldsCell (word z r.world) r.ledger.rows q c
+  at_entry a h i q j c y m k o x there other = which (cases_eq q y) (cases_eq j m)
     where
-      same : (q ≡ l.row → j ≡ m → ⊥) → HoldsCell (word z r.world) r.ledger.rows q c
+      same : (q ≡ y → j ≡ m → ⊥) → HoldsCell (word z r.world) r.ledger.rows q c
       same d = (i.keyed q k).named j c o (subst (λ w. IsOfCell c (pend_of w)) (other d) x)
 
-      which : (q ≡ l.row) ⊎ (q ≡ l.row → ⊥) → (j ≡ m) ⊎ (j ≡ m → ⊥) → HoldsCell (word z r.world) r.ledger.rows q c
+      which : (q ≡ y) ⊎ (q ≡ y → ⊥) → (j ≡ m) ⊎ (j ≡ m → ⊥) → HoldsCell (word z r.world) r.ledger.rows q c
       which (inl e) (inl f) =
-          let y : IsOfCell c (pend_of (word z r'.world (name.Pend l.row m))) = subst (λ n. IsOfCell c (pend_of (word z r'.world (name.Pend l.row n)))) f (subst (λ n. IsOfCell c (pend_of (word z r'.world (name.Pend n j)))) e x) in
-          subst (λ n. HoldsCell (word z r.world) r.ledger.rows n c) (sym e) (there (subst (WasLinked r.ledger.rows) e k) y)
+          let p : IsOfCell c (pend_of (word z r'.world (name.Pend y m))) = subst (λ n. IsOfCell c (pend_of (word z r'.world (name.Pend y n)))) f (subst (λ n. IsOfCell c (pend_of (word z r'.world (name.Pend n j)))) e x) in
+          subst (λ n. HoldsCell (word z r.world) r.ledger.rows n c) (sym e) (there (subst (WasLinked r.ledger.rows) e k) p)
       which (inl e) (inr d) = same (λ f g. d g)
       which (inr d) f = same (λ e g. d e)
 
   -- one that names a cell after the event names one whose key the row might hold before it
   named_before : (a : Activity) → Happens z r r' s choice l l' a → Shape z r → (q j c : ℕ) → WasLinked r.ledger.rows q → j < z.seats → IsOfCell c (pend_of (word z r'.world (name.Pend q j))) → HoldsCell (word z r.world) r.ledger.rows q c
-  named_before (Activity.Look Look.Help) h i q j c k o x = at_entry (Activity.Look Look.Help) h i q j c l.looked k o x there (λ d. linked_entry (Activity.Look Look.Help) h i q j k o (λ w e f. w) (λ w e f. d e f) (λ w e. w))
+  named_before (Activity.Look Look.Help) h i q j c k o x = at_entry (Activity.Look Look.Help) h i q j c l.row l.looked k o x there (λ d. linked_entry (Activity.Look Look.Help) h i q j k o (λ w e f. w) (λ w e f. d e f) (λ w e. w))
     where
       known : IsKnown z r.world.rows l
       known = known_at (Activity.Look Look.Help) h i
@@ -151,7 +150,7 @@ module _ {z : Sizes} {r r' : Run} {s : ℕ} {choice : Choice} {l l' : Local} whe
           which : IsOfCell c (pend_of (word z r.world (name.Pend l.row l.looked))) ⊎ (word z r.world (name.Pend l.row l.looked) ≡ pend_word (pend.Pending l.saw)) × (l.saw ≡ c) → HoldsCell (word z r.world) r.ledger.rows l.row c
           which (inl m) = (i.keyed l.row y).named l.looked c known.ranges.looked m
           which (inr m) = (i.keyed l.row y).named l.looked c known.ranges.looked (was_pending c _ l.saw m.0 (omega (arith, known.ranges.saw, i.sane.sized.few_cells)) m.1)
-  named_before (Activity.Put Put.Announce) h i q j c k o x = at_entry (Activity.Put Put.Announce) h i q j c s k o x there (λ d. linked_entry (Activity.Put Put.Announce) h i q j k o (λ w e f. d e f) (λ w e f. w) (λ w e. w))
+  named_before (Activity.Put Put.Announce) h i q j c k o x = at_entry (Activity.Put Put.Announce) h i q j c l.row s k o x there (λ d. linked_entry (Activity.Put Put.Announce) h i q j k o (λ w e f. d e f) (λ w e f. w) (λ w e. w))
     where
       there : WasLinked r.ledger.rows l.row → IsOfCell c (pend_of (word z r'.world (name.Pend l.row s))) → HoldsCell (word z r.world) r.ledger.rows l.row c
       there y p = which (entry_exchanged (IsOfCell c) (word z r.world (name.Pend l.row s)) (word z r'.world (name.Pend l.row s)) pend.Idle (pend.Pending l.cell) (omega (arith, (known_at (Activity.Put Put.Announce) h i).ranges.cell, i.sane.sized.few_cells)) (exchanged _ _ _ _ h.changed.same) (not_exchanged _ _ _ _ h.changed.same) p)
@@ -159,7 +158,7 @@ module _ {z : Sizes} {r r' : Run} {s : ℕ} {choice : Choice} {l l' : Local} whe
           which : IsOfCell c (pend_of (word z r.world (name.Pend l.row s))) ⊎ (word z r.world (name.Pend l.row s) ≡ pend_word pend.Idle) × (l.cell ≡ c) → HoldsCell (word z r.world) r.ledger.rows l.row c
           which (inl m) = (i.keyed l.row y).named s c h.seat m
           which (inr m) = subst (HoldsCell (word z r.world) r.ledger.rows l.row) m.1 ((keys_at (Activity.Put Put.Announce) h i).own tt)
-  named_before (Activity.Put Put.Stamp) h i q j c k o x = at_entry (Activity.Put Put.Stamp) h i q j c s k o x there (λ d. linked_entry (Activity.Put Put.Stamp) h i q j k o (λ w e f. d e f) (λ w e f. w) (λ w e. w))
+  named_before (Activity.Put Put.Stamp) h i q j c k o x = at_entry (Activity.Put Put.Stamp) h i q j c l.row s k o x there (λ d. linked_entry (Activity.Put Put.Stamp) h i q j k o (λ w e f. d e f) (λ w e f. w) (λ w e. w))
     where
       known : IsKnown z r.world.rows l
       known = known_at (Activity.Put Put.Stamp) h i
@@ -170,17 +169,17 @@ module _ {z : Sizes} {r r' : Run} {s : ℕ} {choice : Choice} {l l' : Local} whe
           which : IsOfCell c (pend_of (word z r.world (name.Pend l.row s))) ⊎ (word z r.world (name.Pend l.row s) ≡ pend_word (pend.Pending l.cell)) × (l.cell ≡ c) → HoldsCell (word z r.world) r.ledger.rows l.row c
           which (inl m) = (i.keyed l.row y).named s c h.seat m
           which (inr m) = subst (HoldsCell (word z r.world) r.ledger.rows l.row) m.1 ((keys_at (Activity.Put Put.Stamp) h i).own tt)
-  named_before (Activity.Put Put.Clear) h i q j c k o x = at_entry (Activity.Put Put.Clear) h i q j c s k o x (λ y p. absurd (subst (IsOfCell c) (ap pend_of h.changed.same ∙ pend_of-pend_word pend.Idle tt) p)) (λ d. linked_entry (Activity.Put Put.Clear) h i q j k o (λ w e f. d e f) (λ w e f. w) (λ w e. w))
-  named_before (Activity.Rebalance (Rebalance.Freeze (Freeze.Entry n))) h i q j c k o x = at_entry (Activity.Rebalance (Rebalance.Freeze (Freeze.Entry n))) h i q j c n k o x there (λ d. linked_entry (Activity.Rebalance (Rebalance.Freeze (Freeze.Entry n))) h i q j k o (λ w e f. w) (λ w e f. w) (λ f e. d e f))
+  named_before (Activity.Put Put.Clear) h i q j c k o x = at_entry (Activity.Put Put.Clear) h i q j c l.row s k o x (λ y p. absurd (subst (IsOfCell c) (ap pend_of h.changed.same ∙ pend_of-pend_word pend.Idle tt) p)) (λ d. linked_entry (Activity.Put Put.Clear) h i q j k o (λ w e f. d e f) (λ w e f. w) (λ w e. w))
+  named_before (Activity.Rebalance (Rebalance.Freeze (Freeze.Entry n))) h i q j c k o x = at_entry (Activity.Rebalance (Rebalance.Freeze (Freeze.Entry n))) h i q j c l.rebalance.hand n k o x there (λ d. linked_entry (Activity.Rebalance (Rebalance.Freeze (Freeze.Entry n))) h i q j k o (λ w e f. w) (λ w e f. w) (λ f e. d e f))
     where
       inside : n < z.seats
       inside = subst (IsActivity z) h.activity (known_at (Activity.Rebalance (Rebalance.Freeze (Freeze.Entry n))) h i).ranges.activity
 
-      there : WasLinked r.ledger.rows l.row → IsOfCell c (pend_of (word z r'.world (name.Pend l.row n))) → HoldsCell (word z r.world) r.ledger.rows l.row c
-      there y p = which (entry_exchanged (IsOfCell c) (word z r.world (name.Pend l.row n)) (word z r'.world (name.Pend l.row n)) l.rebalance.entry pend.Frozen tt (exchanged _ _ _ _ h.changed.same) (not_exchanged _ _ _ _ h.changed.same) p)
+      there : WasLinked r.ledger.rows l.rebalance.hand → IsOfCell c (pend_of (word z r'.world (name.Pend l.rebalance.hand n))) → HoldsCell (word z r.world) r.ledger.rows l.rebalance.hand c
+      there y p = which (entry_exchanged (IsOfCell c) (word z r.world (name.Pend l.rebalance.hand n)) (word z r'.world (name.Pend l.rebalance.hand n)) l.rebalance.entry pend.Frozen tt (exchanged _ _ _ _ h.changed.same) (not_exchanged _ _ _ _ h.changed.same) p)
         where
-          which : IsOfCell c (pend_of (word z r.world (name.Pend l.row n))) ⊎ (word z r.world (name.Pend l.row n) ≡ pend_word l.rebalance.entry) × ⊥ → HoldsCell (word z r.world) r.ledger.rows l.row c
-          which (inl m) = (i.keyed l.row y).named n c inside m
+          which : IsOfCell c (pend_of (word z r.world (name.Pend l.rebalance.hand n))) ⊎ (word z r.world (name.Pend l.rebalance.hand n) ≡ pend_word l.rebalance.entry) × ⊥ → HoldsCell (word z r.world) r.ledger.rows l.rebalance.hand c
+          which (inl m) = (i.keyed l.rebalance.hand y).named n c inside m
           which (inr m) = absurd m.1
   named_before a h i q j c k o x = (i.keyed q k).named j c o (subst (λ w. IsOfCell c (pend_of w)) (linked_entry a h i q j k o (λ w e f. w) (λ w e f. w) (λ w e. w)) x)
 

@@ -1,5 +1,6 @@
 -- What the acting seat knows stays in range, by the arrow that it takes.
-use Rattle.std.proofs.Common.{ℕ, ◌≡◌, ◌⊎◌, inl, inr, ◌+◌, ◌-◌, ◌<◌, ◌≤◌, ◌==◌, nat_le, nat_lt, Bool, true, false, if◌then◌else◌, Option, Some, None, List, [], ◌∷◌, ◌++◌, arith, refl, subst, All, length, length-append}
+use Rattle.std.proofs.Common.{ℕ, ◌≡◌, ◌≢◌, ◌⊎◌, inl, inr, ◌+◌, ◌-◌, ◌*◌, ◌<◌, ◌≤◌, ◌==◌, nat_le, nat_lt, Bool, true, false, if◌then◌else◌, Option, Some, None, List, [], ◌∷◌, ◌++◌, arith, refl, subst, All, drop, length, length-append, slice_index, take}
+use Rattle.std.proofs.lemmas.List.{length-take}
 use Rattle.std.proofs.lemmas.List.Elements.{All-nil, All-append, All-cons}
 use Rattle.std.proofs.Math.Nat.{min-le_right}
 use Rattle.kw_words.specs.declared.layout.Name.{Name}
@@ -8,6 +9,7 @@ use Rattle.kw_words.specs.declared.pend.Pend.{Pend}
 use Rattle.kw_words.specs.declared.pend.Pend.TheVariants as pend
 use Rattle.kw_words.specs.declared.sizes.TheConstants.{KEY_END, MOST_CELLS, MOST_GROUP}
 use Rattle.std.proofs.lemmas.Bool.Decides.{nat_tests}
+use Rattle.kw_words.proofs.StateWords.{IsState-state_of}
 use Rattle.kw_world.specs.ListTransitions.{link_name}
 use Rattle.kw_words.specs.Layout.{IsSized, IsWithin}
 use Rattle.kw_words.specs.Pend.{pend_of}
@@ -17,15 +19,19 @@ use Rattle.kw_words.specs.Plain.{IsValue, key_of_word, value_of_word, cell_of_li
 use Rattle.kw_words.proofs.PlainWords.{key_of_word-below}
 use Rattle.kw_cells.specs.declared.cell.Cell as kw_cell
 use Rattle.kw_cells.specs.Cells.{pairs_of}
-use Rattle.kw_cells.specs.Cuts.{starts_of}
-use Rattle.kw_cells.proofs.Even.{starts_some}
-use Rattle.kw_cells.specs.Kept.{kept_of}
+use Rattle.kw_cells.specs.Cuts.{end_of, starts_of}
+use Rattle.kw_cells.proofs.Even.{are_cuts, starts_some}
+use Rattle.kw_cells.proofs.Few.{few_of_kept, few_within}
+use Rattle.kw_cells.specs.Kept.{HasFew, kept_of}
 use Rattle.kw_cells.specs.declared.cell.Cell.{Cell}
-use Rattle.kw_cells.proofs.KeptOf.{kept_of-all, kept_of-length}
+use Rattle.kw_cells.proofs.KeptOf.{kept_of-all, kept_of-length, kept_of-rising}
 use Rattle.kw_words.specs.declared.link.Link.{Link}
 use Rattle.kw_world.specs.declared.answer.Answer.{Answer}
 use Rattle.kw_world.specs.declared.answer.Answer.TheVariants.{Done, NoRows, Spent}
-use Rattle.kw_world.specs.EngageTransitions.{followed_by, to_rebalance}
+use Rattle.kw_world.specs.ClaimTransitions.{goes_along, row_after, with_second}
+use Rattle.kw_world.specs.EngageTransitions.{followed_by, to_group, to_rebalance}
+use Rattle.kw_world.specs.GroupPlaces.{at_last_row, place_in_group}
+use Rattle.kw_world.specs.ReplaceTransitions.{at_before}
 use Rattle.kw_world.specs.declared.activity.Activity.{Activity}
 use Rattle.kw_world.specs.declared.activity.rebalance.engage.Engage.TheVariants as Engage
 use Rattle.kw_world.specs.declared.activity.rebalance.freeze.Freeze.TheVariants as Freeze
@@ -50,18 +56,21 @@ use Rattle.kw_world.specs.Transition.{row_linked, row_or_first, leave}
 use Rattle.kw_cells.specs.InOrder.{with_cell}
 use Rattle.kw_words.specs.declared.scan.ScanWord.TheVariants as scan
 use Rattle.kw_words.proofs.ScanWords.{IsScan-scan_of}
-use Rattle.kw_world.specs.FreezeTransitions.{needing, to_scans}
-use Rattle.kw_world.specs.TakeTransitions.{keeping, planned, to_take}
-use Rattle.kw_world.specs.ReadTransitions.{cell_in_hand, with_pairs, gathering, remembering}
-use Rattle.kw_world.specs.Sane.{IsVersion, IsNumber, IsEntry, IsWord, IsLed, IsOffered, IsPair, IsAnswer, IsMark, IsCopy, IsPlaced, IsActivity, IsRowBelow, IsLinkBelow, IsRowState, IsCellBelow, IsLocal, IsLocalBelow, IsKnown, HasRebalanceRoom, marks_by}
+use Rattle.kw_world.specs.FreezeTransitions.{marking, needing, to_scans}
+use Rattle.kw_world.specs.TakeTransitions.{cell_of_group, keeping, leaving_over, planned, to_take}
+use Rattle.kw_world.specs.ReadTransitions.{with_pairs, gathering, remembering}
+use Rattle.kw_world.specs.Sane.{IsVersion, IsNumber, IsEntry, IsWord, IsLed, IsOffered, IsPair, IsAnswer, IsMark, IsGroupMark, IsCopy, IsPlaced, IsActivity, IsRowBelow, IsLinkBelow, IsRowState, IsStateBelow, IsCellBelow, IsLocal, IsLocalBelow, IsKnown, HasRebalanceRoom, entries_before, marks_by}
 use Rattle.kw_world.proofs.Opens.{none_below, none_ranges, none_room, rests_known}
-use Rattle.kw_core.specs.Words.{Words, built_in}
+use Rattle.kw_core.specs.Words.{Words, built_in, least_in}
 use Rattle.kw_core.proofs.Events.{IsBegun}
+use Rattle.kw_core.proofs.Grouping.{NextCounted, claims_row, goes_alone, NextFrozen, NextGathered, freezes_ahead, froze_all, gathered_all, gathers_ahead}
 use Rattle.kw_core.proofs.RoomBelow.{room_below}
+use Rattle.kw_shape.specs.Hands.{Hand}
+use Rattle.kw_shape.proofs.Hands.{KnowsGroup, cell_few, entries_ahead, entries_few, place_few}
 use Rattle.kw_core.proofs.InRange.{unmarked_in_range, unmarked_few, least_holds, version_in_hand, gathered_in_range, gathered_few, version_of_scan, answer_in_range, pairs_in_range, value_in_range, first_in_range, last_in_range, linked_in_range, stopped_in_range, with_cell_in_range}
 use Rattle.kw_cells.proofs.InOrder.{length-with_cell}
-use Rattle.kw_core.proofs.Arrows.{Arrow, begins, enters, is_spent, waits, draws, settles_empty, settles, starts_at_head, guesses, takes_head, guess_serves, stops, puts_in_last, reads_last, reaches_next, walks_on, puts_before, reads_before, sees_pending, sees_stamped, sees_neither, is_gone_by, loads_to_help, helps, finds_stamped, finds_other, list_leads, list_ends, key_below, key_within, key_above, loads_version, gathers_listed, left_over_wanted, left_over_gone_by, gathers_left_over, clears_scan, takes_cell, loads_clock, is_stamped, stores_version, reaches_cell, sees_none, key_before, version_before, loses, clears, leaves, enters_again, clock_is_spent, epoch_is_spent, finds_infant, finds_leader, finds_other_state, engages, marks_link, marks_led, decides, decides_not, finds_full, takes_full, announces_full, stamps_full, NextLook, looks, lists, NextLeftOver, goes_to_left_over, answers, ends_scan, scans_on, freezes_count, sees_idle, sees_unstamped, remembers, remembers_last, sees_frozen, sees_frozen_last, freezes_entry, freezes_last, looks_again, sees_quiet, sees_quiet_last, helps_scan, sees_drawn, sees_drawn_last, draws_for, settles_scan, settles_last, finds_drawn, finds_drawn_last, finds_no_scan, finds_no_scan_last, take_leads, takes_left, takes_no_more, takes_key, takes_version, keeps_taken, takes_left_key, keeps_left, keeps_no_more, below, builds, ends_at_state, ends_at_clock, ends_at_epoch, ends_undecided, tidies, begins_at_first, begins_behind, first_ends, first_sees_none, inserts_at_first, inserts_behind, first_leads, first_reaches}
-use Rattle.kw_core.proofs.Building.{Building, IsBuilding, first_is_free, first_is_taken, sought_is_free, sought_is_taken, first_is_retired, sought_is_retired, pass_is_old, pass_is_young, frees_row, takes_row, loses_row, gives_one_back, gives_last_back, writes_count, writes_least, writes_link, writes_first, writes_entry, writes_key, writes_value, writes_version, writes_no_cell, writes_after, begins_before, guesses_before, guess_before_fails, before_serves, before_is_above, takes_head_before, leads_to_full, leads_on_marked, leads_to_other, leads_nowhere, walks_before, walks_past, replaces_row, is_marked_before, is_replaced, makes_normal, makes_last_normal, draws_number, retires_row, retires_and_leaves}
+use Rattle.kw_core.proofs.Arrows.{Arrow, begins, enters, is_spent, waits, draws, settles_empty, settles, starts_at_head, guesses, takes_head, guess_serves, stops, puts_in_last, reads_last, reaches_next, walks_on, puts_before, reads_before, sees_pending, sees_stamped, sees_neither, is_gone_by, loads_to_help, helps, finds_stamped, finds_other, list_leads, list_ends, key_below, key_within, key_above, loads_version, gathers_listed, left_over_wanted, left_over_gone_by, gathers_left_over, clears_scan, takes_cell, loads_clock, is_stamped, stores_version, reaches_cell, sees_none, key_before, version_before, loses, clears, leaves, enters_again, clock_is_spent, epoch_is_spent, finds_infant, finds_follower, finds_leader, finds_other_state, engages, marks_link, marks_last, marks_led, decides, decides_not, finds_full, takes_full, announces_full, stamps_full, NextLook, looks, lists, NextLeftOver, goes_to_left_over, answers, ends_scan, scans_on, freezes_count, sees_idle, sees_unstamped, remembers, remembers_last, sees_frozen, sees_frozen_last, freezes_entry, freezes_last, looks_again, sees_quiet, sees_quiet_last, helps_scan, sees_drawn, sees_drawn_last, draws_for, settles_scan, settles_last, finds_drawn, finds_drawn_last, finds_no_scan, finds_no_scan_last, take_leads, takes_left, takes_no_more, takes_key, takes_version, keeps_taken, takes_left_key, keeps_left, keeps_no_more, below, builds, ends_at_state, ends_at_clock, ends_at_epoch, ends_undecided, counts_next, claims_next, next_is_infant, next_leads, claims_not, ends_unclaimed, marks_next, begins_left, takes_leader, reaches_leader, leads_left, walks_left, head_follows, ends_at_head, none_is_left, ends_at_none, passes_left, ends_past, tidies, begins_at_first, begins_behind, first_ends, first_sees_none, inserts_at_first, inserts_behind, first_leads, first_reaches}
+use Rattle.kw_core.proofs.Building.{Building, IsBuilding, first_is_free, first_is_taken, sought_is_free, sought_is_taken, first_is_retired, sought_is_retired, pass_is_old, pass_is_young, frees_row, takes_row, loses_row, gives_one_back, gives_last_back, writes_count, writes_least, writes_link, writes_first, writes_entry, writes_key, writes_value, writes_version, writes_no_cell, writes_after, begins_before, guesses_before, guess_before_fails, before_serves, before_is_above, takes_head_before, leads_to_full, leads_on_marked, leads_to_other, leads_nowhere, walks_before, walks_past, replaces_row, is_marked_before, is_replaced, makes_normal, makes_last_normal, draws_number, retires_ahead, retires_row, retires_and_leaves}
 use Rattle.kw_core.proofs.NextBuilt as following
 use Rattle.kw_core.proofs.NextBuilt.{begun_anew, refused, GivenBack, is_refused_rows, moves_left, NextBack, gives_back, has_none, NextSeek, asks, has_asked, looks_on, has_looked, NextTaken, wants_more, has_enough, NextNewRow, writes_row, has_written, NextNewCell, fills, empties, has_cells, NextNewEntry, writes_idle, has_entries, NextBefore, is_first, is_behind, was_served}
 
@@ -79,34 +88,37 @@ pub record IsKnownAt (z : Sizes) (rows : ℕ) (a : Activity) (l : Local) : Type 
   pub remembered : length l.remembered ≤ marks_by z a l
   pub gathered : length l.gathered ≤ z.cells
   pub rebalance : HasRebalanceRoom z a l.rebalance
+  pub group : KnowsGroup z a l
 
 -- the lists of a rebalance have room at every activity outside of one
 abbrev pub HasLists : Sizes → Local → Type 0
 HasLists z l = HasRebalanceRoom z Activity.Idle l.rebalance
 
 -- a seat at its activity
-pub at_activity : (z : Sizes) (rows : ℕ) (a : Activity) (l : Local) → l.activity ≡ a → IsKnown z rows l → IsKnownAt z rows a l
-at_activity z rows a l e k = record {
+pub at_activity : (z : Sizes) (rows : ℕ) (a : Activity) (l : Local) → l.activity ≡ a → IsKnown z rows l → KnowsGroup z a l → IsKnownAt z rows a l
+at_activity z rows a l e k g = record {
   activity = subst (IsActivity z) e k.ranges.activity;
   ranges = k.ranges;
   below = k.below;
   remembered = subst (λ q. length l.remembered ≤ marks_by z q l) e k.room.remembered;
   gathered = k.room.gathered;
   rebalance = subst (λ q. HasRebalanceRoom z q l.rebalance) e k.room.rebalance;
+  group = g;
 }
 
 -- the lists of a rebalance have room at every activity
 lists_of : (z : Sizes) (a : Activity) (b : Rebalancing) → IsActivity z a → HasRebalanceRoom z a b → HasRebalanceRoom z Activity.Idle b
-lists_of z (Activity.Rebalance (Rebalance.Freeze (Freeze.Look i))) b y k = record { marks = omega (arith, k.marks, y); needed = k.needed; gathered = k.gathered; taken = λ t. absurd t }
-lists_of z (Activity.Rebalance (Rebalance.Freeze (Freeze.Entry i))) b y k = record { marks = omega (arith, k.marks, y); needed = k.needed; gathered = k.gathered; taken = λ t. absurd t }
+lists_of z (Activity.Rebalance (Rebalance.Freeze Freeze.Count)) b y k = record { marks = omega (arith, k.marks, entries_few z b); needed = k.needed; gathered = k.gathered; taken = λ t. absurd t }
+lists_of z (Activity.Rebalance (Rebalance.Freeze (Freeze.Look i))) b y k = record { marks = omega (arith, k.marks, y, entries_few z b); needed = k.needed; gathered = k.gathered; taken = λ t. absurd t }
+lists_of z (Activity.Rebalance (Rebalance.Freeze (Freeze.Entry i))) b y k = record { marks = omega (arith, k.marks, y, entries_few z b); needed = k.needed; gathered = k.gathered; taken = λ t. absurd t }
 lists_of z (Activity.Rebalance (Rebalance.Freeze (Freeze.Scan i))) b y k = record { marks = k.marks; needed = omega (arith, k.needed, y); gathered = k.gathered; taken = λ t. absurd t }
 lists_of z (Activity.Rebalance (Rebalance.Freeze (Freeze.Draw i))) b y k = record { marks = k.marks; needed = omega (arith, k.needed, y); gathered = k.gathered; taken = λ t. absurd t }
 lists_of z (Activity.Rebalance (Rebalance.Freeze (Freeze.Settle i))) b y k = record { marks = k.marks; needed = omega (arith, k.needed, y); gathered = k.gathered; taken = λ t. absurd t }
 lists_of z _ b y k = record { marks = k.marks; needed = k.needed; gathered = k.gathered; taken = λ t. absurd t }
 
 -- the entry that was seen
-entry : (z : Sizes) (rows : ℕ) (v : Words) (l : Local) → AreSane z rows v → (i : ℕ) (x : Pend) → l.row < rows → i < z.seats → pend_of (v (name.Pend l.row i)) ≡ Some x → IsEntry z (Some x)
-entry z rows v l w i x o u e = subst (IsEntry z) e (w.each (name.Pend l.row i) (o, u))
+entry : (z : Sizes) (rows : ℕ) (v : Words) (q : ℕ) → AreSane z rows v → (i : ℕ) (x : Pend) → q < rows → i < z.seats → pend_of (v (name.Pend q i)) ≡ Some x → IsEntry z (Some x)
+entry z rows v q w i x o u e = subst (IsEntry z) e (w.each (name.Pend q i) (o, u))
 
 -- a link between cells leads to one that is in range
 pub linked_below : (w c n : ℕ) → cell_of_link_word w ≡ Some c → w ≤ n → c < n
@@ -131,6 +143,10 @@ gathered_more z value l u k =
 -- the marks with one more
 marked : (z : Sizes) (marks : List Mark) (c version : ℕ) → All (IsMark z) marks → c < z.cells → IsVersion version → All (IsMark z) (marks ++ mark_of c version ∷ [])
 marked z marks c version k o u = All-append (IsMark z) marks (mark_of c version ∷ []) k (All-cons (IsMark z) (mark_of c version) [] (o, u) (All-nil (IsMark z)))
+
+-- so of a group
+group_marked : (z : Sizes) (marks : List Mark) (c version : ℕ) → All (IsGroupMark z) marks → c < MOST_GROUP * z.cells → IsVersion version → All (IsGroupMark z) (marks ++ mark_of c version ∷ [])
+group_marked z marks c version k o u = All-append (IsGroupMark z) marks (mark_of c version ∷ []) k (All-cons (IsGroupMark z) (mark_of c version) [] (o, u) (All-nil (IsGroupMark z)))
 
 -- the pairs of the row come after those that there are
 more_pairs : (z : Sizes) (l : Local) → IsLocal z l → All IsPair (with_pairs (last_key l.call) l).pairs
@@ -244,29 +260,42 @@ module _ (z : Sizes) (rows : ℕ) (l : Local) (sized : IsSized z.seats z.cells r
 -- What a seat knows that freezes and gathers.
 
 -- one more mark
-one_more_mark : (j c version : ℕ) (marks : List Mark) → length marks ≤ j → length (marks ++ mark_of c version ∷ []) ≤ j + 1
-one_more_mark j c version marks o = omega (arith, length-append marks (mark_of c version ∷ []), o)
+one_more_mark : (z : Sizes) (b : Rebalancing) (j c version : ℕ) → length b.marks ≤ entries_before z b + j → length (b.marks ++ mark_of c version ∷ []) ≤ entries_before z b + (j + 1)
+one_more_mark z b j c version o = omega (arith, length-append b.marks (mark_of c version ∷ []), o)
 
 -- a seat that has frozen all entries
-looks_at_scans : (z : Sizes) (rows : ℕ) (l : Local) → IsSized z.seats z.cells rows → IsLocal z l → IsLocalBelow rows l → length l.remembered ≤ z.seats → length l.gathered ≤ z.cells → length l.rebalance.gathered ≤ z.cells → length l.rebalance.marks ≤ z.seats → IsKnown z rows (to_scans l).local
+looks_at_scans : (z : Sizes) (rows : ℕ) (l : Local) → IsSized z.seats z.cells rows → IsLocal z l → IsLocalBelow rows l → length l.remembered ≤ z.seats → length l.gathered ≤ z.cells → length l.rebalance.gathered ≤ MOST_GROUP * z.cells → length l.rebalance.marks ≤ MOST_GROUP * z.seats → IsKnown z rows (to_scans l).local
 looks_at_scans z rows l sized k b m g x y =
     let never : ⊥ → length l.rebalance.taken < length l.rebalance.starts = λ t. absurd t in
     let o : 0 < z.seats = omega (arith, sized.some_seats) in
     let none : 0 ≤ 0 = omega arith in
     assumption (k, b, m, g, x, y, o, none, never, All-nil IsVersion)
 
+-- one that has frozen the row at hand: the row ahead of it is frozen next
+froze_row : (z : Sizes) (rows : ℕ) (l next : Local) → NextFrozen l next → IsSized z.seats z.cells rows → IsLocal z l → IsLocalBelow rows l → length l.remembered ≤ z.seats → length l.gathered ≤ z.cells → length l.rebalance.gathered ≤ MOST_GROUP * z.cells → length l.rebalance.needed ≤ z.seats → length l.rebalance.marks ≤ MOST_GROUP * z.seats →
+    ((r : ℕ) → l.rebalance.ahead ≡ Some r → length l.rebalance.marks ≤ entries_before z (at_last_row r l).rebalance) → IsKnown z rows next
+froze_row z rows l next (freezes_ahead r e) sized k b m g x n y ahead =
+    let never : ⊥ → length l.rebalance.taken < length l.rebalance.starts = λ t. absurd t in
+    let o : r < rows = subst (IsRowBelow rows) e b.rebalance.ahead in
+    assumption (k, b, m, g, x, n, o, ahead r e, never)
+froze_row z rows l next (froze_all e) sized k b m g x n y ahead = looks_at_scans z rows l sized k b m g x y
+
+froze_last : (z : Sizes) (rows : ℕ) (l next : Local) (j : ℕ) → NextFrozen l next → IsSized z.seats z.cells rows → j < z.seats → IsLocal z l → IsLocalBelow rows l → length l.remembered ≤ z.seats → length l.gathered ≤ z.cells → length l.rebalance.gathered ≤ MOST_GROUP * z.cells → length l.rebalance.needed ≤ z.seats → length l.rebalance.marks ≤ entries_before z l.rebalance + j → Hand l → l.rebalance.second ≢ Some l.row → IsKnown z rows next
+froze_last z rows l next j y sized o k b m g x n q hand apart = froze_row z rows l next y sized k b m g x n (omega (arith, q, o, entries_few z l.rebalance)) (λ r e. entries_ahead z l r _ hand apart e (omega (arith, q, o)))
+
 -- one that has looked at all scans
-begins_to_take : (z : Sizes) (rows : ℕ) (l : Local) → IsLocal z l → IsLocalBelow rows l → length l.remembered ≤ z.seats → length l.gathered ≤ z.cells → length l.rebalance.marks ≤ z.seats → length l.rebalance.needed ≤ z.seats → IsKnown z rows (to_take l).local
+begins_to_take : (z : Sizes) (rows : ℕ) (l : Local) → IsLocal z l → IsLocalBelow rows l → length l.remembered ≤ z.seats → length l.gathered ≤ z.cells → length l.rebalance.marks ≤ MOST_GROUP * z.seats → length l.rebalance.needed ≤ z.seats → IsKnown z rows (to_take l).local
 begins_to_take z rows l k b m g x y =
     let never : ⊥ → length l.rebalance.taken < length l.rebalance.starts = λ t. absurd t in
-    let none : 0 ≤ z.cells = omega arith in
-    assumption (k, b, m, g, x, y, none, never, All-nil IsCopy, All-nil (IsPlaced z))
+    let none : 0 ≤ MOST_GROUP * z.cells = omega arith in
+    let start : 0 ≤ z.cells = omega arith in
+    assumption (k, b, m, g, x, y, none, start, never, All-nil IsCopy, All-nil (IsPlaced z))
 
 -- one more version is needed
 needs : (z : Sizes) (l : Local) (version : ℕ) → IsLocal z l → IsVersion version → All IsVersion (l.rebalance.needed ++ version ∷ [])
 needs z l version k u = All-append IsVersion l.rebalance.needed (version ∷ []) k.rebalance.needed (All-cons IsVersion version [] u (All-nil IsVersion))
 
-needs_more : (z : Sizes) (rows : ℕ) (l : Local) (j version : ℕ) → j + 1 < z.seats → IsLocal z l → IsLocalBelow rows l → length l.remembered ≤ z.seats → length l.gathered ≤ z.cells → length l.rebalance.marks ≤ z.seats → length l.rebalance.gathered ≤ z.cells → length l.rebalance.needed ≤ j → IsVersion version →
+needs_more : (z : Sizes) (rows : ℕ) (l : Local) (j version : ℕ) → j + 1 < z.seats → IsLocal z l → IsLocalBelow rows l → length l.remembered ≤ z.seats → length l.gathered ≤ z.cells → length l.rebalance.marks ≤ MOST_GROUP * z.seats → length l.rebalance.gathered ≤ MOST_GROUP * z.cells → length l.rebalance.needed ≤ j → IsVersion version →
     IsKnown z rows (record (needing version l) { activity = Activity.Rebalance (Rebalance.Freeze (Freeze.Scan (j + 1))) })
 needs_more z rows l j version o k b m g x y n u =
     let never : ⊥ → length l.rebalance.taken < length l.rebalance.starts = λ t. absurd t in
@@ -274,34 +303,40 @@ needs_more z rows l j version o k b m g x y n u =
     let q : length (l.rebalance.needed ++ version ∷ []) ≤ j + 1 = omega (arith, length-append l.rebalance.needed (version ∷ []), n) in
     assumption (k, b, m, g, x, y, p, q, o, never)
 
-needs_last : (z : Sizes) (rows : ℕ) (l : Local) (j version : ℕ) → j < z.seats → IsLocal z l → IsLocalBelow rows l → length l.remembered ≤ z.seats → length l.gathered ≤ z.cells → length l.rebalance.marks ≤ z.seats → length l.rebalance.needed ≤ j → IsVersion version → IsKnown z rows (to_take (needing version l)).local
+needs_last : (z : Sizes) (rows : ℕ) (l : Local) (j version : ℕ) → j < z.seats → IsLocal z l → IsLocalBelow rows l → length l.remembered ≤ z.seats → length l.gathered ≤ z.cells → length l.rebalance.marks ≤ MOST_GROUP * z.seats → length l.rebalance.needed ≤ j → IsVersion version → IsKnown z rows (to_take (needing version l)).local
 needs_last z rows l j version o k b m g x n u =
     let never : ⊥ → length l.rebalance.taken < length l.rebalance.starts = λ t. absurd t in
     let p = needs z l version k u in
     let q : length (l.rebalance.needed ++ version ∷ []) ≤ z.seats = omega (arith, length-append l.rebalance.needed (version ∷ []), n, o) in
-    let none : 0 ≤ z.cells = omega arith in
-    assumption (k, b, m, g, x, p, q, none, never, All-nil IsCopy, All-nil (IsPlaced z))
+    let none : 0 ≤ MOST_GROUP * z.cells = omega arith in
+    let start : 0 ≤ z.cells = omega arith in
+    assumption (k, b, m, g, x, p, q, none, start, never, All-nil IsCopy, All-nil (IsPlaced z))
 
 -- a remembered cell is read
 left_known : (z : Sizes) (rows : ℕ) (l : Local) (m : Mark) → least_mark l.rebalance.marks ≡ Some m → IsLocal z l → IsLocalBelow rows l → length l.remembered ≤ z.seats → length l.gathered ≤ z.cells → HasRebalanceRoom z (Activity.Rebalance (Rebalance.Gather Gather.Link)) l.rebalance →
-    IsKnown z rows (record l { place = m.cell; place_version = m.version; rebalance = record l.rebalance { marks = unmarked m.cell l.rebalance.marks }; activity = Activity.Rebalance (Rebalance.Gather Gather.LeftOverKey) })
+    IsKnown z rows (record (leaving_over z m l) { activity = Activity.Rebalance (Rebalance.Gather Gather.LeftOverKey) })
 left_known z rows l m o k b u g x =
-    let f = least_holds (IsMark z) l.rebalance.marks m o k.rebalance.marks in
-    let marks = unmarked_in_range (IsMark z) m.cell l.rebalance.marks k.rebalance.marks in
-    let few : length (unmarked m.cell l.rebalance.marks) ≤ z.seats = omega (arith, unmarked_few m.cell l.rebalance.marks, x.marks) in
-    assumption (k, b, f, marks, few, u, g, x)
+    let f = least_holds (IsGroupMark z) l.rebalance.marks m o k.rebalance.marks in
+    let c = cell_few z m.cell f.0 in
+    let marks = unmarked_in_range (IsGroupMark z) m.cell l.rebalance.marks k.rebalance.marks in
+    let few : length (unmarked m.cell l.rebalance.marks) ≤ MOST_GROUP * z.seats = omega (arith, unmarked_few m.cell l.rebalance.marks, x.marks) in
+    assumption (k, b, f, c, marks, few, u, g, x)
 
 -- a cell is gathered for the new rows
-kept_more : (z : Sizes) (value : Option ℕ) (l : Local) → IsValue value → IsLocal z l → length l.rebalance.gathered ≤ z.cells → IsLocal z (keeping z value l) × (length (keeping z value l).rebalance.gathered ≤ z.cells)
-kept_more z value l u k n =
-    (let a = more IsCopy (k.place_key, k.place_version, u) k.rebalance.gathered (nat_lt (length l.rebalance.gathered) z.cells) in let p = more (IsPlaced z) k.place k.rebalance.placed (nat_lt (length l.rebalance.gathered) z.cells) in assumption (k, a, p), few (nat_lt (length l.rebalance.gathered) z.cells) refl)
+kept_more : (z : Sizes) (value : Option ℕ) (l : Local) → IsValue value → IsLocal z l → length l.rebalance.gathered ≤ MOST_GROUP * z.cells → IsLocal z (keeping z value l) × (length (keeping z value l).rebalance.gathered ≤ MOST_GROUP * z.cells)
+kept_more z value l u k n = (
+  let a = more IsCopy (k.place_key, k.place_version, u) k.rebalance.gathered (nat_lt (length l.rebalance.gathered) (MOST_GROUP * z.cells)) in
+      let p = more (IsPlaced z) (place_few z l.rebalance l.place k.place) k.rebalance.placed (nat_lt (length l.rebalance.gathered) (MOST_GROUP * z.cells)) in
+      assumption (k, a, p),
+  few (nat_lt (length l.rebalance.gathered) (MOST_GROUP * z.cells)) refl,
+)
   where
-    more : (P : kw_cell.Cell → Type 0) → P (cell_in_hand value l) → All P l.rebalance.gathered → (b : Bool) → All P (if b then with_cell (cell_in_hand value l) l.rebalance.gathered else l.rebalance.gathered)
-    more P p g true = with_cell_in_range P (cell_in_hand value l) l.rebalance.gathered p g
+    more : (P : kw_cell.Cell → Type 0) → P (cell_of_group z value l) → All P l.rebalance.gathered → (b : Bool) → All P (if b then with_cell (cell_of_group z value l) l.rebalance.gathered else l.rebalance.gathered)
+    more P p g true = with_cell_in_range P (cell_of_group z value l) l.rebalance.gathered p g
     more P p g false = g
 
-    few : (b : Bool) → nat_lt (length l.rebalance.gathered) z.cells ≡ b → length (if b then with_cell (cell_in_hand value l) l.rebalance.gathered else l.rebalance.gathered) ≤ z.cells
-    few true e = let w : length l.rebalance.gathered < z.cells = below _ _ e in omega (arith, w, length-with_cell (cell_in_hand value l) l.rebalance.gathered)
+    few : (b : Bool) → nat_lt (length l.rebalance.gathered) (MOST_GROUP * z.cells) ≡ b → length (if b then with_cell (cell_of_group z value l) l.rebalance.gathered else l.rebalance.gathered) ≤ MOST_GROUP * z.cells
+    few true e = let w : length l.rebalance.gathered < MOST_GROUP * z.cells = below _ _ e in omega (arith, w, length-with_cell (cell_of_group z value l) l.rebalance.gathered)
     few false e = n
 
 -- the row to which a link leads is one of the table
@@ -309,9 +344,32 @@ row_below : (rows : ℕ) (link : Option Link) → IsLinkBelow rows link → IsRo
 row_below rows (Some link) b = b
 row_below rows None b = tt
 
+-- a row that is known, or the first one
+before_below : (rows : ℕ) (before : Option ℕ) → 0 < rows → IsRowBelow rows before → row_or_first before < rows
+before_below rows (Some p) o b = b
+before_below rows None o b = o
+
+-- the row after the full one is one of the table, as the first row is
+after_below : (rows : ℕ) (l : Local) → 0 < rows → IsLocalBelow rows l → row_after l < rows
+after_below rows l o b = before_below rows l.rebalance.after o b.rebalance.after
+
 -- a seat that knows the row after its own
 follows_known : (z : Sizes) (rows : ℕ) (after : Option ℕ) (l : Local) → IsRowBelow rows after → IsLocal z l → IsLocalBelow rows l → IsLocal z (followed_by after l) × IsLocalBelow rows (followed_by after l)
 follows_known z rows after l o k b = (assumption k, assumption (b, o))
+
+-- the rows of its group are known, and the first one is at hand
+to_group_known : (z : Sizes) (rows : ℕ) (l : Local) → IsLocal z l → IsLocalBelow rows l → length l.remembered ≤ z.seats → length l.gathered ≤ z.cells → length l.rebalance.needed ≤ z.seats → length l.rebalance.gathered ≤ MOST_GROUP * z.cells → IsKnown z rows (to_group l).local
+to_group_known z rows l k b m g n x =
+    let never : ⊥ → length l.rebalance.taken < length l.rebalance.starts = λ t. absurd t in
+    let none : 0 ≤ entries_before z (to_group l).local.rebalance = omega arith in
+    assumption (k, b, m, g, n, x, none, never, All-nil (IsGroupMark z))
+
+-- it is known how many rows go: the next one is claimed, or the full row goes alone
+counted_known : (z : Sizes) (rows count : ℕ) (l next : Local) → NextCounted count l next → IsLocal z l → IsLocalBelow rows l → length l.remembered ≤ z.seats → length l.gathered ≤ z.cells → length l.rebalance.marks ≤ MOST_GROUP * z.seats → length l.rebalance.needed ≤ z.seats → length l.rebalance.gathered ≤ MOST_GROUP * z.cells → IsKnown z rows next
+counted_known z rows count l next (claims_row q two e) k b m g s n x =
+    let never : ⊥ → length l.rebalance.taken < length l.rebalance.starts = λ t. absurd t in
+    assumption (k, b, m, g, s, n, x, never)
+counted_known z rows count l next (goes_alone d) k b m g s n x = to_group_known z rows l k b m g n x
 
 -- What a seat knows that takes, writes and links new rows.
 
@@ -320,27 +378,49 @@ pub record IsSoughtIn (rows : ℕ) (l : Local) : Type 0 where
   pub sought : l.rebalance.sought < rows
   pub asked : l.rebalance.asked ≤ rows
 
+-- a new row has no more cells than a row
+new_rows_fit : (z : Sizes) (gathered : List Cell) (needed : List ℕ) → z.seats < z.built → z.built ≤ z.cells → length needed ≤ z.seats → (n : ℕ) → n ≤ length (starts_of z.built (kept_of gathered needed)) - 1 →
+    length (take (end_of (kept_of gathered needed) (starts_of z.built (kept_of gathered needed)) n - slice_index (starts_of z.built (kept_of gathered needed)) n) (drop (slice_index (starts_of z.built (kept_of gathered needed)) n) (kept_of gathered needed))) ≤ z.cells
+new_rows_fit z gathered needed b f m n o =
+    let kept = kept_of gathered needed in
+    let starts = starts_of z.built kept in
+    let few : HasFew z.built kept = few_within (length needed + 1) z.built kept (omega (arith, b, m)) (few_of_kept gathered needed) in
+    let cut = (are_cuts z.built kept (kept_of-rising gathered needed) few).most n (omega (arith, o, starts_some z.built kept)) in
+    omega (arith, cut, f, length-take (end_of kept starts n - slice_index starts n) (drop (slice_index starts n) kept))
+
 -- all cells are gathered, and the search for new rows begins
-seeks_rows : (z : Sizes) (rows : ℕ) (l : Local) → IsSized z.seats z.cells rows → IsLocal z l → IsLocalBelow rows l → length l.remembered ≤ z.seats → length l.gathered ≤ z.cells → length l.rebalance.marks ≤ z.seats → length l.rebalance.needed ≤ z.seats → length l.rebalance.gathered ≤ z.cells →
+seeks_rows : (z : Sizes) (rows : ℕ) (l : Local) → z.seats < z.built → z.built ≤ z.cells → IsSized z.seats z.cells rows → IsLocal z l → IsLocalBelow rows l → length l.remembered ≤ z.seats → length l.gathered ≤ z.cells → length l.rebalance.marks ≤ MOST_GROUP * z.seats → length l.rebalance.needed ≤ z.seats → length l.rebalance.gathered ≤ MOST_GROUP * z.cells →
     IsKnown z rows (record (planned z l) { activity = Activity.Rebalance (Rebalance.Seek Seek.First) })
-seeks_rows z rows l sized k b m g x y n =
+seeks_rows z rows l built fits sized k b m g x y n =
     let kept : All IsCopy (kept_of l.rebalance.gathered l.rebalance.needed) = kept_of-all IsCopy l.rebalance.gathered l.rebalance.needed k.rebalance.gathered in
     let places : All (IsPlaced z) (kept_of l.rebalance.gathered l.rebalance.needed) = kept_of-all (IsPlaced z) l.rebalance.gathered l.rebalance.needed k.rebalance.placed in
-    let few : length (kept_of l.rebalance.gathered l.rebalance.needed) ≤ z.cells = omega (arith, n, kept_of-length l.rebalance.gathered l.rebalance.needed) in
+    let few : length (kept_of l.rebalance.gathered l.rebalance.needed) ≤ MOST_GROUP * z.cells = omega (arith, n, kept_of-length l.rebalance.gathered l.rebalance.needed) in
     let none : 0 ≤ 0 = omega arith in
     let first : 0 < rows = omega (arith, sized.some_rows) in
     let one : 1 ≤ rows = sized.some_rows in
     let some : Unit {0} → 0 < length (starts_of z.built (kept_of l.rebalance.gathered l.rebalance.needed)) = λ t. starts_some z.built (kept_of l.rebalance.gathered l.rebalance.needed) in
-    assumption (k, b, m, g, x, y, n, kept, places, few, none, first, one, some, All-nil (λ (r : ℕ). r < rows))
+    let rows_fit = new_rows_fit z l.rebalance.gathered l.rebalance.needed built fits y in
+    let untaken : 0 ≤ length (starts_of z.built (kept_of l.rebalance.gathered l.rebalance.needed)) = omega arith in
+    let first_taken : 0 ≤ 0 - 1 = omega arith in
+    assumption (k, b, m, g, x, y, n, kept, places, few, rows_fit, untaken, first_taken, none, first, one, some, All-nil (λ (r : ℕ). r < rows))
 
--- the row before the full one, or the first one
-before_below : (rows : ℕ) (before : Option ℕ) → 0 < rows → IsRowBelow rows before → row_or_first before < rows
-before_below rows (Some p) o b = b
-before_below rows None o b = o
+-- the row at hand is gathered: the row ahead of it is gathered next, or the plan is made
+row_gathered : (z : Sizes) (rows : ℕ) (l next : Local) → NextGathered z l next → z.seats < z.built → z.built ≤ z.cells → IsSized z.seats z.cells rows → IsLocal z l → IsLocalBelow rows l → length l.remembered ≤ z.seats → length l.gathered ≤ z.cells → length l.rebalance.marks ≤ MOST_GROUP * z.seats → length l.rebalance.needed ≤ z.seats → length l.rebalance.gathered ≤ MOST_GROUP * z.cells → IsKnown z rows next
+row_gathered z rows l next (gathers_ahead r e) built fits sized k b m g x y n =
+    let never : ⊥ → length l.rebalance.taken < length l.rebalance.starts = λ t. absurd t in
+    let o : r < rows = subst (IsRowBelow rows) e b.rebalance.ahead in
+    let none : 0 ≤ z.cells = omega arith in
+    assumption (k, b, m, g, x, y, n, o, none, never)
+row_gathered z rows l next (gathered_all e) built fits sized k b m g x y n = seeks_rows z rows l built fits sized k b m g x y n
 
 -- a seat that may take one more row has lists as another has
-idle_room : (z : Sizes) (b : Rebalancing) → length b.marks ≤ z.seats → length b.needed ≤ z.seats → length b.gathered ≤ z.cells → HasRebalanceRoom z Activity.Idle b
+idle_room : (z : Sizes) (b : Rebalancing) → length b.marks ≤ MOST_GROUP * z.seats → length b.needed ≤ z.seats → length b.gathered ≤ MOST_GROUP * z.cells → HasRebalanceRoom z Activity.Idle b
 idle_room z b m n g = record { marks = m; needed = n; gathered = g; taken = λ t. absurd t }
+
+-- a group has a row, or two
+counted_few : (b : Bool) → (if b then MOST_GROUP else 1) ≤ MOST_GROUP
+counted_few true = omega arith
+counted_few false = omega arith
 
 -- a row that is guessed, or was asked before
 chosen_below : (rows : ℕ) (choice : Choice) (q r : ℕ) → IsOffered rows choice → r < rows → (choice ≡ Guess q) ⊎ (q ≡ r) → q < rows
@@ -359,7 +439,7 @@ module _ (z : Sizes) (rows : ℕ) (sized : IsSized z.seats z.cells rows) where
       is_balancing z rows (moved_left l) sized (assumption k) (assumption (b, o)) m g
 
   back_known : (a : Afterwards) (l next : Local) → NextBack a l next → IsLocal z l → IsLocalBelow rows l → length l.remembered ≤ z.seats → length l.gathered ≤ z.cells → HasLists z l → IsKnown z rows next
-  back_known a l next (gives_back o) k b m g n = let first : 0 ≤ length l.rebalance.taken = omega arith in assumption (k, b, m, g, n, first)
+  back_known a l next (gives_back o) k b m g n = let first : 0 ≤ length l.rebalance.taken - 1 = omega arith in assumption (k, b, m, g, n, first)
   back_known a l next (has_none other o y) k b m g n = given_known a l next y k b m g
 
   -- the next row is asked
@@ -368,19 +448,22 @@ module _ (z : Sizes) (rows : ℕ) (sized : IsSized z.seats z.cells rows) where
   seek_known r l next (has_asked other o y) s k b m g n t = back_known _ l next y k b m g n
 
   -- a row is taken
-  with_fits : (l : Local) → IsLocal z l → l.rebalance.at ≤ length (l.rebalance.taken ++ l.rebalance.sought ∷ [])
+  with_fits : (l : Local) → IsLocal z l → l.rebalance.at ≤ length (l.rebalance.taken ++ l.rebalance.sought ∷ []) - 1
   with_fits l k = omega (arith, k.rebalance.at, length-append l.rebalance.taken (l.rebalance.sought ∷ []))
+
+  with_enough : (l : Local) → length l.rebalance.taken < length l.rebalance.starts → length (l.rebalance.taken ++ l.rebalance.sought ∷ []) ≤ length l.rebalance.starts
+  with_enough l o = omega (arith, o, length-append l.rebalance.taken (l.rebalance.sought ∷ []))
 
   with_below : (l : Local) → IsLocalBelow rows l → All (λ r. r < rows) (l.rebalance.taken ++ l.rebalance.sought ∷ [])
   with_below l b = All-append (λ r. r < rows) l.rebalance.taken (l.rebalance.sought ∷ []) b.rebalance.taken (All-cons (λ r. r < rows) l.rebalance.sought [] b.rebalance.sought (All-nil (λ r. r < rows)))
 
-  taken_known : (r : ℕ) (l next : Local) → NextTaken r (with_row l) next → IsSoughtIn rows next → IsLocal z l → IsLocalBelow rows l → length l.remembered ≤ z.seats → length l.gathered ≤ z.cells → HasLists z l → IsKnown z rows next
-  taken_known r l next (wants_more other o x) s k b m g n = seek_known r (with_row l) next x s (assumption (k, with_fits l k)) (assumption (b, with_below l b)) m g (idle_room z (with_row l).rebalance n.marks n.needed n.gathered) o
-  taken_known r l next (has_enough o) s k b m g n = let first : 0 ≤ length (l.rebalance.taken ++ l.rebalance.sought ∷ []) = omega arith in let never : ⊥ → length (l.rebalance.taken ++ l.rebalance.sought ∷ []) < length l.rebalance.starts = λ t. absurd t in let all = with_below l b in assumption (k, b, m, g, n, all, first, never)
+  taken_known : (r : ℕ) (l next : Local) → NextTaken r (with_row l) next → IsSoughtIn rows next → IsLocal z l → IsLocalBelow rows l → length l.remembered ≤ z.seats → length l.gathered ≤ z.cells → HasLists z l → length l.rebalance.taken < length l.rebalance.starts → IsKnown z rows next
+  taken_known r l next (wants_more other o x) s k b m g n t = seek_known r (with_row l) next x s (assumption (k, with_fits l k, with_enough l t)) (assumption (b, with_below l b)) m g (idle_room z (with_row l).rebalance n.marks n.needed n.gathered) o
+  taken_known r l next (has_enough o) s k b m g n t = let first : 0 ≤ length (l.rebalance.taken ++ l.rebalance.sought ∷ []) - 1 = omega arith in let enough = with_enough l t in let never : ⊥ → length (l.rebalance.taken ++ l.rebalance.sought ∷ []) < length l.rebalance.starts = λ t. absurd t in let all = with_below l b in assumption (k, b, m, g, n, all, first, enough, never)
 
   -- the next row, cell or entry is written
   row_known : (l next : Local) → NextNewRow l next → IsLocal z l → IsLocalBelow rows l → length l.remembered ≤ z.seats → length l.gathered ≤ z.cells → HasLists z l → IsKnown z rows next
-  row_known l next (writes_row o) k b m g n = let i : l.rebalance.at + 1 ≤ length l.rebalance.taken = omega (arith, o) in assumption (k, b, m, g, n, i)
+  row_known l next (writes_row o) k b m g n = let i : l.rebalance.at + 1 ≤ length l.rebalance.taken - 1 = omega (arith, o) in assumption (k, b, m, g, n, i)
   row_known l next (has_written o) k b m g n = assumption (k, b, m, g, n)
 
   cell_known : (j : ℕ) (l next : Local) → NextNewCell z j l next → IsLocal z l → IsLocalBelow rows l → length l.remembered ≤ z.seats → length l.gathered ≤ z.cells → HasLists z l → IsKnown z rows next
@@ -418,9 +501,9 @@ built_known z rows v choice l a next w c i k (pass_is_old j epoch r other e o y)
 built_known z rows v choice l a next w c i k (pass_is_young j other y (looks_on o)) s = assumption (k, s, o)
 built_known z rows v choice l a next w c i k (pass_is_young j other y (has_looked o)) s = assumption (k, s)
 built_known z rows v choice l a next w c i k frees_row s = assumption (k, s)
-built_known z rows v choice l a next w c i k (takes_row r other e y) s = taken_known z rows w.sized r l next y s k.ranges k.below k.remembered k.gathered (idle_room z l.rebalance k.rebalance.marks k.rebalance.needed k.rebalance.gathered)
+built_known z rows v choice l a next w c i k (takes_row r other e y) s = taken_known z rows w.sized r l next y s k.ranges k.below k.remembered k.gathered (idle_room z l.rebalance k.rebalance.marks k.rebalance.needed k.rebalance.gathered) (k.rebalance.taken tt)
 built_known z rows v choice l a next w c i k (loses_row r other d y) s = seek_known z rows w.sized r l next y s k.ranges k.below k.remembered k.gathered (idle_room z l.rebalance k.rebalance.marks k.rebalance.needed k.rebalance.gathered) (k.rebalance.taken tt)
-built_known z rows v choice l a next w c i k (gives_one_back o) s = let n : l.rebalance.at + 1 ≤ length l.rebalance.taken = omega (arith, o) in assumption (k, n)
+built_known z rows v choice l a next w c i k (gives_one_back o) s = let n : l.rebalance.at + 1 ≤ length l.rebalance.taken - 1 = omega (arith, o) in assumption (k, n)
 built_known z rows v choice l a next w c i k (gives_last_back other o y) s = given_known z rows w.sized _ l next y k.ranges k.below k.remembered k.gathered
 built_known z rows v choice l a next w c i k writes_count s = assumption k
 built_known z rows v choice l a next w c i k writes_least s = assumption k
@@ -447,14 +530,15 @@ built_known z rows v choice l a next w c i k (leads_to_other q e d) s =
 built_known z rows v choice l a next w c i k (leads_nowhere other e y) s = back_known z rows w.sized _ l next y k.ranges k.below k.remembered k.gathered (idle_room z l.rebalance k.rebalance.marks k.rebalance.needed k.rebalance.gathered)
 built_known z rows v choice l a next w c i k (walks_before o) s = let u = key_of_word-below (v (name.Least l.candidate)) in assumption (k, u)
 built_known z rows v choice l a next w c i k (walks_past other o y) s = back_known z rows w.sized _ l next y k.ranges k.below k.remembered k.gathered (idle_room z l.rebalance k.rebalance.marks k.rebalance.needed k.rebalance.gathered)
-built_known z rows v choice l a next w c i k (replaces_row e) s = let first : 0 ≤ length l.rebalance.taken = omega arith in assumption (k, first)
+built_known z rows v choice l a next w c i k (replaces_row e) s = let first : 0 ≤ length l.rebalance.taken - 1 = omega arith in assumption (k, first)
 built_known z rows v choice l a next w c i k (is_marked_before other e y) s = back_known z rows w.sized _ l next y k.ranges k.below k.remembered k.gathered (idle_room z l.rebalance k.rebalance.marks k.rebalance.needed k.rebalance.gathered)
 built_known z rows v choice l a next w c i k (is_replaced other d y) s = back_known z rows w.sized _ l next y k.ranges k.below k.remembered k.gathered (idle_room z l.rebalance k.rebalance.marks k.rebalance.needed k.rebalance.gathered)
-built_known z rows v choice l a next w c i k (makes_normal o) s = let n : l.rebalance.at + 1 ≤ length l.rebalance.taken = omega (arith, o) in assumption (k, n)
+built_known z rows v choice l a next w c i k (makes_normal o) s = let n : l.rebalance.at + 1 ≤ length l.rebalance.taken - 1 = omega (arith, o) in assumption (k, n)
 built_known z rows v choice l a next w c i k (makes_last_normal o) s = assumption k
 built_known z rows v choice l a next w c i k draws_number s = let y = w.each name.Epoch tt in assumption (k, y)
-built_known z rows v choice l a next w c i k (retires_row nd) s = tries_anew z rows l w.sized k.ranges k.below k.remembered k.gathered
-built_known z rows v choice l a next w c i k (retires_and_leaves dn) s = is_refusing z rows l w.sized Done tt k.ranges k.below k.remembered k.gathered
+built_known z rows v choice l a next w c i k (retires_ahead r e) s = let o : r < rows = subst (IsRowBelow rows) e k.below.rebalance.ahead in assumption (k, o)
+built_known z rows v choice l a next w c i k (retires_row n nd) s = tries_anew z rows l w.sized k.ranges k.below k.remembered k.gathered
+built_known z rows v choice l a next w c i k (retires_and_leaves n dn) s = is_refusing z rows l w.sized Done tt k.ranges k.below k.remembered k.gathered
 
 -- by the arrow that the seat takes
 pub known_by : (z : Sizes) (rows : ℕ) (v : Words) (s : ℕ) (choice : Choice) (l : Local) (a : Activity) (l' : Local) → Arrow z v s choice l a l' → AreSane z rows v → row_or_first (row_linked (link_of (v name.Head))) < rows → s < z.seats → IsBegun a choice → IsOffered rows choice → IsKnownAt z rows a l → (IsBuilding a → IsSoughtIn rows l') → IsKnown z rows l'
@@ -477,13 +561,13 @@ known_by z rows v s choice l a l' (reaches_next q n) w c t b i k sought = let o 
 known_by z rows v s choice l a l' (walks_on o) w c t b i k sought = let u = key_of_word-below (v (name.Least l.candidate)) in let f : built_in v l.candidate ≤ z.cells = w.each (name.Least l.candidate) k.below.candidate in assumption (k, u, f)
 known_by z rows v s choice l a l' (puts_before y o) w c t b i k sought = let u = key_of_word-below (v (name.Least l.candidate)) in assumption (k, u)
 known_by z rows v s choice l a l' (reads_before y o) w c t b i k sought = comes_before z rows l w.sized (key_of_word (v (name.Least l.candidate))) (key_of_word-below (v (name.Least l.candidate))) k
-known_by z rows v s choice l a l' (sees_pending j x y) w c t b i k sought = let u : x < z.cells = entry z rows v l w j (pend.Pending x) k.below.row k.activity y in assumption (k, u)
-known_by z rows v s choice l a l' (sees_stamped j x version next y n) w c t b i k sought = let u = entry z rows v l w j (pend.Stamped x version) k.below.row k.activity y in look_marks z rows l w.sized j x version next n k.ranges k.below k.remembered k.activity k.gathered (lists_of z _ l.rebalance k.activity k.rebalance) u.0 u.1
+known_by z rows v s choice l a l' (sees_pending j x y) w c t b i k sought = let u : x < z.cells = entry z rows v l.row w j (pend.Pending x) k.below.row k.activity y in assumption (k, u)
+known_by z rows v s choice l a l' (sees_stamped j x version next y n) w c t b i k sought = let u = entry z rows v l.row w j (pend.Stamped x version) k.below.row k.activity y in look_marks z rows l w.sized j x version next n k.ranges k.below k.remembered k.activity k.gathered (lists_of z _ l.rebalance k.activity k.rebalance) u.0 u.1
 known_by z rows v s choice l a l' (sees_neither j next y n) w c t b i k sought = next_look z rows l w.sized (j + 1) next n k.ranges k.below (omega (arith, k.remembered)) (omega (arith, k.remembered, k.activity)) k.gathered (lists_of z _ l.rebalance k.activity k.rebalance)
 known_by z rows v s choice l a l' (is_gone_by next y n) w c t b i k sought = next_look z rows l w.sized (l.looked + 1) next n k.ranges k.below (omega (arith, k.remembered)) (omega (arith, k.remembered, k.ranges.looked)) k.gathered (lists_of z _ l.rebalance k.activity k.rebalance)
 known_by z rows v s choice l a l' loads_to_help w c t b i k sought = let u = w.each name.Clock tt in assumption (k, u)
 known_by z rows v s choice l a l' (helps next y n) w c t b i k sought = look_marks z rows l w.sized l.looked l.saw l.helping next n k.ranges k.below k.remembered k.ranges.looked k.gathered (lists_of z _ l.rebalance k.activity k.rebalance) k.ranges.saw k.ranges.helping
-known_by z rows v s choice l a l' (finds_stamped x version next y n) w c t b i k sought = let u = entry z rows v l w l.looked (pend.Stamped x version) k.below.row k.ranges.looked y in look_marks z rows l w.sized l.looked x version next n k.ranges k.below k.remembered k.ranges.looked k.gathered (lists_of z _ l.rebalance k.activity k.rebalance) u.0 u.1
+known_by z rows v s choice l a l' (finds_stamped x version next y n) w c t b i k sought = let u = entry z rows v l.row w l.looked (pend.Stamped x version) k.below.row k.ranges.looked y in look_marks z rows l w.sized l.looked x version next n k.ranges k.below k.remembered k.ranges.looked k.gathered (lists_of z _ l.rebalance k.activity k.rebalance) u.0 u.1
 known_by z rows v s choice l a l' (finds_other next y n) w c t b i k sought = next_look z rows l w.sized (l.looked + 1) next n k.ranges k.below (omega (arith, k.remembered)) (omega (arith, k.remembered, k.ranges.looked)) k.gathered (lists_of z _ l.rebalance k.activity k.rebalance)
 known_by z rows v s choice l a l' (first_leads x y) w c t b i k sought =
     let u : x < z.cells = linked_below (v (link_name l.row l.link)) x z.cells y (link_below z rows v w l.row l.link k.ranges.link k.below.row) in
@@ -521,7 +605,7 @@ known_by z rows v s choice l a l' (takes_cell y) w c t b i k sought = let u = ro
 known_by z rows v s choice l a l' (takes_full y) w c t b i k sought = is_balancing z rows l w.sized k.ranges k.below k.remembered k.gathered
 known_by z rows v s choice l a l' (announces_full y) w c t b i k sought = is_balancing z rows l w.sized k.ranges k.below k.remembered k.gathered
 known_by z rows v s choice l a l' loads_clock w c t b i k sought = let u = w.each name.Clock tt in assumption (k, u)
-known_by z rows v s choice l a l' (is_stamped version y) w c t b i k sought = let u = (entry z rows v l w s (pend.Stamped l.cell version) k.below.row t y).1 in assumption (k, u)
+known_by z rows v s choice l a l' (is_stamped version y) w c t b i k sought = let u = (entry z rows v l.row w s (pend.Stamped l.cell version) k.below.row t y).1 in assumption (k, u)
 known_by z rows v s choice l a l' (stamps_full y) w c t b i k sought = is_balancing z rows l w.sized k.ranges k.below k.remembered k.gathered
 known_by z rows v s choice l a l' (tidies own e) w c t b i k sought = is_tidying z rows l w.sized k.ranges k.below k.remembered k.gathered
 known_by z rows v s choice l a l' stores_version w c t b i k sought = let o : 0 ≤ z.cells = omega arith in assumption (k, o)
@@ -548,39 +632,75 @@ known_by z rows v s choice l a l' (ends_at_clock dn) w c t b i k sought = is_ref
 known_by z rows v s choice l a l' (epoch_is_spent e nd) w c t b i k sought = is_refusing z rows l w.sized Spent tt k.ranges k.below k.remembered k.gathered
 known_by z rows v s choice l a l' (ends_at_epoch dn) w c t b i k sought = is_refusing z rows l w.sized Done tt k.ranges k.below k.remembered k.gathered
 known_by z rows v s choice l a l' (finds_infant seat e) w c t b i k sought = let o : seat < z.seats = subst (IsRowState z) e (w.each (name.State l.row) k.below.row) in assumption (k, o)
-known_by z rows v s choice l a l' (finds_leader count e o) w c t b i k sought = let u : count ≤ MOST_GROUP = omega (arith, o) in assumption (k, u)
+known_by z rows v s choice l a l' (finds_leader count e) w c t b i k sought = let u = IsState-state_of (v (name.State l.row)) _ e in assumption (k, u)
+known_by z rows v s choice l a l' (finds_follower leader e) w c t b i k sought = let o : leader < rows = subst (IsStateBelow rows) e (w.led (name.State l.row) k.below.row) in assumption (k, o)
 known_by z rows v s choice l a l' (finds_other_state nd) w c t b i k sought = tries_anew z rows l w.sized k.ranges k.below k.remembered k.gathered
 known_by z rows v s choice l a l' (ends_at_state dn) w c t b i k sought = is_refusing z rows l w.sized Done tt k.ranges k.below k.remembered k.gathered
 known_by z rows v s choice l a l' (engages e) w c t b i k sought = let u : 0 ≤ MOST_GROUP = omega arith in assumption (k, u)
-known_by z rows v s choice l a l' (marks_link count e) w c t b i k sought =
+known_by z rows v s choice l a l' (marks_link count q e o) w c t b i k sought =
+    let f = follows_known z rows (row_linked (link_of (v (name.Next l.row)))) l (row_below rows (link_of (v (name.Next l.row))) (w.led (name.Next l.row) k.below.row)) k.ranges k.below in
+    assumption (f, k)
+known_by z rows v s choice l a l' (marks_last count e o) w c t b i k sought =
     let u : 1 ≤ MOST_GROUP = omega arith in
     let f = follows_known z rows (row_linked (link_of (v (name.Next l.row)))) l (row_below rows (link_of (v (name.Next l.row))) (w.led (name.Next l.row) k.below.row)) k.ranges k.below in
     assumption (f, k, u)
-known_by z rows v s choice l a l' (marks_led count e) w c t b i k sought =
+known_by z rows v s choice l a l' (marks_led count next d n) w c t b i k sought =
     let f = follows_known z rows (row_linked (link_of (v (name.Next l.row)))) l (row_below rows (link_of (v (name.Next l.row))) (w.led (name.Next l.row) k.below.row)) k.ranges k.below in
-    assumption (f, k)
-known_by z rows v s choice l a l' (decides count m e o) w c t b i k sought = assumption k
+    counted_known z rows count (followed_by (row_linked (link_of (v (name.Next l.row)))) l) next n f.0 f.1 k.remembered k.gathered k.rebalance.marks k.rebalance.needed k.rebalance.gathered
+known_by z rows v s choice l a l' (decides count m next e n) w c t b i k sought = counted_known z rows _ l next n k.ranges k.below k.remembered k.gathered k.rebalance.marks k.rebalance.needed k.rebalance.gathered
 known_by z rows v s choice l a l' (decides_not count nd) w c t b i k sought = tries_anew z rows l w.sized k.ranges k.below k.remembered k.gathered
 known_by z rows v s choice l a l' (ends_undecided count dn) w c t b i k sought = is_refusing z rows l w.sized Done tt k.ranges k.below k.remembered k.gathered
-known_by z rows v s choice l a l' freezes_count w c t b i k sought = let o : 0 < z.seats = omega (arith, w.sized.some_seats) in let n : 0 ≤ 0 = omega arith in assumption (k, o, n, All-nil (IsMark z))
+known_by z rows v s choice l a l' counts_next w c t b i k sought = let u = counted_few (goes_along (count_of (v (name.Count (row_after l)))) l) in assumption (k, u)
+known_by z rows v s choice l a l' (claims_next e) w c t b i k sought = assumption k
+known_by z rows v s choice l a l' (next_is_infant seat e) w c t b i k sought = let o : seat < z.seats = subst (IsRowState z) e (w.each (name.State (row_after l)) (after_below rows l (omega (arith, w.sized.some_rows)) k.below)) in assumption (k, o)
+known_by z rows v s choice l a l' (next_leads count e) w c t b i k sought = to_group_known z rows l k.ranges k.below k.remembered k.gathered k.rebalance.needed k.rebalance.gathered
+known_by z rows v s choice l a l' (claims_not nd) w c t b i k sought = tries_anew z rows l w.sized k.ranges k.below k.remembered k.gathered
+known_by z rows v s choice l a l' (ends_unclaimed dn) w c t b i k sought = is_refusing z rows l w.sized Done tt k.ranges k.below k.remembered k.gathered
+known_by z rows v s choice l a l' marks_next w c t b i k sought =
+    let o = row_below rows (link_of (v (name.Next (row_after l)))) (w.led (name.Next (row_after l)) (after_below rows l (omega (arith, w.sized.some_rows)) k.below)) in
+    to_group_known z rows (with_second (row_linked (link_of (v (name.Next (row_after l))))) l) (assumption k) (assumption (k.below, o)) k.remembered k.gathered k.rebalance.needed k.rebalance.gathered
+known_by z rows v s choice l a l' (begins_left q e d) w c t b i k sought =
+    let zero_key : 0 < KEY_END = omega arith in
+    let o : q < rows = omega (arith, c, e) in
+    assumption (k, zero_key, o)
+known_by z rows v s choice l a l' (takes_leader q e) w c t b i k sought =
+    let o = before_below rows l.rebalance.before (omega (arith, w.sized.some_rows)) k.below.rebalance.before in
+    let u = key_of_word-below (v (name.Least (row_or_first l.rebalance.before))) in
+    is_balancing z rows (moved_left (at_before l.rebalance.before (least_in v (row_or_first l.rebalance.before)) l)) w.sized (assumption (k.ranges, u)) (assumption (k.below, o)) k.remembered k.gathered
+known_by z rows v s choice l a l' (reaches_leader e) w c t b i k sought =
+    let o = before_below rows l.rebalance.before (omega (arith, w.sized.some_rows)) k.below.rebalance.before in
+    is_balancing z rows (moved_left l) w.sized (assumption k.ranges) (assumption (k.below, o)) k.remembered k.gathered
+known_by z rows v s choice l a l' (leads_left q e d) w c t b i k sought =
+    let o = before_below rows l.rebalance.before (omega (arith, w.sized.some_rows)) k.below.rebalance.before in
+    let u = linked_in_range rows q (link_of (v (name.Next (row_or_first l.rebalance.before)))) (w.led (name.Next (row_or_first l.rebalance.before)) o) e in
+    assumption (k, u)
+known_by z rows v s choice l a l' (walks_left o) w c t b i k sought = let u = key_of_word-below (v (name.Least l.candidate)) in assumption (k, u)
+known_by z rows v s choice l a l' (head_follows nd e) w c t b i k sought = tries_anew z rows l w.sized k.ranges k.below k.remembered k.gathered
+known_by z rows v s choice l a l' (ends_at_head dn) w c t b i k sought = is_refusing z rows l w.sized Done tt k.ranges k.below k.remembered k.gathered
+known_by z rows v s choice l a l' (none_is_left nd e) w c t b i k sought = tries_anew z rows l w.sized k.ranges k.below k.remembered k.gathered
+known_by z rows v s choice l a l' (ends_at_none dn) w c t b i k sought = is_refusing z rows l w.sized Done tt k.ranges k.below k.remembered k.gathered
+known_by z rows v s choice l a l' (passes_left nd o) w c t b i k sought = tries_anew z rows l w.sized k.ranges k.below k.remembered k.gathered
+known_by z rows v s choice l a l' (ends_past dn) w c t b i k sought = is_refusing z rows l w.sized Done tt k.ranges k.below k.remembered k.gathered
+known_by z rows v s choice l a l' freezes_count w c t b i k sought =
+    let o : 0 < z.seats = omega (arith, w.sized.some_seats) in
+    let n : length l.rebalance.marks ≤ entries_before z l.rebalance + 0 = omega (arith, k.rebalance.marks) in
+    assumption (k, o, n)
 known_by z rows v s choice l a l' (sees_idle j e) w c t b i k sought = let u : IsEntry z (Some pend.Idle) = tt in assumption (k, u)
-known_by z rows v s choice l a l' (sees_unstamped j x e) w c t b i k sought = let u : x < z.cells = entry z rows v l w j (pend.Pending x) k.below.row k.activity e in assumption (k, u)
+known_by z rows v s choice l a l' (sees_unstamped j x e) w c t b i k sought = let u : x < z.cells = entry z rows v l.rebalance.hand w j (pend.Pending x) k.below.rebalance.hand k.activity e in assumption (k, u)
 known_by z rows v s choice l a l' (remembers j x version e o) w c t b i k sought =
-    let u = entry z rows v l w j (pend.Stamped x version) k.below.row k.activity e in
-    let m = marked z l.rebalance.marks x version k.ranges.rebalance.marks u.0 u.1 in
-    let n = one_more_mark j x version l.rebalance.marks k.rebalance.marks in
+    let u = entry z rows v l.rebalance.hand w j (pend.Stamped x version) k.below.rebalance.hand k.activity e in
+    let m = group_marked z l.rebalance.marks (place_in_group z l.rebalance x) version k.ranges.rebalance.marks (place_few z l.rebalance x u.0) u.1 in
+    let n = one_more_mark z l.rebalance j (place_in_group z l.rebalance x) version k.rebalance.marks in
     assumption (k, m, n, o)
-known_by z rows v s choice l a l' (remembers_last j x version e o) w c t b i k sought =
-    let u = entry z rows v l w j (pend.Stamped x version) k.below.row k.activity e in
-    let m = marked z l.rebalance.marks x version k.ranges.rebalance.marks u.0 u.1 in
-    let n : length (l.rebalance.marks ++ mark_of x version ∷ []) ≤ z.seats = omega (arith, one_more_mark j x version l.rebalance.marks k.rebalance.marks, k.activity) in
-    let y : 0 < z.seats = omega (arith, w.sized.some_seats) in
-    let none : 0 ≤ 0 = omega arith in
-    assumption (k, m, n, y, none, All-nil IsVersion)
-known_by z rows v s choice l a l' (sees_frozen j e o) w c t b i k sought = let n : length l.rebalance.marks ≤ j + 1 = omega (arith, k.rebalance.marks) in assumption (k, n, o)
-known_by z rows v s choice l a l' (sees_frozen_last j e o) w c t b i k sought = looks_at_scans z rows l w.sized k.ranges k.below k.remembered k.gathered k.rebalance.gathered (omega (arith, k.rebalance.marks, k.activity))
-known_by z rows v s choice l a l' (freezes_entry j e o) w c t b i k sought = let n : length l.rebalance.marks ≤ j + 1 = omega (arith, k.rebalance.marks) in assumption (k, n, o)
-known_by z rows v s choice l a l' (freezes_last j e o) w c t b i k sought = looks_at_scans z rows l w.sized k.ranges k.below k.remembered k.gathered k.rebalance.gathered (omega (arith, k.rebalance.marks, k.activity))
+known_by z rows v s choice l a l' (remembers_last j x version next e o y) w c t b i k sought =
+    let u = entry z rows v l.rebalance.hand w j (pend.Stamped x version) k.below.rebalance.hand k.activity e in
+    let m = group_marked z l.rebalance.marks (place_in_group z l.rebalance x) version k.ranges.rebalance.marks (place_few z l.rebalance x u.0) u.1 in
+    let n : length (marking z x version l).rebalance.marks ≤ entries_before z l.rebalance + z.seats = omega (arith, one_more_mark z l.rebalance j (place_in_group z l.rebalance x) version k.rebalance.marks, k.activity) in
+    froze_row z rows (marking z x version l) next y w.sized (assumption (k.ranges, m)) (assumption k.below) k.remembered k.gathered k.rebalance.gathered k.rebalance.needed (omega (arith, n, entries_few z l.rebalance)) (λ r f. entries_ahead z l r _ (k.group.hand tt) (k.group.apart tt) f n)
+known_by z rows v s choice l a l' (sees_frozen j e o) w c t b i k sought = let n : length l.rebalance.marks ≤ entries_before z l.rebalance + (j + 1) = omega (arith, k.rebalance.marks) in assumption (k, n, o)
+known_by z rows v s choice l a l' (sees_frozen_last j next e o y) w c t b i k sought = froze_last z rows l next j y w.sized k.activity k.ranges k.below k.remembered k.gathered k.rebalance.gathered k.rebalance.needed k.rebalance.marks (k.group.hand tt) (k.group.apart tt)
+known_by z rows v s choice l a l' (freezes_entry j e o) w c t b i k sought = let n : length l.rebalance.marks ≤ entries_before z l.rebalance + (j + 1) = omega (arith, k.rebalance.marks) in assumption (k, n, o)
+known_by z rows v s choice l a l' (freezes_last j next e o y) w c t b i k sought = froze_last z rows l next j y w.sized k.activity k.ranges k.below k.remembered k.gathered k.rebalance.gathered k.rebalance.needed k.rebalance.marks (k.group.hand tt) (k.group.apart tt)
 known_by z rows v s choice l a l' (looks_again j e) w c t b i k sought = assumption k
 known_by z rows v s choice l a l' (sees_quiet j e o) w c t b i k sought = let n : length l.rebalance.needed ≤ j + 1 = omega (arith, k.rebalance.needed) in assumption (k, n, o)
 known_by z rows v s choice l a l' (sees_quiet_last j e o) w c t b i k sought = begins_to_take z rows l k.ranges k.below k.remembered k.gathered k.rebalance.marks (omega (arith, k.rebalance.needed, k.activity))
@@ -595,26 +715,26 @@ known_by z rows v s choice l a l' (finds_drawn_last j version e o) w c t b i k s
 known_by z rows v s choice l a l' (finds_no_scan j e o) w c t b i k sought = let n : length l.rebalance.needed ≤ j + 1 = omega (arith, k.rebalance.needed) in assumption (k, n, o)
 known_by z rows v s choice l a l' (finds_no_scan_last j e o) w c t b i k sought = begins_to_take z rows l k.ranges k.below k.remembered k.gathered k.rebalance.marks (omega (arith, k.rebalance.needed, k.activity))
 known_by z rows v s choice l a l' (take_leads x e) w c t b i k sought =
-    let u : x < z.cells = linked_below (v (link_name l.row l.link)) x z.cells e (link_below z rows v w l.row l.link k.ranges.link k.below.row) in
+    let u : x < z.cells = linked_below (v (link_name l.rebalance.hand l.link)) x z.cells e (link_below z rows v w l.rebalance.hand l.link k.ranges.link k.below.rebalance.hand) in
     let o = min-le_right (l.walked + 1) z.cells in
-    let m = unmarked_in_range (IsMark z) x l.rebalance.marks k.ranges.rebalance.marks in
-    let n : length (unmarked x l.rebalance.marks) ≤ z.seats = omega (arith, unmarked_few x l.rebalance.marks, k.rebalance.marks) in
+    let m = unmarked_in_range (IsGroupMark z) (place_in_group z l.rebalance x) l.rebalance.marks k.ranges.rebalance.marks in
+    let n : length (unmarked (place_in_group z l.rebalance x) l.rebalance.marks) ≤ MOST_GROUP * z.seats = omega (arith, unmarked_few (place_in_group z l.rebalance x) l.rebalance.marks, k.rebalance.marks) in
     assumption (k, u, o, m, n)
-known_by z rows v s choice l a l' (takes_left x e y) w c t b i k sought = left_known z rows l x y k.ranges k.below k.remembered k.gathered k.rebalance
-known_by z rows v s choice l a l' (takes_no_more e y) w c t b i k sought = seeks_rows z rows l w.sized k.ranges k.below k.remembered k.gathered k.rebalance.marks k.rebalance.needed k.rebalance.gathered
-known_by z rows v s choice l a l' takes_key w c t b i k sought = let u = key_of_word-below (v (name.Key l.row l.place)) in assumption (k, u)
-known_by z rows v s choice l a l' takes_version w c t b i k sought = let u = version_in_hand (v (name.Version l.row l.place)) (w.each (name.Version l.row l.place) (k.below.row, k.ranges.place)) in assumption (k, u)
+known_by z rows v s choice l a l' (takes_left x e y o) w c t b i k sought = left_known z rows l x y k.ranges k.below k.remembered k.gathered k.rebalance
+known_by z rows v s choice l a l' (takes_no_more next e y f) w c t b i k sought = row_gathered z rows l next f k.group.built k.group.fits w.sized k.ranges k.below k.remembered k.gathered k.rebalance.marks k.rebalance.needed k.rebalance.gathered
+known_by z rows v s choice l a l' takes_key w c t b i k sought = let u = key_of_word-below (v (name.Key l.rebalance.hand l.place)) in assumption (k, u)
+known_by z rows v s choice l a l' takes_version w c t b i k sought = let u = version_in_hand (v (name.Version l.rebalance.hand l.place)) (w.each (name.Version l.rebalance.hand l.place) (k.below.rebalance.hand, k.ranges.place)) in assumption (k, u)
 known_by z rows v s choice l a l' keeps_taken w c t b i k sought =
-    let u = value_in_range (v (name.Value l.row l.place)) (w.each (name.Value l.row l.place) (k.below.row, k.ranges.place)) in
-    let m = kept_more z (value_of_word (v (name.Value l.row l.place))) l u k.ranges k.rebalance.gathered in
+    let u = value_in_range (v (name.Value l.rebalance.hand l.place)) (w.each (name.Value l.rebalance.hand l.place) (k.below.rebalance.hand, k.ranges.place)) in
+    let m = kept_more z (value_of_word (v (name.Value l.rebalance.hand l.place))) l u k.ranges k.rebalance.gathered in
     assumption (k, m)
-known_by z rows v s choice l a l' takes_left_key w c t b i k sought = let u = key_of_word-below (v (name.Key l.row l.place)) in assumption (k, u)
-known_by z rows v s choice l a l' (keeps_left x y) w c t b i k sought =
-    let u = value_in_range (v (name.Value l.row l.place)) (w.each (name.Value l.row l.place) (k.below.row, k.ranges.place)) in
-    let m = kept_more z (value_of_word (v (name.Value l.row l.place))) l u k.ranges k.rebalance.gathered in
-    left_known z rows (keeping z (value_of_word (v (name.Value l.row l.place))) l) x y m.0 (assumption k) k.remembered k.gathered (record { marks = k.rebalance.marks; needed = k.rebalance.needed; gathered = m.1; taken = λ t. absurd t })
-known_by z rows v s choice l a l' (keeps_no_more y) w c t b i k sought =
-    let u = value_in_range (v (name.Value l.row l.place)) (w.each (name.Value l.row l.place) (k.below.row, k.ranges.place)) in
-    let n = kept_more z (value_of_word (v (name.Value l.row l.place))) l u k.ranges k.rebalance.gathered in
-    seeks_rows z rows (keeping z (value_of_word (v (name.Value l.row l.place))) l) w.sized n.0 (assumption k) k.remembered k.gathered k.rebalance.marks k.rebalance.needed n.1
+known_by z rows v s choice l a l' takes_left_key w c t b i k sought = let u = key_of_word-below (v (name.Key l.rebalance.hand l.place)) in assumption (k, u)
+known_by z rows v s choice l a l' (keeps_left x y o) w c t b i k sought =
+    let u = value_in_range (v (name.Value l.rebalance.hand l.place)) (w.each (name.Value l.rebalance.hand l.place) (k.below.rebalance.hand, k.ranges.place)) in
+    let m = kept_more z (value_of_word (v (name.Value l.rebalance.hand l.place))) l u k.ranges k.rebalance.gathered in
+    left_known z rows (keeping z (value_of_word (v (name.Value l.rebalance.hand l.place))) l) x y m.0 (assumption k) k.remembered k.gathered (record { marks = k.rebalance.marks; needed = k.rebalance.needed; gathered = m.1; taken = λ t. absurd t })
+known_by z rows v s choice l a l' (keeps_no_more next y f) w c t b i k sought =
+    let u = value_in_range (v (name.Value l.rebalance.hand l.place)) (w.each (name.Value l.rebalance.hand l.place) (k.below.rebalance.hand, k.ranges.place)) in
+    let n = kept_more z (value_of_word (v (name.Value l.rebalance.hand l.place))) l u k.ranges k.rebalance.gathered in
+    row_gathered z rows (keeping z (value_of_word (v (name.Value l.rebalance.hand l.place))) l) next f k.group.built k.group.fits w.sized n.0 (assumption k) k.remembered k.gathered k.rebalance.marks k.rebalance.needed n.1
 known_by z rows v s choice l a l' _ w c t b i k sought = assumption k

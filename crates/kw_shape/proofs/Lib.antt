@@ -1,9 +1,10 @@
 pub mod NextCalls
 pub mod Counts
 pub mod EpochKeeps
-mod Offered
+pub mod Hands
 pub mod RelyRows
 pub mod AfterBuilding
+pub mod Engaging
 pub mod RowsKeep
 pub mod VisitsKeep
 pub mod Walking
@@ -13,7 +14,6 @@ pub mod NewWords
 pub mod InTable
 pub mod ShapeKeeps
 pub mod LinkedRows
-pub mod LinkedWords
 pub mod ShapeOpens
 mod BalancesKeep
 pub mod InfantsStay
@@ -29,11 +29,11 @@ pub mod SoughtKeep
 pub mod NursedKeep
 pub mod BuildEvents
 pub mod ReplaceEvent
-pub mod InfantsFit
 pub mod Planned
 pub mod PlansKeep
 pub mod MayReplace
 pub mod NewRowsKeyed
 pub mod KeyedKeeps
+pub mod RestKeep
 pub mod KeysKeep
 pub mod Worlds

@@ -1,68 +1,79 @@
--- What an event leaves of the rows that were linked: no fate of theirs changes but that of a full
--- row that is replaced, which is dead from now on, and that of a dead row that nobody may name and
--- that is freed. And which words of them an event may change that takes, writes or links new rows.
+-- What an event leaves of the rows that were linked: no fate of theirs changes but those of rows of
+-- a group that is replaced, which are dead from now on, and that of a dead row that nobody may name
+-- and that is freed. And which words of them an event may change that takes, writes or links new
+-- rows.
 --
 -- The rows on which such an event acts are free, or retired and named by nobody, or infants of the
--- seat, or the full row, or the row before that one.
-use Rattle.std.proofs.Common.{ℕ, ◌≡◌, ◌≢◌, ◌⊎◌, inl, inr, ◌<◌, ◌≤◌, true, false, Option, Some, None, arith, refl, sym, ◌∙◌, ap, subst, length, slice_get, zero, suc, ◌+◌}
+-- seat, or rows of its group, or the row before that.
+use Rattle.std.proofs.Common.{ℕ, ◌≡◌, ◌<◌, ◌≤◌, true, Option, Some, ◌∙◌, ◌≢◌, ◌⊎◌, inl, inr, false, None, arith, refl, sym, ap, subst, length, slice_get, zero, suc, ◌+◌}
+use Rattle.kw_words.specs.declared.count.Count.{Count as Counted}
+use Rattle.kw_words.specs.declared.layout.Name.TheVariants as name
+use Rattle.kw_words.specs.declared.pend.Pend.TheVariants as pend
+use Rattle.kw_words.specs.Count.{count_of}
+use Rattle.kw_words.specs.Pend.{pend_word}
+use Rattle.kw_rows.specs.Rows.{Chain, IsBefore, WasLinked}
+use Rattle.kw_world.specs.declared.activity.Activity.{Activity}
+use Rattle.kw_world.specs.declared.activity.rebalance.freeze.Freeze.TheVariants as Freeze
+use Rattle.kw_world.specs.declared.activity.insert.Insert.TheVariants as Insert
+use Rattle.kw_world.specs.declared.activity.look.Look.TheVariants as Look
+use Rattle.kw_world.specs.declared.activity.put.Put.TheVariants as Put
+use Rattle.kw_world.specs.declared.activity.rebalance.Rebalance.TheVariants as Rebalance
+use Rattle.kw_world.specs.declared.activity.rebalance.write.Write.TheVariants as Write
+use Rattle.kw_world.specs.declared.event.Choice.{Choice}
+use Rattle.kw_world.specs.declared.local.Local.{Local}
+use Rattle.kw_world.specs.ListTransitions.{link_name}
+use Rattle.kw_world.specs.Sane.{IsCellBelow}
+use Rattle.kw_world.specs.Sizes.{Sizes}
+use Rattle.kw_world.specs.Step.{word}
+use Rattle.kw_core.specs.Run.{Run}
+use Rattle.kw_core.specs.Stages.{IsAtRow, IsHelp, IsInsSet, IsInsert, IsPastStart, IsPutClear, IsPutVersion}
+use Rattle.kw_core.specs.Words.{Words, built_in, given_in, least_in}
+use Rattle.kw_core.proofs.Frame.{WritesKey, WritesOwnEntry, WritesValue, unwritten}
+use Rattle.kw_core.proofs.FreezeFrame.{ChangesCount, CountStep, FreezesEntry, count_asked, count_frozen, count_frozen_now, count_more, count_same, frozen_by, frozen_entry_lasts, given_by}
+use Rattle.kw_core.proofs.Happens.{Happens}
+use Rattle.kw_core.proofs.InfantFrames.{count_stays, entry_stays, key_stays, link_stays, row_in, row_stays, value_stays, version_stays}
+use Rattle.kw_shape.specs.Keyed.{list_row}
+use Rattle.kw_shape.specs.Shape.{HoldsKey, IsAtItsRow, IsKind, IsPutCall, Shape}
 use Rattle.std.proofs.lemmas.Bool.{cases_eq, cases_lt}
 use Rattle.kw_words.specs.declared.layout.Name.{Name}
-use Rattle.kw_words.specs.declared.layout.Name.TheVariants as name
 use Rattle.kw_words.specs.declared.state.State.TheVariants as state
 use Rattle.kw_words.specs.Layout.{IsWithin}
-use Rattle.kw_words.specs.Count.{count_of}
 use Rattle.kw_words.specs.Link.{link_of, link_word}
-use Rattle.kw_words.specs.Plain.{key_of_word, built_of_word}
+use Rattle.kw_words.specs.Plain.{built_of_word, key_of_word}
 use Rattle.kw_words.specs.State.{state_word}
 use Rattle.kw_words.proofs.LinkWords.{link_of-link_word}
 use Rattle.kw_rows.specs.Events.{IsIn}
+use Rattle.kw_rows.specs.Group.{Group}
 use Rattle.kw_rows.specs.Ledger.{Dead, Fate, Free, IsDead, IsFresh, IsHeld, IsLive, Ledger, Live}
-use Rattle.kw_rows.specs.Rows.{WasLinked, IsBefore, Chain}
 use Rattle.kw_rows.specs.RowState as row
 use Rattle.kw_rows.proofs.Chains.{IsLink, leads_live}
 use Rattle.kw_rows.proofs.Framed.{retired_no}
 use Rattle.kw_rows.proofs.Lists.{in_or_not}
-use Rattle.kw_world.specs.declared.activity.Activity.{Activity}
-use Rattle.kw_world.specs.declared.activity.rebalance.freeze.Freeze.TheVariants as Freeze
-use Rattle.kw_world.specs.declared.activity.put.Put.TheVariants as Put
-use Rattle.kw_world.specs.declared.activity.rebalance.Rebalance.TheVariants as Rebalance
 use Rattle.kw_world.specs.declared.activity.rebalance.replace.Replace.TheVariants as Replace
 use Rattle.kw_world.specs.declared.activity.rebalance.seek.Seek.TheVariants as Seek
-use Rattle.kw_world.specs.declared.activity.rebalance.write.Write.TheVariants as Write
-use Rattle.kw_world.specs.declared.event.Choice.{Choice}
-use Rattle.kw_world.specs.declared.local.Local.{Local}
 use Rattle.kw_world.specs.ReplaceTransitions.{replaced_link}
 use Rattle.kw_world.specs.SeekTransitions.{infant}
-use Rattle.kw_world.specs.Sizes.{Sizes}
-use Rattle.kw_world.specs.Step.{word}
 use Rattle.kw_world.specs.Transition.{row_linked}
 use Rattle.kw_world.specs.WriteTransitions.{unmarked_link}
 use Rattle.kw_core.specs.Ledger as ledger
-use Rattle.kw_core.specs.Ledger.{fate_dead, fate_free, fate_live}
-use Rattle.kw_core.specs.Run.{Run}
-use Rattle.kw_core.specs.Words.{Words, least_in, built_in}
+use Rattle.kw_core.specs.Ledger.{fate_dead, fate_free, fate_live, group_of}
 use Rattle.kw_core.proofs.Building.{IsBuilding}
 use Rattle.kw_core.proofs.Fates.{fate_of_freed, fate_of_full, fate_of_given, fate_of_new, fate_of_taken, fate_stays, none_freed, none_replaced, none_taken}
-use Rattle.kw_core.proofs.Frame.{unwritten}
-use Rattle.kw_core.proofs.FreezeFrame.{CountStep, count_asked, count_frozen, count_frozen_now, count_more, count_same}
-use Rattle.kw_core.proofs.Happens.{Happens}
-use Rattle.kw_core.proofs.InfantFrames.{count_stays, row_in, row_stays}
 use Rattle.kw_shape.proofs.BuildEvents.{dead_by_state, free_by_state, least_word, word_says}
-use Rattle.kw_shape.proofs.InfantsFit.{row_link}
-use Rattle.kw_shape.proofs.InfantsRely.{linked_not_infant, no_state, index_of_row}
-use Rattle.kw_shape.proofs.InfantsStay.{infant_at, is_state}
+use Rattle.kw_shape.proofs.Hands.{HasGroup, group_balances, group_fresh, group_live, hand_of_group, of_group, retire_balances, retire_of_group, view_led}
+use Rattle.kw_shape.proofs.InfantsStay.{infant_at, is_state, row_link}
+use Rattle.kw_shape.proofs.InfantsRely.{index_of_row, linked_not_infant, no_state}
 use Rattle.kw_shape.proofs.ReplaceEvent.{exchanged_head}
 use Rattle.kw_shape.specs.Balances.{Balances}
-use Rattle.kw_shape.specs.Infants.{GivesBack, Writes, HasAtHand, Infants, IsInfantOf, IsNursed, Nursing, nursing_of}
+use Rattle.kw_shape.specs.Hands.{HasHand, IsOfGroup, IsToRetire}
+use Rattle.kw_shape.specs.Infants.{GivesBack, HasAtHand, Infants, IsInfantOf, IsNursed, Nursing, Writes, nursing_of}
 use Rattle.kw_shape.specs.RowsIn.{has_frozen, has_mark, rows_in}
 use Rattle.kw_shape.specs.Search.{Search}
-use Rattle.kw_shape.specs.Shape.{Shape, HoldsKey, IsAtItsRow, IsPutCall, IsKind}
 use Rattle.kw_shape.specs.Sought.{Sought}
 use Rattle.std.proofs.lemmas.Option.{same_Some}
 use Rattle.kw_model.specs.declared.call.Call.{Call}
-use Rattle.kw_model.specs.declared.call.Call.TheVariants.{Put, Del, Get, Scan}
+use Rattle.kw_model.specs.declared.call.Call.TheVariants.{Del, Get, Put, Scan}
 use Rattle.kw_world.specs.Calls.{first_key, is_scan}
-use Rattle.kw_core.specs.Stages.{IsAtRow, IsPastStart}
 use Rattle.kw_shape.specs.ReachedRows.{IsReached, is_first, is_next}
 
 -- a row that was linked is not free
@@ -150,7 +161,22 @@ frozen_on v v' q (count_same e) x = ap (λ w. has_frozen (count_of w)) e ∙ x
 frozen_on v v' q (count_more c e f) x = ap has_frozen f ∙ sym (ap has_frozen e) ∙ x
 frozen_on v v' q (count_frozen c e f) x = ap has_frozen f
 
--- the row at hand is one that the seat took and has
+-- a seat may name each row of its group
+pub group_named : (z : Sizes) (r : Run) → Shape z r → (t : ℕ) (k : Local) → slice_get r.world.locals t ≡ Some k → HasGroup k.activity → (q : ℕ) → IsOfGroup k q → IsFresh r.ledger.rows t q
+group_named z r i t k g x q o = let b = i.balances t k g in group_fresh (rows_in (word z r.world)) r.ledger.rows i.rows.closed t k (b.fresh (group_balances k.activity x)) (subst (Group (rows_in (word z r.world)) r.ledger.rows) (view_led k.activity k x) b.group) q o
+
+-- and each row that it has still to retire
+pub retire_fresh : (z : Sizes) (r : Run) → Shape z r → (t : ℕ) (k : Local) → slice_get r.world.locals t ≡ Some k → (q : ℕ) → IsToRetire k.activity k q → IsFresh r.ledger.rows t q
+retire_fresh z r i t k g q x = which (retire_of_group k.activity k q b.hands x)
+  where
+    b : Balances (word z r.world) r.ledger.rows t k.activity k
+    b = i.balances t k g
+
+    which : IsOfGroup k q → IsFresh r.ledger.rows t q
+    which (inl e) = subst (IsFresh r.ledger.rows t) (sym e) (b.fresh (retire_balances k.activity k q x))
+    which (inr e) = b.along q (retire_balances k.activity k q x) e
+
+-- the infant at hand is one that the seat took and has
 hand_nursed : (n : Nursing) (l : Local) → HasAtHand n → IsNursed n l l.rebalance.at
 hand_nursed GivesBack l x = omega arith
 hand_nursed Writes l x = tt
@@ -165,9 +191,28 @@ module _ {z : Sizes} {r r' : Run} {s : ℕ} {choice : Choice} {l l' : Local} whe
   pub search_at : (a : Activity) → Happens z r r' s choice l l' a → Shape z r → Search (word z r.world) r.ledger.rows s a l
   search_at a h i = subst (λ b. Search (word z r.world) r.ledger.rows s b l) h.activity (i.search s l h.knows)
 
-  -- what it knows of the row that it rebalances
+  -- what it knows of the rows that it rebalances
   pub balance_at : (a : Activity) → Happens z r r' s choice l l' a → Shape z r → Balances (word z r.world) r.ledger.rows s a l
   balance_at a h i = subst (λ b. Balances (word z r.world) r.ledger.rows s b l) h.activity (i.balances s l h.knows)
+
+  -- it may name each row of its group
+  pub named_of_group : (a : Activity) → HasGroup a → Happens z r r' s choice l l' a → Shape z r → (q : ℕ) → IsOfGroup l q → IsFresh r.ledger.rows s q
+  named_of_group a x h i q o = group_named z r i s l h.knows (subst HasGroup (sym h.activity) x) q o
+
+  -- and each that it has still to retire
+  pub named_to_retire : (a : Activity) → Happens z r r' s choice l l' a → Shape z r → (q : ℕ) → IsToRetire a l q → IsFresh r.ledger.rows s q
+  named_to_retire a h i q x = retire_fresh z r i s l h.knows q (subst (λ b. IsToRetire b l q) (sym h.activity) x)
+
+  -- so it may name the row at hand
+  group_hand : (a : Activity) → HasHand a → HasGroup a → Happens z r r' s choice l l' a → Shape z r → IsFresh r.ledger.rows s l.rebalance.hand
+  group_hand a x y h i = named_of_group a y h i l.rebalance.hand (hand_of_group l ((balance_at a h i).hands x))
+
+  pub named_hand : (a : Activity) → HasHand a → Happens z r r' s choice l l' a → Shape z r → IsFresh r.ledger.rows s l.rebalance.hand
+  named_hand (Activity.Rebalance (Rebalance.Replace Replace.Number)) x h i = named_to_retire (Activity.Rebalance (Rebalance.Replace Replace.Number)) h i l.rebalance.hand (inl refl)
+  named_hand (Activity.Rebalance (Rebalance.Replace Replace.Retire)) x h i = named_to_retire (Activity.Rebalance (Rebalance.Replace Replace.Retire)) h i l.rebalance.hand (inl refl)
+  named_hand (Activity.Rebalance (Rebalance.Freeze _)) x h i = group_hand (Activity.Rebalance (Rebalance.Freeze _)) x tt h i
+  named_hand (Activity.Rebalance (Rebalance.Gather _)) x h i = group_hand (Activity.Rebalance (Rebalance.Gather _)) x tt h i
+  named_hand a x h i = absurd x
 
   -- its infant at hand
   pub hand_infant : (a : Activity) → Happens z r r' s choice l l' a → Shape z r → HasAtHand (nursing_of a) → IsInfantOf r.ledger.rows s (infant l)
@@ -185,7 +230,7 @@ module _ {z : Sizes} {r r' : Run} {s : ℕ} {choice : Choice} {l l' : Local} whe
   not_sought : Happens z r r' s choice l l' (Activity.Rebalance (Rebalance.Seek Seek.Take)) → Shape z r → word z r.world (name.State l.rebalance.sought) ≡ state_word state.Free → (q : ℕ) → WasLinked r.ledger.rows q → q ≢ l.rebalance.sought
   not_sought h i e q k f = linked_not_free r.ledger.rows q k (free_by_state (rows_in (word z r.world)) r.ledger.rows q i.rows.states (word_says _ state.Free tt (ap (λ x. word z r.world (name.State x)) f ∙ e)))
 
-  -- Where the full row is replaced.
+  -- Where the group is replaced.
 
   -- the link that is exchanged is found unmarked
   pub found_open : Happens z r r' s choice l l' (Activity.Rebalance (Rebalance.Replace Replace.Exchange)) → Shape z r → word z r.world (replaced_link l.rebalance.before) ≡ link_word (unmarked_link (Some l.row)) → link_of (word z r.world (replaced_link l.rebalance.before)) ≡ Some (unmarked_link (Some l.row))
@@ -205,6 +250,10 @@ module _ {z : Sizes} {r r' : Run} {s : ℕ} {choice : Choice} {l l' : Local} whe
   full_live h i e =
       let f = found_open h i e in
       leads_live (rows_in (word z r.world)) r.ledger.rows i.rows.chain l.rebalance.before l.row (link_live h i l.rebalance.before refl f) (exchanged_head (word z r.world) l.rebalance.before ∙ ap row_linked f)
+
+  -- and so is each row of the group
+  pub rows_live : Happens z r r' s choice l l' (Activity.Rebalance (Rebalance.Replace Replace.Exchange)) → Shape z r → word z r.world (replaced_link l.rebalance.before) ≡ link_word (unmarked_link (Some l.row)) → (q : ℕ) → IsOfGroup l q → IsLive r.ledger.rows q
+  rows_live h i e q o = group_live (rows_in (word z r.world)) r.ledger.rows i.rows.chain l (full_live h i e) (balance_at (Activity.Rebalance (Rebalance.Replace Replace.Exchange)) h i).group q o
 
   -- Where a retired row is freed.
 
@@ -250,18 +299,18 @@ module _ {z : Sizes} {r r' : Run} {s : ℕ} {choice : Choice} {l l' : Local} whe
   linked_fate (Activity.Rebalance (Rebalance.Seek Seek.GiveBack)) h i q k = inl (fate_stays (Activity.Rebalance (Rebalance.Seek Seek.GiveBack)) h q (not_hand (Activity.Rebalance (Rebalance.Seek Seek.GiveBack)) h i tt q k))
   linked_fate (Activity.Rebalance (Rebalance.Replace Replace.Exchange)) h i q k = which (cases_eq (word z r.world (replaced_link l.rebalance.before)) (link_word (unmarked_link (Some l.row))))
     where
-      acts : (q ≡ l.row → ⊥) → (q ≡ l.row) ⊎ IsIn l.rebalance.taken q → ⊥
+      acts : (IsIn (group_of l) q → ⊥) → IsIn (group_of l) q ⊎ IsIn l.rebalance.taken q → ⊥
       acts d (inl c) = d c
       acts d (inr c) = not_taken h i q k c
 
-      here : word z r.world (replaced_link l.rebalance.before) ≡ link_word (unmarked_link (Some l.row)) → (q ≡ l.row) ⊎ (q ≡ l.row → ⊥) →
+      here : word z r.world (replaced_link l.rebalance.before) ≡ link_word (unmarked_link (Some l.row)) → IsIn (group_of l) q ⊎ (IsIn (group_of l) q → ⊥) →
           BecomesNow r.ledger.rows r'.ledger.rows s (length r.history.log) q
-      here e (inl c) = inr (inl (subst (λ x. GoesNow r.ledger.rows r'.ledger.rows s (length r.history.log) x) (sym c) (record { live = full_live h i e; fate = fate_of_full h e })))
+      here e (inl c) = inr (inl (record { live = rows_live h i e q (of_group l q c); fate = fate_of_full h e q c }))
       here e (inr d) = inl (fate_stays (Activity.Rebalance (Rebalance.Replace Replace.Exchange)) h q (acts d))
 
       which : (word z r.world (replaced_link l.rebalance.before) ≡ link_word (unmarked_link (Some l.row))) ⊎ (word z r.world (replaced_link l.rebalance.before) ≡ link_word (unmarked_link (Some l.row)) → ⊥) →
           BecomesNow r.ledger.rows r'.ledger.rows s (length r.history.log) q
-      which (inl e) = here e (cases_eq q l.row)
+      which (inl e) = here e (in_or_not (group_of l) q)
       which (inr d) = inl (ap (λ (g : ledger.Ledger). g.rows.fates q) (none_replaced h d))
   linked_fate a h i q k = inl (fate_stays a h q (λ c. c))
 
@@ -335,22 +384,19 @@ module _ {z : Sizes} {r r' : Run} {s : ℕ} {choice : Choice} {l l' : Local} whe
       which (inr d) = inl (linked_same r.ledger.rows r'.ledger.rows q (fate_stays (Activity.Rebalance (Rebalance.Seek Seek.GiveBack)) h q d) k)
   linked_before (Activity.Rebalance (Rebalance.Replace Replace.Exchange)) h i q k = which (cases_eq (word z r.world (replaced_link l.rebalance.before)) (link_word (unmarked_link (Some l.row))))
     where
-      full : WasLinked r.ledger.rows l.row
-      full = fresh_linked r.ledger.rows s l.row ((balance_at (Activity.Rebalance (Rebalance.Replace Replace.Exchange)) h i).fresh tt)
-
-      acts : (q ≡ l.row → ⊥) → (IsIn l.rebalance.taken q → ⊥) → (q ≡ l.row) ⊎ IsIn l.rebalance.taken q → ⊥
+      acts : (IsIn (group_of l) q → ⊥) → (IsIn l.rebalance.taken q → ⊥) → IsIn (group_of l) q ⊎ IsIn l.rebalance.taken q → ⊥
       acts d n (inl c) = d c
       acts d n (inr c) = n c
 
-      here : word z r.world (replaced_link l.rebalance.before) ≡ link_word (unmarked_link (Some l.row)) → (q ≡ l.row) ⊎ (q ≡ l.row → ⊥) → IsIn l.rebalance.taken q ⊎ (IsIn l.rebalance.taken q → ⊥) →
+      here : word z r.world (replaced_link l.rebalance.before) ≡ link_word (unmarked_link (Some l.row)) → IsIn (group_of l) q ⊎ (IsIn (group_of l) q → ⊥) → IsIn l.rebalance.taken q ⊎ (IsIn l.rebalance.taken q → ⊥) →
           WasLinked r.ledger.rows q ⊎ ComesNow (word z r.world) r.ledger.rows r'.ledger.rows s (length r.history.log) l (Activity.Rebalance (Rebalance.Replace Replace.Exchange)) q
-      here e (inl c) y = inl (subst (WasLinked r.ledger.rows) (sym c) full)
+      here e (inl c) y = inl (fresh_linked r.ledger.rows s q (named_of_group (Activity.Rebalance (Rebalance.Replace Replace.Exchange)) tt h i q (of_group l q c)))
       here e (inr d) (inl y) = let p = index_of_row l.rebalance.taken q y in inr (record { replaces = refl; won = e; taken = y; infant = (infants_at (Activity.Rebalance (Rebalance.Replace Replace.Exchange)) h i).owned p.0 q tt p.1; fate = fate_of_new h e q y d })
       here e (inr d) (inr n) = inl (linked_same r.ledger.rows r'.ledger.rows q (fate_stays (Activity.Rebalance (Rebalance.Replace Replace.Exchange)) h q (acts d n)) k)
 
       which : (word z r.world (replaced_link l.rebalance.before) ≡ link_word (unmarked_link (Some l.row))) ⊎ (word z r.world (replaced_link l.rebalance.before) ≡ link_word (unmarked_link (Some l.row)) → ⊥) →
           WasLinked r.ledger.rows q ⊎ ComesNow (word z r.world) r.ledger.rows r'.ledger.rows s (length r.history.log) l (Activity.Rebalance (Rebalance.Replace Replace.Exchange)) q
-      which (inl e) = here e (cases_eq q l.row) (in_or_not l.rebalance.taken q)
+      which (inl e) = here e (in_or_not (group_of l) q) (in_or_not l.rebalance.taken q)
       which (inr d) = inl (linked_same r.ledger.rows r'.ledger.rows q (ap (λ (g : ledger.Ledger). g.rows.fates q) (none_replaced h d)) k)
   linked_before a h i q k = inl (linked_same r.ledger.rows r'.ledger.rows q (fate_stays a h q (λ c. c)) k)
 
@@ -369,15 +415,15 @@ module _ {z : Sizes} {r r' : Run} {s : ℕ} {choice : Choice} {l l' : Local} whe
 
   -- The words.
 
-  -- an event that takes, writes or links new rows, or retires the full one, writes no word of a row
-  -- that was linked but a state, and the link of the row before
+  -- an event that takes, writes or links new rows, or retires one of the group, writes no word of a
+  -- row that was linked but a state, and the link of the row before
   pub built_leaves : (a : Activity) → IsBuilding a → Happens z r r' s choice l l' a → Shape z r → (n : Name) (q : ℕ) → WasLinked r.ledger.rows q → row_in n ≡ Some q → IsWithin z.seats z.cells r.world.rows n → is_state n ≡ false → (a ≡ Activity.Rebalance (Rebalance.Replace Replace.Exchange) → l.rebalance.before ≡ Some q → ⊥) →
       word z r'.world n ≡ word z r.world n
   built_leaves (Activity.Rebalance (Rebalance.Seek Seek.Take)) b h i n q k e o f c = unwritten (Activity.Rebalance (Rebalance.Seek Seek.Take)) h n o (no_state l.rebalance.sought n f)
   built_leaves (Activity.Rebalance (Rebalance.Seek Seek.Reclaim)) b h i n q k e o f c = unwritten (Activity.Rebalance (Rebalance.Seek Seek.Reclaim)) h n o (no_state l.rebalance.sought n f)
   built_leaves (Activity.Rebalance (Rebalance.Seek Seek.GiveBack)) b h i n q k e o f c = unwritten (Activity.Rebalance (Rebalance.Seek Seek.GiveBack)) h n o (no_state (infant l) n f)
   built_leaves (Activity.Rebalance (Rebalance.Replace Replace.Normalise)) b h i n q k e o f c = unwritten (Activity.Rebalance (Rebalance.Replace Replace.Normalise)) h n o (no_state (infant l) n f)
-  built_leaves (Activity.Rebalance (Rebalance.Replace Replace.Retire)) b h i n q k e o f c = unwritten (Activity.Rebalance (Rebalance.Replace Replace.Retire)) h n o (no_state l.row n f)
+  built_leaves (Activity.Rebalance (Rebalance.Replace Replace.Retire)) b h i n q k e o f c = unwritten (Activity.Rebalance (Rebalance.Replace Replace.Retire)) h n o (no_state l.rebalance.hand n f)
   built_leaves (Activity.Rebalance (Rebalance.Replace Replace.Exchange)) b h i n q k e o f c = row_stays (Activity.Rebalance (Rebalance.Replace Replace.Exchange)) h n q e o (c refl)
   built_leaves (Activity.Rebalance (Rebalance.Write Write.Count)) b h i n q k e o f c = row_stays (Activity.Rebalance (Rebalance.Write Write.Count)) h n q e o (not_hand (Activity.Rebalance (Rebalance.Write Write.Count)) h i tt q k)
   built_leaves (Activity.Rebalance (Rebalance.Write Write.Least)) b h i n q k e o f c = row_stays (Activity.Rebalance (Rebalance.Write Write.Least)) h n q e o (not_hand (Activity.Rebalance (Rebalance.Write Write.Least)) h i tt q k)
@@ -463,3 +509,70 @@ along v g c (suc n) p q o f a b m = which (λ y k u d i. along v g c n y q k u d
 -- a row of the list is reached
 pub live_reached : (v : Words) (g : Ledger) → Chain (rows_in v) g → (q : ℕ) → IsLive g q → IsReached v q
 live_reached v g c q a = along v g c (least_in v q) c.first q (omega (arith, c.first_least)) (omega (arith, c.first_least)) c.first_live a (is_first c.first c.leads)
+
+-- Which words of a row that was linked an event may change, whatever its activity: as in `Frame`
+-- and `FreezeFrame` of `kw_core`, but said of rows that were linked. Nobody writes such a row anew,
+-- so a word is written where a put, a reader that helps or a seat that freezes does so.
+
+module _ {z : Sizes} {r r' : Run} {s : ℕ} {choice : Choice} {l l' : Local} where
+  -- a key, a value, a version is kept, unless the seat stores it there
+  pub linked_key : (a : Activity) → Happens z r r' s choice l l' a → Shape z r → (q c : ℕ) → WasLinked r.ledger.rows q → c < z.cells → (WritesKey a → q ≡ l.row → c ≡ l.cell → ⊥) → word z r'.world (name.Key q c) ≡ word z r.world (name.Key q c)
+  linked_key (Activity.Put Put.Key) h i q c k o f = key_stays (Activity.Put Put.Key) h q c (was_below z r i q k) o (λ x. f tt x.0 x.1)
+  linked_key (Activity.Rebalance (Rebalance.Write (Write.Key j))) h i q c k o f = key_stays (Activity.Rebalance (Rebalance.Write (Write.Key j))) h q c (was_below z r i q k) o (λ x. not_hand (Activity.Rebalance (Rebalance.Write (Write.Key j))) h i tt q k x.0)
+  linked_key a h i q c k o f = key_stays a h q c (was_below z r i q k) o (λ x. x)
+
+  pub linked_value : (a : Activity) → Happens z r r' s choice l l' a → Shape z r → (q c : ℕ) → WasLinked r.ledger.rows q → c < z.cells → (WritesValue a → q ≡ l.row → c ≡ l.cell → ⊥) → word z r'.world (name.Value q c) ≡ word z r.world (name.Value q c)
+  linked_value (Activity.Put Put.Value) h i q c k o f = value_stays (Activity.Put Put.Value) h q c (was_below z r i q k) o (λ x. f tt x.0 x.1)
+  linked_value (Activity.Rebalance (Rebalance.Write (Write.Value j))) h i q c k o f = value_stays (Activity.Rebalance (Rebalance.Write (Write.Value j))) h q c (was_below z r i q k) o (λ x. not_hand (Activity.Rebalance (Rebalance.Write (Write.Value j))) h i tt q k x.0)
+  linked_value a h i q c k o f = value_stays a h q c (was_below z r i q k) o (λ x. x)
+
+  pub linked_version : (a : Activity) → Happens z r r' s choice l l' a → Shape z r → (q c : ℕ) → WasLinked r.ledger.rows q → c < z.cells → (IsPutVersion a → q ≡ l.row → c ≡ l.cell → ⊥) → word z r'.world (name.Version q c) ≡ word z r.world (name.Version q c)
+  linked_version (Activity.Put Put.Version) h i q c k o f = version_stays (Activity.Put Put.Version) h q c (was_below z r i q k) o (λ x. f tt x.0 x.1)
+  linked_version (Activity.Rebalance (Rebalance.Write (Write.Version j))) h i q c k o f = version_stays (Activity.Rebalance (Rebalance.Write (Write.Version j))) h q c (was_below z r i q k) o (λ x. not_hand (Activity.Rebalance (Rebalance.Write (Write.Version j))) h i tt q k x.0)
+  linked_version a h i q c k o f = version_stays a h q c (was_below z r i q k) o (λ x. x)
+
+  -- a link between cells is kept, unless the seat stores it or exchanges it
+  pub linked_link : (a : Activity) → Happens z r r' s choice l l' a → Shape z r → (q : ℕ) (at : Option ℕ) → WasLinked r.ledger.rows q → IsCellBelow z.cells at → (IsInsSet a → q ≡ l.row → at ≡ Some l.cell → ⊥) → (IsInsert a → q ≡ l.row → at ≡ l.link → ⊥) →
+      word z r'.world (link_name q at) ≡ word z r.world (link_name q at)
+  linked_link (Activity.Insert Insert.Set) h i q at k o f g = link_stays (Activity.Insert Insert.Set) h q at (was_below z r i q k) o (λ x. f tt x.0 x.1)
+  linked_link (Activity.Insert Insert.Exchange) h i q at k o f g = link_stays (Activity.Insert Insert.Exchange) h q at (was_below z r i q k) o (λ x. g tt x.0 x.1)
+  linked_link (Activity.Rebalance (Rebalance.Write Write.First)) h i q at k o f g = link_stays (Activity.Rebalance (Rebalance.Write Write.First)) h q at (was_below z r i q k) o (λ x. not_hand (Activity.Rebalance (Rebalance.Write Write.First)) h i tt q k x.0)
+  linked_link (Activity.Rebalance (Rebalance.Write (Write.After j))) h i q at k o f g = link_stays (Activity.Rebalance (Rebalance.Write (Write.After j))) h q at (was_below z r i q k) o (λ x. not_hand (Activity.Rebalance (Rebalance.Write (Write.After j))) h i tt q k x.0)
+  linked_link a h i q at k o f g = link_stays a h q at (was_below z r i q k) o (λ x. x)
+
+  -- an entry is kept, unless the seat writes its own there, helps, or freezes it
+  pub linked_entry : (a : Activity) → Happens z r r' s choice l l' a → Shape z r → (q t : ℕ) → WasLinked r.ledger.rows q → t < z.seats → (WritesOwnEntry a → q ≡ l.row → t ≡ s → ⊥) → (IsHelp a → q ≡ l.row → t ≡ l.looked → ⊥) → (FreezesEntry t a → q ≡ l.rebalance.hand → ⊥) →
+      word z r'.world (name.Pend q t) ≡ word z r.world (name.Pend q t)
+  linked_entry (Activity.Look Look.Help) h i q t k o f g e = entry_stays (Activity.Look Look.Help) h q t (was_below z r i q k) o (λ x. g tt x.0 x.1)
+  linked_entry (Activity.Put Put.Announce) h i q t k o f g e = entry_stays (Activity.Put Put.Announce) h q t (was_below z r i q k) o (λ x. f tt x.0 x.1)
+  linked_entry (Activity.Put Put.Stamp) h i q t k o f g e = entry_stays (Activity.Put Put.Stamp) h q t (was_below z r i q k) o (λ x. f tt x.0 x.1)
+  linked_entry (Activity.Put Put.Clear) h i q t k o f g e = entry_stays (Activity.Put Put.Clear) h q t (was_below z r i q k) o (λ x. f tt x.0 x.1)
+  linked_entry (Activity.Rebalance (Rebalance.Freeze (Freeze.Entry j))) h i q t k o f g e = entry_stays (Activity.Rebalance (Rebalance.Freeze (Freeze.Entry j))) h q t (was_below z r i q k) o (λ x. e x.1 x.0)
+  linked_entry (Activity.Rebalance (Rebalance.Write (Write.Entry j))) h i q t k o f g e = entry_stays (Activity.Rebalance (Rebalance.Write (Write.Entry j))) h q t (was_below z r i q k) o (λ x. not_hand (Activity.Rebalance (Rebalance.Write (Write.Entry j))) h i tt q k x.0)
+  linked_entry a h i q t k o f g e = entry_stays a h q t (was_below z r i q k) o (λ x. x)
+
+  -- a count is kept, unless the seat adds to it or freezes it
+  pub linked_count_word : (a : Activity) → Happens z r r' s choice l l' a → Shape z r → (q : ℕ) → WasLinked r.ledger.rows q → (ChangesCount a → q ≡ list_row a l → ⊥) → word z r'.world (name.Count q) ≡ word z r.world (name.Count q)
+  linked_count_word (Activity.Put Put.Add) h i q k f = count_stays (Activity.Put Put.Add) h q (was_below z r i q k) (λ x. f tt x)
+  linked_count_word (Activity.Rebalance (Rebalance.Freeze Freeze.Count)) h i q k f = count_stays (Activity.Rebalance (Rebalance.Freeze Freeze.Count)) h q (was_below z r i q k) (λ x. f tt x)
+  linked_count_word (Activity.Rebalance (Rebalance.Write Write.Count)) h i q k f = count_stays (Activity.Rebalance (Rebalance.Write Write.Count)) h q (was_below z r i q k) (not_hand (Activity.Rebalance (Rebalance.Write Write.Count)) h i tt q k)
+  linked_count_word a h i q k f = count_stays a h q (was_below z r i q k) (λ x. x)
+
+  -- What lasts.
+
+  -- no count falls
+  pub linked_given : (a : Activity) → Happens z r r' s choice l l' a → Shape z r → (q : ℕ) → WasLinked r.ledger.rows q → given_in (word z r.world) q ≤ given_in (word z r'.world) q
+  linked_given a h i q k = given_by (word z r.world) (word z r'.world) q (linked_count a h i q k)
+
+  -- a frozen count stays frozen
+  pub linked_frozen : (a : Activity) → Happens z r r' s choice l l' a → Shape z r → (q : ℕ) (c : Counted) → WasLinked r.ledger.rows q → count_of (word z r.world (name.Count q)) ≡ Some c → c.frozen ≡ true → (d : Counted) × (count_of (word z r'.world (name.Count q)) ≡ Some d) × (d.frozen ≡ true)
+  linked_frozen a h i q c k e f = frozen_by (word z r.world) (word z r'.world) q c (linked_count a h i q k) e f
+
+  -- a frozen entry stays frozen, unless its seat clears it
+  pub linked_frozen_entry : (a : Activity) → Happens z r r' s choice l l' a → Shape z r → (q t : ℕ) → WasLinked r.ledger.rows q → t < z.seats → (IsPutClear a → q ≡ l.row → t ≡ s → ⊥) → word z r.world (name.Pend q t) ≡ pend_word pend.Frozen → word z r'.world (name.Pend q t) ≡ pend_word pend.Frozen
+  linked_frozen_entry (Activity.Put Put.Announce) h i q t k o f e = frozen_entry_lasts (Activity.Put Put.Announce) tt h q t (was_below z r i q k) o e
+  linked_frozen_entry (Activity.Put Put.Stamp) h i q t k o f e = frozen_entry_lasts (Activity.Put Put.Stamp) tt h q t (was_below z r i q k) o e
+  linked_frozen_entry (Activity.Look Look.Help) h i q t k o f e = frozen_entry_lasts (Activity.Look Look.Help) tt h q t (was_below z r i q k) o e
+  linked_frozen_entry (Activity.Rebalance (Rebalance.Freeze (Freeze.Entry j))) h i q t k o f e = frozen_entry_lasts (Activity.Rebalance (Rebalance.Freeze (Freeze.Entry j))) tt h q t (was_below z r i q k) o e
+  linked_frozen_entry (Activity.Put Put.Clear) h i q t k o f e = linked_entry (Activity.Put Put.Clear) h i q t k o (λ x u w. f tt u w) (λ x u w. x) (λ x u. x) ∙ e
+  linked_frozen_entry a h i q t k o f e = linked_entry a h i q t k o (λ x u w. x) (λ x u w. x) (λ x u. x) ∙ e

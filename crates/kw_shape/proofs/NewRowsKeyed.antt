@@ -2,7 +2,7 @@
 --
 -- A new row has no entry that names a cell, and its links lead from cells that were written to
 -- such.
-use Rattle.std.proofs.Common.{ℕ, ◌≡◌, ◌+◌, ◌-◌, ◌<◌, ◌≤◌, ◌&&◌, All, Bool, true, false, List, Option, Some, None, nat_lt, nat_le, arith, refl, sym, ◌∙◌, ap, subst, count_by, get_or, if◌then◌else◌, length, slice_get, slice_index}
+use Rattle.std.proofs.Common.{ℕ, ◌≡◌, ◌+◌, ◌-◌, ◌<◌, ◌≤◌, ◌&&◌, All, Bool, true, false, List, Option, Some, None, nat_lt, nat_le, arith, refl, sym, ◌∙◌, ap, subst, count_by, get_or, if◌then◌else◌, length, slice_get}
 use Rattle.std.proofs.lemmas.List.Sums.{count_by-le-length}
 use Rattle.std.proofs.lemmas.Option.{same_Some, slice_get-get_or, slice_get_within}
 use Rattle.kw_words.specs.declared.layout.Name.TheVariants as name
@@ -14,12 +14,10 @@ use Rattle.kw_words.specs.Plain.{IsCell, built_of_word, cell_link_word, cell_of_
 use Rattle.kw_words.proofs.PendWords.{pend_of-pend_word}
 use Rattle.kw_words.proofs.PlainWords.{built_of_word-least_word, cell_of_link_word-cell_link_word, key_of_word-key_word}
 use Rattle.kw_cells.specs.declared.cell.Cell.{Cell}
-use Rattle.kw_cells.specs.Cuts.{end_of}
 use Rattle.kw_cells.proofs.Rising.{any_cell}
 use Rattle.kw_rows.specs.Events.{IsIn}
 use Rattle.kw_rows.specs.Ledger.{Fate, Ledger}
 use Rattle.kw_rows.specs.Rows as rows
-use Rattle.kw_rows.specs.Rows.{WasLinked}
 use Rattle.kw_world.specs.declared.activity.Activity.TheVariants as Activity
 use Rattle.kw_world.specs.declared.activity.rebalance.Rebalance.TheVariants as Rebalance
 use Rattle.kw_world.specs.declared.activity.rebalance.replace.Replace.TheVariants as Replace
@@ -41,9 +39,9 @@ use Rattle.kw_shape.specs.Infants.{Written}
 use Rattle.kw_shape.specs.Keyed.{HoldsCell, IsOfCell, Keyed, Reaches, is_there, leads_on}
 use Rattle.kw_shape.specs.RowsIn.{rows_in}
 use Rattle.kw_shape.specs.Shape.{Shape}
-use Rattle.kw_shape.proofs.InfantsFit.{infant_links, part_length, taken_below}
+use Rattle.kw_shape.proofs.Hands.{of_group}
+use Rattle.kw_shape.proofs.InfantsStay.{infant_links, taken_below, written_stays}
 use Rattle.kw_shape.proofs.InfantsRely.{linked_not_infant, index_of_row}
-use Rattle.kw_shape.proofs.InfantsStay.{written_stays}
 use Rattle.kw_shape.proofs.LinkedRows.{fresh_linked, infants_at, search_at}
 use Rattle.kw_shape.proofs.MayReplace.{has_start, is_plan, kept_below, kept_from, least_fits, least_of_new, may_replace}
 use Rattle.kw_shape.proofs.Planned.{cells_below, cells_from, cells_have}
@@ -143,13 +141,13 @@ module _ {z : Sizes} {r r' : Run} {s : ℕ} {choice : Choice} {l l' : Local} (h 
       fits = cells_have z.built l (is_plan h i) (λ c. c.key < KEY_END) (λ j d o. ((i.sane.locals s l h.knows).ranges.rebalance.kept j d o).0) k
 
       few : length (infant_cells (at_infant k l)) ≤ z.cells
-      few = omega (arith, part_length (end_of l.rebalance.kept l.rebalance.starts k - slice_index l.rebalance.starts k) (slice_index l.rebalance.starts k) l.rebalance.kept, (i.sane.locals s l h.knows).ranges.rebalance.few)
+      few = (i.sane.locals s l h.knows).ranges.rebalance.fits k (omega (arith, has_start h i k q e))
 
       least : least_in (word z r'.world) q ≡ least_in (word z r.world) q
       least = ap key_of_word (row_stays (Activity.Rebalance (Rebalance.Replace Replace.Exchange)) h (name.Least q) q refl below apart)
 
       fate : r'.ledger.rows.fates q ≡ fate_live (word z r.world) (length r.history.log) q (r.ledger.rows.fates q)
-      fate = fate_of_new h won q m (λ c. linked_not_infant r.ledger.rows s q (subst (WasLinked r.ledger.rows) (sym c) (may_replace h i).linked) ((infants_at (Activity.Rebalance (Rebalance.Replace Replace.Exchange)) h i).owned k q tt e))
+      fate = fate_of_new h won q m (λ c. linked_not_infant r.ledger.rows s q ((may_replace h i).linked q (of_group l q c)) ((infants_at (Activity.Rebalance (Rebalance.Replace Replace.Exchange)) h i).owned k q tt e))
 
       held : All (λ c. rows.HoldsKey (rows_in (word z r'.world)) r'.ledger.rows q c.key) (infant_cells (at_infant k l))
       held j d o = record {

@@ -22,7 +22,7 @@ use Rattle.kw_world.specs.ReplaceTransitions.{first_infant}
 use Rattle.kw_world.specs.Sane.{IsCopy, IsGiven, IsHead, IsKnownWord, IsLinkBelow, IsLocal, IsLocalBelow, IsRowBelow, IsValueWord}
 use Rattle.kw_world.specs.Sizes.{Sizes}
 use Rattle.kw_world.specs.WriteTransitions.{first_cell_key, first_listed, has_key, infant_cells, infant_count, infant_least, infant_link, key_in, last_of_key, last_with, listed_after, listed_behind, row_or, unmarked_link, version_in}
-use Rattle.kw_shape.proofs.InfantsFit.{part_length, row_below, row_fits}
+use Rattle.kw_shape.proofs.InfantsStay.{part_length, row_below, row_fits}
 
 -- A cell of some in range.
 

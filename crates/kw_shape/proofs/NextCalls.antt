@@ -1,21 +1,30 @@
 -- What an arrow leaves of the call that a seat makes.
-use Rattle.std.proofs.Common.{ℕ, ◌≡◌, ◌⊎◌, inl, inr, ◌≤◌, true, false, Option, Some, None, arith, refl, sym, ◌∙◌}
+use Rattle.std.proofs.Common.{ℕ, ◌≡◌, ◌⊎◌, inl, inr, ◌*◌, ◌<◌, ◌==◌, ◌&&◌, Bool, true, false, Some, nat_lt, refl, sym, subst, slice_get, if◌then◌else◌, ◌≤◌, Option, None, arith, ◌∙◌}
+use Rattle.kw_world.specs.declared.activity.Activity.{Activity}
+use Rattle.kw_world.specs.declared.activity.put.Put.TheVariants as Put
+use Rattle.kw_world.specs.declared.answer.Answer.TheVariants.{Absent, Done, NoRows, Pairs, Spent, Stopped, Value}
+use Rattle.kw_world.specs.declared.event.Choice.{Choice}
+use Rattle.kw_world.specs.declared.event.Choice.TheVariants.{Begin, Go, Guess, Stop}
+use Rattle.kw_world.specs.declared.limits.TheConstants.{TIDY_SHARE}
+use Rattle.kw_world.specs.declared.local.Local.{Local}
+use Rattle.kw_world.specs.EngageTransitions.{to_rebalance}
+use Rattle.kw_world.specs.PutTransitions.{tidies_row}
+use Rattle.kw_world.specs.Sizes.{Sizes}
+use Rattle.kw_world.specs.Step.{word}
+use Rattle.kw_world.specs.Transition.{Outcome, leave}
+use Rattle.kw_core.specs.Run.{Run}
+use Rattle.kw_core.specs.Stages.{IsBalancing, IsDone, IsPublished, IsPutClear, IsUnderway}
+use Rattle.kw_core.specs.Words.{Words}
+use Rattle.kw_core.proofs.Arrows.{Arrow, IsNotOwn, NextLeftOver, NextLook, answers, begins, begins_left, below, builds, claims_next, claims_not, clears, clears_scan, clock_is_spent, clock_serves, counts_next, decides, decides_not, draws_for, ends_at_clock, ends_at_epoch, ends_at_head, ends_at_none, ends_at_state, ends_past, ends_scan, ends_unclaimed, ends_undecided, engages, enters_again, epoch_is_spent, epoch_serves, finds_drawn, finds_drawn_last, finds_follower, finds_infant, finds_leader, finds_no_scan, finds_no_scan_last, finds_normal, finds_other, finds_other_state, finds_stamped, first_ends, first_reaches, first_sees_none, freezes_count, freezes_entry, freezes_last, gathers_left_over, goes_to_left_over, head_follows, helps, helps_scan, inserts, inserts_at_first, inserts_behind, is_engaged, is_gone_by, is_stamped, keeps_left, keeps_no_more, keeps_taken, key_above, key_after, key_before, key_same, leads_left, leaves, left_over_gone_by, list_ends, lists, loads_clock, looks, looks_again, loses, marks_last, marks_led, marks_link, marks_next, next_is_infant, next_leads, none_is_left, normalises, normalises_next, passes_left, reaches_cell, reaches_leader, remembers, remembers_last, scans_on, sees_drawn, sees_drawn_last, sees_frozen, sees_frozen_last, sees_idle, sees_neither, sees_none, sees_quiet, sees_quiet_last, sees_stamped, sees_unstamped, settles_last, settles_scan, stamps, stamps_full, stores_after, stores_version, take_leads, takes_key, takes_leader, takes_left, takes_left_key, takes_no_more, takes_version, tidies, version_after, version_before, walks_left}
+use Rattle.kw_core.proofs.Grouping.{counted_goes, frozen_goes, gathered_goes}
+use Rattle.kw_core.proofs.Building.{IsBuilding}
+use Rattle.kw_core.proofs.BuiltNext.{built_goes}
+use Rattle.kw_core.proofs.Happens.{Happens}
+use Rattle.kw_shape.specs.Shape.{IsKind, IsPairs, Shape}
 use Rattle.kw_words.specs.declared.layout.Name.TheVariants as name
 use Rattle.kw_world.specs.declared.answer.Answer.{Answer}
 use Rattle.kw_world.specs.Answers.{answer_found}
-use Rattle.kw_world.specs.declared.answer.Answer.TheVariants.{Done, Value, Absent, Pairs, NoRows, Spent, Stopped}
-use Rattle.kw_world.specs.declared.activity.Activity.{Activity}
-use Rattle.kw_world.specs.declared.activity.put.Put.TheVariants as Put
-use Rattle.kw_world.specs.declared.local.Local.{Local}
-use Rattle.kw_world.specs.declared.event.Choice.{Choice}
-use Rattle.kw_world.specs.declared.event.Choice.TheVariants.{Begin, Go, Guess, Stop}
-use Rattle.kw_world.specs.Sizes.{Sizes}
 use Rattle.kw_world.specs.ScanTransitions.{answer_or_stopped}
-use Rattle.kw_core.specs.Stages.{IsBalancing, IsPublished, IsDone, IsPutClear, IsUnderway}
-use Rattle.kw_core.specs.Words.{Words}
-use Rattle.kw_shape.specs.Shape.{IsPairs, IsKind}
-use Rattle.kw_core.proofs.Arrows.{IsNotOwn, NextLook, looks, lists, NextLeftOver, goes_to_left_over, answers, ends_scan, scans_on, Arrow, begins, list_ends, key_above, left_over_gone_by, gathers_left_over, sees_stamped, sees_neither, is_gone_by, helps, finds_stamped, finds_other, clears_scan, loads_clock, stamps, is_stamped, stamps_full, stores_version, reaches_cell, sees_none, key_before, key_same, key_after, version_before, version_after, stores_after, inserts, loses, clears, leaves, builds, clock_serves, epoch_serves, finds_infant, finds_normal, finds_leader, normalises, engages, is_engaged, marks_link, marks_led, decides, freezes_count, sees_idle, sees_unstamped, remembers, remembers_last, sees_frozen, sees_frozen_last, freezes_entry, freezes_last, looks_again, sees_quiet, sees_quiet_last, helps_scan, sees_drawn, sees_drawn_last, draws_for, settles_scan, settles_last, finds_drawn, finds_drawn_last, finds_no_scan, finds_no_scan_last, take_leads, takes_left, takes_no_more, takes_key, takes_version, keeps_taken, takes_left_key, keeps_left, keeps_no_more, tidies, clock_is_spent, ends_at_clock, epoch_is_spent, ends_at_epoch, finds_other_state, ends_at_state, decides_not, ends_undecided, first_ends, first_reaches, first_sees_none, inserts_at_first, inserts_behind}
-use Rattle.kw_core.proofs.BuiltNext.{built_goes}
 use Rattle.kw_shape.proofs.AfterBuilding.{built_unpublished}
 
 -- the next cell is one of the same call
@@ -35,6 +44,13 @@ arrow_call z v s choice l a k (list_ends next e n) u = let x = cell_call _ _ n i
 arrow_call z v s choice l a k (key_above next e n) u = cell_call _ _ n
 arrow_call z v s choice l a k (left_over_gone_by next e n) u = cell_call _ _ n
 arrow_call z v s choice l a k (gathers_left_over next n) u = let x = cell_call _ _ n in (x.0, x.1)
+arrow_call z v s choice l a k (remembers_last j c version next e o n) u = let g = frozen_goes _ _ n in (g.call, g.number)
+arrow_call z v s choice l a k (sees_frozen_last j next e o n) u = let g = frozen_goes _ _ n in (g.call, g.number)
+arrow_call z v s choice l a k (freezes_last j next e o n) u = let g = frozen_goes _ _ n in (g.call, g.number)
+arrow_call z v s choice l a k (takes_no_more next e f n) u = let g = gathered_goes z _ _ n in (g.call, g.number)
+arrow_call z v s choice l a k (keeps_no_more next f n) u = let g = gathered_goes z _ _ n in (g.call, g.number)
+arrow_call z v s choice l a k (marks_led count next d n) u = let g = counted_goes _ _ _ n in (g.call, g.number)
+arrow_call z v s choice l a k (decides count m next e n) u = let g = counted_goes _ _ _ n in (g.call, g.number)
 arrow_call z v s choice l a k _ u = (refl, refl)
 
 -- a seat begins at most one call at an event
@@ -45,6 +61,13 @@ arrow_number z v s choice l a k (list_ends next e n) = let x = cell_call _ _ n i
 arrow_number z v s choice l a k (key_above next e n) = let x = cell_call _ _ n in omega (arith, x.1)
 arrow_number z v s choice l a k (left_over_gone_by next e n) = let x = cell_call _ _ n in omega (arith, x.1)
 arrow_number z v s choice l a k (gathers_left_over next n) = let x = cell_call _ _ n in omega (arith, x.1)
+arrow_number z v s choice l a k (remembers_last j c version next e o n) = let g = frozen_goes _ _ n in omega (arith, g.number)
+arrow_number z v s choice l a k (sees_frozen_last j next e o n) = let g = frozen_goes _ _ n in omega (arith, g.number)
+arrow_number z v s choice l a k (freezes_last j next e o n) = let g = frozen_goes _ _ n in omega (arith, g.number)
+arrow_number z v s choice l a k (takes_no_more next e f n) = let g = gathered_goes z _ _ n in omega (arith, g.number)
+arrow_number z v s choice l a k (keeps_no_more next f n) = let g = gathered_goes z _ _ n in omega (arith, g.number)
+arrow_number z v s choice l a k (marks_led count next d n) = let g = counted_goes _ _ _ n in omega (arith, g.number)
+arrow_number z v s choice l a k (decides count m next e n) = let g = counted_goes _ _ _ n in omega (arith, g.number)
 arrow_number z v s choice l a k _ = omega arith
 
 -- a put that has announced its cell goes on to its end, where the entry is its own
@@ -103,6 +126,11 @@ cleared_not_done NoRows choice p d = p
 cleared_not_done Spent choice p d = p
 cleared_not_done Stopped choice p d = p
 
+-- a seat that rebalances a row is not done
+balancing_not_done : (a : Activity) → IsBalancing a → IsDone a → ⊥
+balancing_not_done (Activity.Rebalance b) x d = d
+balancing_not_done _ x d = x
+
 -- only a put that has cleared its entry is done
 pub arrow_done : (z : Sizes) (v : Words) (s : ℕ) (choice : Choice) (l : Local) (a : Activity) (k : Local) → Arrow z v s choice l a k → IsKind a l → IsDone k.activity → IsPutClear a ⊎ (l.tidies ≡ true)
 arrow_done z v s choice l a k (builds b next y t) n d = inr ((built_goes z v choice l b next t).done d)
@@ -111,6 +139,17 @@ arrow_done z v s choice l a k (ends_at_clock e) n d = inr e
 arrow_done z v s choice l a k (ends_at_epoch e) n d = inr e
 arrow_done z v s choice l a k (ends_at_state e) n d = inr e
 arrow_done z v s choice l a k (ends_undecided count e) n d = inr e
+arrow_done z v s choice l a k (ends_unclaimed e) n d = inr e
+arrow_done z v s choice l a k (ends_at_head e) n d = inr e
+arrow_done z v s choice l a k (ends_at_none e) n d = inr e
+arrow_done z v s choice l a k (ends_past e) n d = inr e
+arrow_done z v s choice l a k (remembers_last j c version next e o x) n d = absurd (balancing_not_done _ (frozen_goes _ _ x).next d)
+arrow_done z v s choice l a k (sees_frozen_last j next e o x) n d = absurd (balancing_not_done _ (frozen_goes _ _ x).next d)
+arrow_done z v s choice l a k (freezes_last j next e o x) n d = absurd (balancing_not_done _ (frozen_goes _ _ x).next d)
+arrow_done z v s choice l a k (takes_no_more next e f x) n d = absurd (balancing_not_done _ (gathered_goes z _ _ x).next d)
+arrow_done z v s choice l a k (keeps_no_more next f x) n d = absurd (balancing_not_done _ (gathered_goes z _ _ x).next d)
+arrow_done z v s choice l a k (marks_led count next e x) n d = absurd (balancing_not_done _ (counted_goes _ _ _ x).next d)
+arrow_done z v s choice l a k (decides count m next e x) n d = absurd (balancing_not_done _ (counted_goes _ _ _ x).next d)
 arrow_done z v s choice l a k (clears_scan answer) n d = absurd (cleared_not_done answer choice n.1 d)
 arrow_done z v s choice l a k (first_ends next e x) n d = absurd (next_cell_done _ _ x d)
 arrow_done z v s choice l a k (list_ends next e x) n d = absurd (next_cell_done _ _ x d)
@@ -144,22 +183,21 @@ arrow_tidies z v s choice l a k (clock_serves q0) x e = inr (tt, e)
 arrow_tidies z v s choice l a k (epoch_serves q0) x e = inr (tt, e)
 arrow_tidies z v s choice l a k (finds_infant q0 q1) x e = inr (tt, e)
 arrow_tidies z v s choice l a k (finds_normal q0) x e = inr (tt, e)
-arrow_tidies z v s choice l a k (finds_leader q0 q1 q2) x e = inr (tt, e)
+arrow_tidies z v s choice l a k (finds_leader q0 q1) x e = inr (tt, e)
+arrow_tidies z v s choice l a k (finds_follower q0 q1) x e = inr (tt, e)
 arrow_tidies z v s choice l a k (normalises q0) x e = inr (tt, e)
 arrow_tidies z v s choice l a k (engages q0) x e = inr (tt, e)
 arrow_tidies z v s choice l a k (is_engaged q0) x e = inr (tt, e)
-arrow_tidies z v s choice l a k (marks_link q0 q1) x e = inr (tt, e)
-arrow_tidies z v s choice l a k (marks_led q0 q1) x e = inr (tt, e)
-arrow_tidies z v s choice l a k (decides q0 q1 q2 q3) x e = inr (tt, e)
+arrow_tidies z v s choice l a k (marks_link q0 q1 q2 q3) x e = inr (tt, e)
+arrow_tidies z v s choice l a k (marks_last q0 q1 q2) x e = inr (tt, e)
+arrow_tidies z v s choice l a k (marks_led count next d n) x e = let g = counted_goes _ _ _ n in inr (g.next, g.tidies ∙ e)
+arrow_tidies z v s choice l a k (decides count m next o n) x e = let g = counted_goes _ _ _ n in inr (g.next, g.tidies ∙ e)
 arrow_tidies z v s choice l a k freezes_count x e = inr (tt, e)
 arrow_tidies z v s choice l a k (sees_idle q0 q1) x e = inr (tt, e)
 arrow_tidies z v s choice l a k (sees_unstamped q0 q1 q2) x e = inr (tt, e)
 arrow_tidies z v s choice l a k (remembers q0 q1 q2 q3 q4) x e = inr (tt, e)
-arrow_tidies z v s choice l a k (remembers_last q0 q1 q2 q3 q4) x e = inr (tt, e)
 arrow_tidies z v s choice l a k (sees_frozen q0 q1 q2) x e = inr (tt, e)
-arrow_tidies z v s choice l a k (sees_frozen_last q0 q1 q2) x e = inr (tt, e)
 arrow_tidies z v s choice l a k (freezes_entry q0 q1 q2) x e = inr (tt, e)
-arrow_tidies z v s choice l a k (freezes_last q0 q1 q2) x e = inr (tt, e)
 arrow_tidies z v s choice l a k (looks_again q0 q1) x e = inr (tt, e)
 arrow_tidies z v s choice l a k (sees_quiet q0 q1 q2) x e = inr (tt, e)
 arrow_tidies z v s choice l a k (sees_quiet_last q0 q1 q2) x e = inr (tt, e)
@@ -174,14 +212,36 @@ arrow_tidies z v s choice l a k (finds_drawn_last q0 q1 q2 q3) x e = inr (tt, e)
 arrow_tidies z v s choice l a k (finds_no_scan q0 q1 q2) x e = inr (tt, e)
 arrow_tidies z v s choice l a k (finds_no_scan_last q0 q1 q2) x e = inr (tt, e)
 arrow_tidies z v s choice l a k (take_leads q0 q1) x e = inr (tt, e)
-arrow_tidies z v s choice l a k (takes_left q0 q1 q2) x e = inr (tt, e)
-arrow_tidies z v s choice l a k (takes_no_more q0 q1) x e = inr (tt, e)
+arrow_tidies z v s choice l a k (takes_left q0 q1 q2 q3) x e = inr (tt, e)
 arrow_tidies z v s choice l a k takes_key x e = inr (tt, e)
 arrow_tidies z v s choice l a k takes_version x e = inr (tt, e)
 arrow_tidies z v s choice l a k keeps_taken x e = inr (tt, e)
 arrow_tidies z v s choice l a k takes_left_key x e = inr (tt, e)
-arrow_tidies z v s choice l a k (keeps_left q0 q1) x e = inr (tt, e)
-arrow_tidies z v s choice l a k (keeps_no_more q0) x e = inr (tt, e)
+arrow_tidies z v s choice l a k (keeps_left q0 q1 q2) x e = inr (tt, e)
+arrow_tidies z v s choice l a k (remembers_last j c version next q0 q1 n) x e = let g = frozen_goes _ _ n in inr (g.next, g.tidies ∙ e)
+arrow_tidies z v s choice l a k (sees_frozen_last j next q0 q1 n) x e = let g = frozen_goes _ _ n in inr (g.next, g.tidies ∙ e)
+arrow_tidies z v s choice l a k (freezes_last j next q0 q1 n) x e = let g = frozen_goes _ _ n in inr (g.next, g.tidies ∙ e)
+arrow_tidies z v s choice l a k (takes_no_more next q0 q1 n) x e = let g = gathered_goes z _ _ n in inr (g.next, g.tidies ∙ e)
+arrow_tidies z v s choice l a k (keeps_no_more next q0 n) x e = let g = gathered_goes z _ _ n in inr (g.next, g.tidies ∙ e)
+arrow_tidies z v s choice l a k counts_next x e = inr (tt, e)
+arrow_tidies z v s choice l a k (claims_next q0) x e = inr (tt, e)
+arrow_tidies z v s choice l a k (next_is_infant q0 q1) x e = inr (tt, e)
+arrow_tidies z v s choice l a k (next_leads q0 q1) x e = inr (tt, e)
+arrow_tidies z v s choice l a k (normalises_next q0) x e = inr (tt, e)
+arrow_tidies z v s choice l a k marks_next x e = inr (tt, e)
+arrow_tidies z v s choice l a k (begins_left q0 q1 q2) x e = inr (tt, e)
+arrow_tidies z v s choice l a k (takes_leader q0 q1) x e = inr (tt, e)
+arrow_tidies z v s choice l a k (reaches_leader q0) x e = inr (tt, e)
+arrow_tidies z v s choice l a k (leads_left q0 q1 q2) x e = inr (tt, e)
+arrow_tidies z v s choice l a k (walks_left q0) x e = inr (tt, e)
+arrow_tidies z v s choice l a k (claims_not n) x e = let y : true ≡ false = sym e ∙ n in cc
+arrow_tidies z v s choice l a k (head_follows n q0) x e = let y : true ≡ false = sym e ∙ n in cc
+arrow_tidies z v s choice l a k (none_is_left n q0) x e = let y : true ≡ false = sym e ∙ n in cc
+arrow_tidies z v s choice l a k (passes_left n q0) x e = let y : true ≡ false = sym e ∙ n in cc
+arrow_tidies z v s choice l a k (ends_unclaimed q0) x e = inl tt
+arrow_tidies z v s choice l a k (ends_at_head q0) x e = inl tt
+arrow_tidies z v s choice l a k (ends_at_none q0) x e = inl tt
+arrow_tidies z v s choice l a k (ends_past q0) x e = inl tt
 arrow_tidies z v s choice l a k _ x e = absurd x
 
 -- what the next cell leaves of the bit
@@ -203,22 +263,21 @@ arrow_tidied z v s choice l a k (clock_serves q0) f e = inl tt
 arrow_tidied z v s choice l a k (epoch_serves q0) f e = inl tt
 arrow_tidied z v s choice l a k (finds_infant q0 q1) f e = inl tt
 arrow_tidied z v s choice l a k (finds_normal q0) f e = inl tt
-arrow_tidied z v s choice l a k (finds_leader q0 q1 q2) f e = inl tt
+arrow_tidied z v s choice l a k (finds_leader q0 q1) f e = inl tt
+arrow_tidied z v s choice l a k (finds_follower q0 q1) f e = inl tt
 arrow_tidied z v s choice l a k (normalises q0) f e = inl tt
 arrow_tidied z v s choice l a k (engages q0) f e = inl tt
 arrow_tidied z v s choice l a k (is_engaged q0) f e = inl tt
-arrow_tidied z v s choice l a k (marks_link q0 q1) f e = inl tt
-arrow_tidied z v s choice l a k (marks_led q0 q1) f e = inl tt
-arrow_tidied z v s choice l a k (decides q0 q1 q2 q3) f e = inl tt
+arrow_tidied z v s choice l a k (marks_link q0 q1 q2 q3) f e = inl tt
+arrow_tidied z v s choice l a k (marks_last q0 q1 q2) f e = inl tt
+arrow_tidied z v s choice l a k (marks_led count next d n) f e = inl (counted_goes _ _ _ n).next
+arrow_tidied z v s choice l a k (decides count m next o n) f e = inl (counted_goes _ _ _ n).next
 arrow_tidied z v s choice l a k freezes_count f e = inl tt
 arrow_tidied z v s choice l a k (sees_idle q0 q1) f e = inl tt
 arrow_tidied z v s choice l a k (sees_unstamped q0 q1 q2) f e = inl tt
 arrow_tidied z v s choice l a k (remembers q0 q1 q2 q3 q4) f e = inl tt
-arrow_tidied z v s choice l a k (remembers_last q0 q1 q2 q3 q4) f e = inl tt
 arrow_tidied z v s choice l a k (sees_frozen q0 q1 q2) f e = inl tt
-arrow_tidied z v s choice l a k (sees_frozen_last q0 q1 q2) f e = inl tt
 arrow_tidied z v s choice l a k (freezes_entry q0 q1 q2) f e = inl tt
-arrow_tidied z v s choice l a k (freezes_last q0 q1 q2) f e = inl tt
 arrow_tidied z v s choice l a k (looks_again q0 q1) f e = inl tt
 arrow_tidied z v s choice l a k (sees_quiet q0 q1 q2) f e = inl tt
 arrow_tidied z v s choice l a k (sees_quiet_last q0 q1 q2) f e = inl tt
@@ -233,14 +292,36 @@ arrow_tidied z v s choice l a k (finds_drawn_last q0 q1 q2 q3) f e = inl tt
 arrow_tidied z v s choice l a k (finds_no_scan q0 q1 q2) f e = inl tt
 arrow_tidied z v s choice l a k (finds_no_scan_last q0 q1 q2) f e = inl tt
 arrow_tidied z v s choice l a k (take_leads q0 q1) f e = inl tt
-arrow_tidied z v s choice l a k (takes_left q0 q1 q2) f e = inl tt
-arrow_tidied z v s choice l a k (takes_no_more q0 q1) f e = inl tt
+arrow_tidied z v s choice l a k (takes_left q0 q1 q2 q3) f e = inl tt
 arrow_tidied z v s choice l a k takes_key f e = inl tt
 arrow_tidied z v s choice l a k takes_version f e = inl tt
 arrow_tidied z v s choice l a k keeps_taken f e = inl tt
 arrow_tidied z v s choice l a k takes_left_key f e = inl tt
-arrow_tidied z v s choice l a k (keeps_left q0 q1) f e = inl tt
-arrow_tidied z v s choice l a k (keeps_no_more q0) f e = inl tt
+arrow_tidied z v s choice l a k (keeps_left q0 q1 q2) f e = inl tt
+arrow_tidied z v s choice l a k (remembers_last j c version next q0 q1 n) f e = inl (frozen_goes _ _ n).next
+arrow_tidied z v s choice l a k (sees_frozen_last j next q0 q1 n) f e = inl (frozen_goes _ _ n).next
+arrow_tidied z v s choice l a k (freezes_last j next q0 q1 n) f e = inl (frozen_goes _ _ n).next
+arrow_tidied z v s choice l a k (takes_no_more next x y n) f e = inl (gathered_goes z _ _ n).next
+arrow_tidied z v s choice l a k (keeps_no_more next x n) f e = inl (gathered_goes z _ _ n).next
+arrow_tidied z v s choice l a k counts_next f e = inl tt
+arrow_tidied z v s choice l a k (claims_next q0) f e = inl tt
+arrow_tidied z v s choice l a k (next_is_infant q0 q1) f e = inl tt
+arrow_tidied z v s choice l a k (next_leads q0 q1) f e = inl tt
+arrow_tidied z v s choice l a k (normalises_next q0) f e = inl tt
+arrow_tidied z v s choice l a k marks_next f e = inl tt
+arrow_tidied z v s choice l a k (begins_left q0 q1 q2) f e = inl tt
+arrow_tidied z v s choice l a k (takes_leader q0 q1) f e = inl tt
+arrow_tidied z v s choice l a k (reaches_leader q0) f e = inl tt
+arrow_tidied z v s choice l a k (leads_left q0 q1 q2) f e = inl tt
+arrow_tidied z v s choice l a k (walks_left q0) f e = inl tt
+arrow_tidied z v s choice l a k (claims_not n) f e = let y : true ≡ false = sym e ∙ n in cc
+arrow_tidied z v s choice l a k (head_follows n q0) f e = let y : true ≡ false = sym e ∙ n in cc
+arrow_tidied z v s choice l a k (none_is_left n q0) f e = let y : true ≡ false = sym e ∙ n in cc
+arrow_tidied z v s choice l a k (passes_left n q0) f e = let y : true ≡ false = sym e ∙ n in cc
+arrow_tidied z v s choice l a k (ends_unclaimed q0) f e = inr tt
+arrow_tidied z v s choice l a k (ends_at_head q0) f e = inr tt
+arrow_tidied z v s choice l a k (ends_at_none q0) f e = inr tt
+arrow_tidied z v s choice l a k (ends_past q0) f e = inr tt
 arrow_tidied z v s choice l a k (clock_is_spent o n) f e = let y : true ≡ false = sym e ∙ n in cc
 arrow_tidied z v s choice l a k (epoch_is_spent o n) f e = let y : true ≡ false = sym e ∙ n in cc
 arrow_tidied z v s choice l a k (finds_other_state n) f e = let y : true ≡ false = sym e ∙ n in cc
@@ -269,4 +350,91 @@ arrow_from z v s choice l a k (list_ends next o n) e = inr (sym (cell_tidies _ _
 arrow_from z v s choice l a k (key_above next o n) e = inr (sym (cell_tidies _ _ n) ∙ e)
 arrow_from z v s choice l a k (left_over_gone_by next o n) e = inr (sym (cell_tidies _ _ n) ∙ e)
 arrow_from z v s choice l a k (gathers_left_over next n) e = inr (sym (cell_tidies _ _ n) ∙ e)
+arrow_from z v s choice l a k (remembers_last j c version next x o n) e = inr (sym (frozen_goes _ _ n).tidies ∙ e)
+arrow_from z v s choice l a k (sees_frozen_last j next x o n) e = inr (sym (frozen_goes _ _ n).tidies ∙ e)
+arrow_from z v s choice l a k (freezes_last j next x o n) e = inr (sym (frozen_goes _ _ n).tidies ∙ e)
+arrow_from z v s choice l a k (takes_no_more next x f n) e = inr (sym (gathered_goes z _ _ n).tidies ∙ e)
+arrow_from z v s choice l a k (keeps_no_more next f n) e = inr (sym (gathered_goes z _ _ n).tidies ∙ e)
+arrow_from z v s choice l a k (marks_led count next d n) e = inr (sym (counted_goes _ _ _ n).tidies ∙ e)
+arrow_from z v s choice l a k (decides count m next o n) e = inr (sym (counted_goes _ _ _ n).tidies ∙ e)
 arrow_from z v s choice l a k _ e = inr e
+
+-- A seat that tidies was offered that: so many rows were retired before its visit that the table
+-- has few for each number. It was so at its choice, and neither the rows nor the epoch of its visit
+-- change.
+
+-- a seat that rebalances keeps the epoch of its visit
+balancing_epoch : (z : Sizes) (v : Words) (s : ℕ) (choice : Choice) (l : Local) (a : Activity) (k : Local) → Arrow z v s choice l a k → IsBalancing a → k.epoch ≡ l.epoch
+balancing_epoch z v s choice l a k (builds b next y t) x = (built_goes z v choice l b next t).epoch
+balancing_epoch z v s choice l a k (begins call e b) x = absurd x
+balancing_epoch z v s choice l a k (leaves answer) x = absurd x
+balancing_epoch z v s choice l a k enters_again x = absurd x
+balancing_epoch z v s choice l a k (first_ends next e n) x = absurd x
+balancing_epoch z v s choice l a k (list_ends next e n) x = absurd x
+balancing_epoch z v s choice l a k (key_above next e n) x = absurd x
+balancing_epoch z v s choice l a k (left_over_gone_by next e n) x = absurd x
+balancing_epoch z v s choice l a k (gathers_left_over next n) x = absurd x
+balancing_epoch z v s choice l a k (remembers_last j c version next e o m) x = (frozen_goes _ _ m).epoch
+balancing_epoch z v s choice l a k (sees_frozen_last j next e o m) x = (frozen_goes _ _ m).epoch
+balancing_epoch z v s choice l a k (freezes_last j next e o m) x = (frozen_goes _ _ m).epoch
+balancing_epoch z v s choice l a k (takes_no_more next e f m) x = (gathered_goes z _ _ m).epoch
+balancing_epoch z v s choice l a k (keeps_no_more next f m) x = (gathered_goes z _ _ m).epoch
+balancing_epoch z v s choice l a k (marks_led count next d m) x = (counted_goes _ _ _ m).epoch
+balancing_epoch z v s choice l a k (decides count c next e m) x = (counted_goes _ _ _ m).epoch
+balancing_epoch z v s choice l a k _ x = refl
+
+-- a seat that leaves tidies no more
+done_rests : (z : Sizes) (v : Words) (s : ℕ) (choice : Choice) (l : Local) (a : Activity) (k : Local) → Arrow z v s choice l a k → IsDone a → k.tidies ≡ true → ⊥
+done_rests z v s choice l a k (builds b next y t) d e = absurd (no_building b y d)
+  where
+    no_building : (b : Activity) → IsBuilding b → IsDone b → ⊥
+    no_building (Activity.Leave answer) y d = y
+    no_building _ y d = d
+done_rests z v s choice l a k (leaves answer) d e = let y : false ≡ true = e in cc
+done_rests z v s choice l a k _ d e = d
+
+-- a choice that names the put's own row is taken where the epoch of its visit has risen far enough
+taken_late : (rows : ℕ) (choice : Choice) (l : Local) → tidies_row rows choice l ≡ true → rows < TIDY_SHARE * l.epoch
+taken_late rows (Begin call) l e = let y : false ≡ true = e in cc
+taken_late rows Go l e = let y : false ≡ true = e in cc
+taken_late rows (Guess r) l e = named (r == l.row) e
+  where
+    named : (b : Bool) → (b && nat_lt rows (TIDY_SHARE * l.epoch)) ≡ true → rows < TIDY_SHARE * l.epoch
+    named true e = below _ _ e
+    named false e = let y : false ≡ true = e in cc
+taken_late rows Stop l e = let y : false ≡ true = e in cc
+
+module _ {z : Sizes} {r r' : Run} {s : ℕ} {choice : Choice} {l l' : Local} where
+  -- a seat that clears its entry and does not leave has made such a choice
+  offered_now : (a : Activity) → IsPutClear a → Happens z r r' s choice l l' a → Shape z r → l'.tidies ≡ true → r.world.rows < TIDY_SHARE * l'.epoch
+  offered_now (Activity.Put Put.Clear) u h i e = subst (λ (k : Local). r.world.rows < TIDY_SHARE * k.epoch) (sym h.next) (saw (tidies_row r.world.rows choice l) refl (subst (λ (k : Local). k.tidies ≡ true) h.next e))
+    where
+      tidied : IsBalancing l.activity ⊎ IsDone l.activity → ⊥
+      tidied (inl y) = subst IsBalancing h.activity y
+      tidied (inr y) = subst IsDone h.activity y
+
+      saw : (b : Bool) → tidies_row r.world.rows choice l ≡ b → (let x : Outcome = if b then to_rebalance (record l { tidies = true }) else leave Done l in x).local.tidies ≡ true →
+          r.world.rows < TIDY_SHARE * (let x : Outcome = if b then to_rebalance (record l { tidies = true }) else leave Done l in x).local.epoch
+      saw true c e = taken_late r.world.rows choice l c
+      saw false c e = absurd (tidied (i.tidies s l h.knows e))
+  offered_now _ u h i e = absurd u
+
+  -- a seat that tidied before goes on in the same visit
+  offered_before : (a : Activity) → Happens z r r' s choice l l' a → Shape z r → l'.tidies ≡ true → l.tidies ≡ true → r.world.rows < TIDY_SHARE * l'.epoch
+  offered_before a h i e f = subst (λ n. r.world.rows < TIDY_SHARE * n) (sym (same (i.tidies s l h.knows f))) (i.offered s l h.knows f)
+    where
+      same : IsBalancing l.activity ⊎ IsDone l.activity → l'.epoch ≡ l.epoch
+      same (inl y) = balancing_epoch z (word z r.world) s choice l a l' h.arrow (subst IsBalancing h.activity y)
+      same (inr y) = absurd (done_rests z (word z r.world) s choice l a l' h.arrow (subst IsDone h.activity y) e)
+
+  -- the acting seat
+  pub offered_own : (a : Activity) → Happens z r r' s choice l l' a → Shape z r → l'.tidies ≡ true → r'.world.rows < TIDY_SHARE * l'.epoch
+  offered_own a h i e = subst (λ n. n < TIDY_SHARE * l'.epoch) (sym h.rows) (which (arrow_from z (word z r.world) s choice l a l' h.arrow e))
+    where
+      which : IsPutClear a ⊎ (l.tidies ≡ true) → r.world.rows < TIDY_SHARE * l'.epoch
+      which (inl u) = offered_now a u h i e
+      which (inr f) = offered_before a h i e f
+
+  -- another seat
+  pub offered_other : (a : Activity) → Happens z r r' s choice l l' a → Shape z r → (t : ℕ) (k : Local) → slice_get r.world.locals t ≡ Some k → k.tidies ≡ true → r'.world.rows < TIDY_SHARE * k.epoch
+  offered_other a h i t k g e = subst (λ n. n < TIDY_SHARE * k.epoch) (sym h.rows) (i.offered t k g e)

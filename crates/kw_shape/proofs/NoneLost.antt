@@ -14,6 +14,7 @@ use Rattle.kw_words.specs.declared.state.State.TheVariants as state
 use Rattle.kw_words.specs.Link.{link_of, link_word}
 use Rattle.kw_words.specs.State.{state_word}
 use Rattle.kw_words.proofs.LinkWords.{link_word_of}
+use Rattle.kw_rows.proofs.Lists.{in_or_not}
 use Rattle.kw_rows.specs.Events.{IsIn}
 use Rattle.kw_rows.specs.Ledger.{Dead, Fate, Free, Infant, Ledger, Live}
 use Rattle.kw_world.specs.declared.activity.Activity.{Activity}
@@ -30,9 +31,10 @@ use Rattle.kw_world.specs.Sizes.{Sizes}
 use Rattle.kw_world.specs.Step.{word}
 use Rattle.kw_world.specs.WriteTransitions.{unmarked_link}
 use Rattle.kw_core.specs.Ledger as ledger
+use Rattle.kw_core.specs.Ledger.{group_of}
 use Rattle.kw_core.specs.Run.{Run}
 use Rattle.kw_core.proofs.Arrows.{Arrow, builds}
-use Rattle.kw_core.proofs.Building.{Building, IsBuilding, first_is_free, first_is_retired, first_is_taken, sought_is_free, sought_is_retired, sought_is_taken, pass_is_old, pass_is_young, frees_row, takes_row, loses_row, gives_one_back, gives_last_back, writes_link, begins_before, guesses_before, guess_before_fails, before_serves, before_is_above, takes_head_before, leads_to_full, leads_on_marked, leads_to_other, leads_nowhere, walks_before, walks_past, replaces_row, is_marked_before, is_replaced, makes_normal, makes_last_normal, draws_number, retires_row, retires_and_leaves}
+use Rattle.kw_core.proofs.Building.{Building, IsBuilding, first_is_free, first_is_retired, first_is_taken, sought_is_free, sought_is_retired, sought_is_taken, pass_is_old, pass_is_young, frees_row, takes_row, loses_row, gives_one_back, gives_last_back, writes_link, begins_before, guesses_before, guess_before_fails, before_serves, before_is_above, takes_head_before, leads_to_full, leads_on_marked, leads_to_other, leads_nowhere, walks_before, walks_past, replaces_row, is_marked_before, is_replaced, makes_normal, makes_last_normal, draws_number, retires_ahead, retires_row, retires_and_leaves}
 use Rattle.kw_core.proofs.Building as built
 use Rattle.kw_core.proofs.Fates.{fate_of_freed, fate_of_full, fate_of_given, fate_of_new, fate_of_taken, fate_stays, none_freed, none_replaced, none_taken}
 use Rattle.kw_core.proofs.Happens.{Happens}
@@ -131,12 +133,12 @@ module _ {z : Sizes} {r r' : Run} {s : ℕ} {choice : Choice} {l k : Local} wher
       let y : Free ≡ Infant = sym (ap (λ (f : Fate). f.status) (ap r'.ledger.rows.fates c ∙ fate_of_freed h e)) ∙ x.status in
       absurd (cc)
 
-  -- nor is the full row once it is replaced, nor one that is linked in its place
-  not_replaced : Happens z r r' s choice l k (Activity.Rebalance (Rebalance.Replace Replace.Exchange)) → word z r.world (replaced_link l.rebalance.before) ≡ link_word (unmarked_link (Some l.row)) → (t q : ℕ) → IsInfantOf r'.ledger.rows t q → (q ≡ l.row) ⊎ IsIn l.rebalance.taken q → ⊥
-  not_replaced h e t q x c = which (cases_eq q l.row) c
+  -- nor is a row of a group once that is replaced, nor one that is linked in its place
+  not_replaced : Happens z r r' s choice l k (Activity.Rebalance (Rebalance.Replace Replace.Exchange)) → word z r.world (replaced_link l.rebalance.before) ≡ link_word (unmarked_link (Some l.row)) → (t q : ℕ) → IsInfantOf r'.ledger.rows t q → IsIn (group_of l) q ⊎ IsIn l.rebalance.taken q → ⊥
+  not_replaced h e t q x c = which (in_or_not (group_of l) q) c
     where
-      which : (q ≡ l.row) ⊎ (q ≡ l.row → ⊥) → (q ≡ l.row) ⊎ IsIn l.rebalance.taken q → ⊥
-      which (inl f) d = let y : Dead ≡ Infant = sym (ap (λ (f : Fate). f.status) (ap r'.ledger.rows.fates f ∙ fate_of_full h e)) ∙ x.status in absurd (cc)
+      which : IsIn (group_of l) q ⊎ (IsIn (group_of l) q → ⊥) → IsIn (group_of l) q ⊎ IsIn l.rebalance.taken q → ⊥
+      which (inl f) d = let y : Dead ≡ Infant = sym (ap (λ (f : Fate). f.status) (fate_of_full h e q f)) ∙ x.status in absurd (cc)
       which (inr n) (inl f) = n f
       which (inr n) (inr i) = let y : Live ≡ Infant = sym (ap (λ (f : Fate). f.status) (fate_of_new h e q i n)) ∙ x.status in absurd (cc)
 
@@ -227,8 +229,9 @@ module _ {z : Sizes} {r r' : Run} {s : ℕ} {choice : Choice} {l : Local} where
   built_own a k (makes_normal o) h hand x = λ q i. absurd ((x q (was_infant (Activity.Rebalance (Rebalance.Replace Replace.Normalise)) h s q (λ c. cc) i)).1)
   built_own a k (makes_last_normal o) h hand x = λ q i. absurd ((x q (was_infant (Activity.Rebalance (Rebalance.Replace Replace.Normalise)) h s q (λ c. cc) i)).1)
   built_own a k draws_number h hand x = λ q i. absurd ((x q (was_infant (Activity.Rebalance (Rebalance.Replace Replace.Number)) h s q (λ c. cc) i)).1)
-  built_own a k (retires_row nd) h hand x = λ q i. absurd ((x q (was_infant (Activity.Rebalance (Rebalance.Replace Replace.Retire)) h s q (λ c. cc) i)).1)
-  built_own a k (retires_and_leaves dn) h hand x = λ q i. absurd ((x q (was_infant (Activity.Rebalance (Rebalance.Replace Replace.Retire)) h s q (λ c. cc) i)).1)
+  built_own a k (retires_ahead p e) h hand x = λ q i. absurd ((x q (was_infant (Activity.Rebalance (Rebalance.Replace Replace.Retire)) h s q (λ c. cc) i)).1)
+  built_own a k (retires_row m nd) h hand x = λ q i. absurd ((x q (was_infant (Activity.Rebalance (Rebalance.Replace Replace.Retire)) h s q (λ c. cc) i)).1)
+  built_own a k (retires_and_leaves m dn) h hand x = λ q i. absurd ((x q (was_infant (Activity.Rebalance (Rebalance.Replace Replace.Retire)) h s q (λ c. cc) i)).1)
 
 module _ {z : Sizes} {r r' : Run} {s : ℕ} {choice : Choice} {l : Local} where
   -- what the acting seat has at its activity

@@ -13,8 +13,9 @@ use Rattle.kw_cells.specs.Cuts.{starts_of}
 use Rattle.kw_cells.specs.Kept.{kept_of}
 use Rattle.kw_core.specs.Run.{Run}
 use Rattle.kw_core.specs.Words.{Words}
-use Rattle.kw_core.proofs.Arrows.{Arrow, NextLook, NextLeftOver, answers, builds, ends_scan, finds_other, finds_stamped, gathers_left_over, helps, is_gone_by, keeps_no_more, key_above, list_ends, lists, looks, sees_neither, sees_stamped, left_over_gone_by, goes_to_left_over, scans_on, takes_no_more, first_ends}
-use Rattle.kw_core.proofs.Building.{Building, first_is_retired, sought_is_retired, pass_is_old, pass_is_young, frees_row, before_is_above, before_serves, begins_before, draws_number, first_is_free, first_is_taken, gives_last_back, gives_one_back, guess_before_fails, guesses_before, is_marked_before, is_replaced, leads_nowhere, leads_on_marked, leads_to_full, leads_to_other, loses_row, makes_last_normal, makes_normal, replaces_row, retires_row, sought_is_free, sought_is_taken, takes_head_before, takes_row, walks_before, walks_past, writes_no_cell, writes_after, writes_count, writes_entry, writes_first, writes_key, writes_least, writes_link, writes_value, writes_version, retires_and_leaves}
+use Rattle.kw_core.proofs.Arrows.{Arrow, NextLook, NextLeftOver, answers, builds, ends_scan, finds_other, finds_stamped, gathers_left_over, helps, is_gone_by, keeps_no_more, key_above, list_ends, lists, looks, sees_neither, sees_stamped, left_over_gone_by, goes_to_left_over, scans_on, takes_no_more, remembers_last, sees_frozen_last, freezes_last, first_ends, decides, marks_led}
+use Rattle.kw_core.proofs.Building.{Building, first_is_retired, sought_is_retired, pass_is_old, pass_is_young, frees_row, before_is_above, before_serves, begins_before, draws_number, first_is_free, first_is_taken, gives_last_back, gives_one_back, guess_before_fails, guesses_before, is_marked_before, is_replaced, leads_nowhere, leads_on_marked, leads_to_full, leads_to_other, loses_row, makes_last_normal, makes_normal, replaces_row, retires_row, sought_is_free, sought_is_taken, takes_head_before, takes_row, walks_before, walks_past, writes_no_cell, writes_after, writes_count, writes_entry, writes_first, writes_key, writes_least, writes_link, writes_value, writes_version, retires_ahead, retires_and_leaves}
+use Rattle.kw_core.proofs.Grouping.{NextCounted, claims_row, goes_alone, NextFrozen, freezes_ahead, froze_all, NextGathered, gathered_all, gathers_ahead}
 use Rattle.kw_core.proofs.Happens.{Happens}
 use Rattle.kw_core.proofs.NextBuilt.{GivenBack, is_refused_rows, moves_left, tries_again, NextBack, gives_back, has_none, NextSeek, asks, has_asked, NextPass, looks_on, has_looked, NextTaken, has_enough, wants_more, NextNewCell, empties, fills, has_cells, NextNewEntry, has_entries, writes_idle, NextNewRow, has_written, writes_row, NextBefore, is_behind, is_first, was_done, was_served}
 use Rattle.kw_shape.specs.Infants.{HasAll, HasNone, nursing_of}
@@ -48,6 +49,19 @@ module _ (z : Sizes) where
   left_over_unplanned l next (answers o n) = unplanned z _ _ refl
   left_over_unplanned l next (ends_scan o y n) = unplanned z _ _ refl
   left_over_unplanned l next (scans_on q o y n w) = unplanned z _ _ refl
+
+  -- nor has a seat that freezes its group; the plan is made once all of it is gathered
+  frozen_unplanned : (l next : Local) → NextFrozen l next → Plans z next.activity next
+  frozen_unplanned l next (freezes_ahead q e) = unplanned z _ _ refl
+  frozen_unplanned l next (froze_all e) = unplanned z _ _ refl
+
+  counted_unplanned : (count : ℕ) (l next : Local) → NextCounted count l next → Plans z next.activity next
+  counted_unplanned count l next (claims_row q m e) = unplanned z _ _ refl
+  counted_unplanned count l next (goes_alone d) = unplanned z _ _ refl
+
+  gathered_plans : (l next : Local) → NextGathered z l next → Plans z next.activity next
+  gathered_plans l next (gathers_ahead q e) = unplanned z _ _ refl
+  gathered_plans l next (gathered_all e) = record { kept = λ x. refl; starts = λ x. refl; few = λ x. absurd x }
 
   -- one that has given its rows back has planned nothing; as long as it has rows or seeks them, it
   -- has its plan
@@ -135,14 +149,18 @@ module _ (z : Sizes) where
   plans_built v choice l a k (makes_normal n) o p = unplanned z _ _ refl
   plans_built v choice l a k (makes_last_normal n) o p = unplanned z _ _ refl
   plans_built v choice l a k draws_number o p = unplanned z _ _ refl
-  plans_built v choice l a k (retires_row nd) o p = unplanned z _ _ refl
-  plans_built v choice l a k (retires_and_leaves dn) o p = unplanned z _ _ refl
+  plans_built v choice l a k (retires_ahead q e) o p = unplanned z _ _ refl
+  plans_built v choice l a k (retires_row n nd) o p = unplanned z _ _ refl
+  plans_built v choice l a k (retires_and_leaves n dn) o p = unplanned z _ _ refl
 
 -- by the arrow that the seat takes
 plans_by : (z : Sizes) (v : Words) (s : ℕ) (choice : Choice) (l : Local) (a : Activity) (l' : Local) → Arrow z v s choice l a l' → (IsTakingRows a → length l.rebalance.taken < length l.rebalance.starts) → Plans z a l → Plans z l'.activity l'
 plans_by z v s choice l a l' (builds b next y t) o p = plans_built z v choice l a l' t o p
-plans_by z v s choice l a l' (takes_no_more e n) o p = record { kept = λ x. refl; starts = λ x. refl; few = λ x. absurd x }
-plans_by z v s choice l a l' (keeps_no_more n) o p = record { kept = λ x. refl; starts = λ x. refl; few = λ x. absurd x }
+plans_by z v s choice l a l' (takes_no_more next e m n) o p = gathered_plans z l next n
+plans_by z v s choice l a l' (keeps_no_more next m n) o p = gathered_plans z _ next n
+plans_by z v s choice l a l' (remembers_last j c version next e u n) o p = frozen_unplanned z _ next n
+plans_by z v s choice l a l' (sees_frozen_last j next e u n) o p = frozen_unplanned z _ next n
+plans_by z v s choice l a l' (freezes_last j next e u n) o p = frozen_unplanned z _ next n
 plans_by z v s choice l a l' (sees_stamped j c version next y n) o p = look_unplanned z _ next _ n
 plans_by z v s choice l a l' (sees_neither j next y n) o p = look_unplanned z _ next _ n
 plans_by z v s choice l a l' (is_gone_by next y n) o p = look_unplanned z _ next _ n
@@ -154,6 +172,8 @@ plans_by z v s choice l a l' (list_ends next e n) o p = left_over_unplanned z _ 
 plans_by z v s choice l a l' (key_above next y n) o p = left_over_unplanned z _ next n
 plans_by z v s choice l a l' (left_over_gone_by next y n) o p = left_over_unplanned z _ next n
 plans_by z v s choice l a l' (gathers_left_over next n) o p = left_over_unplanned z _ next n
+plans_by z v s choice l a l' (marks_led count next d n) o p = counted_unplanned z _ _ next n
+plans_by z v s choice l a l' (decides count m next e n) o p = counted_unplanned z _ _ next n
 plans_by z v s choice l a l' _ o p = unplanned z _ _ refl
 
 -- the acting seat

@@ -1,9 +1,9 @@
--- A won exchange of the link to the full row is the event of the rows that replaces it (`kw_rows`):
--- the full row is dead, and the taken ones are live.
+-- A won exchange of the link to the full row is the event of the rows that replaces the group
+-- (`kw_rows`): its rows are dead, and the taken ones are live.
 --
 -- What it needs beside the words is a premise: that the seat knows its group, that the link is one
--- of a row that it may name, that the full row is frozen, what is written of the new rows, and that
--- their least keys rise and are below that of the row after them.
+-- of a row that it may name, that the rows of the group are frozen, what is written of the new
+-- rows, and that their least keys rise and are below that of the row after them.
 use Rattle.std.proofs.Common.{ℕ, suc, ◌≡◌, ◌≢◌, ◌⊎◌, inl, inr, ◌+◌, ◌<◌, true, List, [], ◌∷◌, Option, Some, None, arith, refl, sym, ◌∙◌, ap, subst, length, slice_get, slice_index}
 use Rattle.std.proofs.lemmas.Bool.{cases_eq}
 use Rattle.std.proofs.lemmas.Option.{same_Some}
@@ -15,8 +15,7 @@ use Rattle.kw_words.specs.Plain.{key_of_word}
 use Rattle.kw_words.proofs.CountWords.{count_of-count_word}
 use Rattle.kw_words.proofs.LinkWords.{link_of-link_word, link_word_of}
 use Rattle.kw_words.proofs.PlainWords.{key_of_word-least_word}
-use Rattle.kw_rows.specs.Events.{Event, IsIn, IsOpenLink, Links, Rises, replaces, rests}
-use Rattle.kw_rows.specs.Group.{Alone, Group}
+use Rattle.kw_rows.specs.Events.{Event, Holds, IsIn, IsOpenLink, Links, Rises, replaces, rests}
 use Rattle.kw_rows.specs.Ledger.{Fate, Ledger, IsHeld}
 use Rattle.kw_rows.specs.Rows.{WasLinked, bound, leads}
 use Rattle.kw_world.specs.declared.activity.Activity.TheVariants as Activity
@@ -32,15 +31,17 @@ use Rattle.kw_world.specs.Step.{word}
 use Rattle.kw_world.specs.Transition.{row_linked}
 use Rattle.kw_world.specs.WriteTransitions.{infant_cells, infant_count, infant_least, infant_link, row_or, unmarked_link}
 use Rattle.kw_core.specs.Ledger as ledger
-use Rattle.kw_core.specs.Ledger.{fate_dead, fate_live, least_of}
+use Rattle.kw_core.specs.Ledger.{fate_dead, fate_live, group_of, least_of}
 use Rattle.kw_core.specs.Run.{Run}
 use Rattle.kw_core.specs.Words.{Words, least_in, next_in}
 use Rattle.kw_core.proofs.Fates.{fate_of_full, fate_of_new, fate_stays, none_replaced, visits_stay}
 use Rattle.kw_core.proofs.Happens.{Happens, not_exchanged}
 use Rattle.kw_core.proofs.InfantFrames.{head_stays, replaced_won}
 use Rattle.kw_shape.proofs.BuildEvents.{count_word, least_word, next_word, state_kept}
+use Rattle.kw_shape.proofs.Hands.{of_group}
 use Rattle.kw_shape.proofs.InfantsKeep.{Own}
 use Rattle.kw_shape.proofs.InfantsRely.{linked_not_infant, index_of_row}
+use Rattle.kw_shape.specs.Hands.{IsOfGroup}
 use Rattle.kw_shape.specs.Infants.{IsInfantOf, Written}
 use Rattle.kw_shape.specs.RowsIn.{has_frozen, has_mark, rows_in}
 
@@ -75,12 +76,12 @@ pub record MayReplace (z : Sizes) (v : Words) (g : Ledger) (s : ℕ) (l : Local)
   pub counts : (i : ℕ) → IsCount (infant_count (at_infant i l))
   pub fits : l.lower < KEY_END
   pub first : IsLink (unmarked_link (Some (first_infant l)))
-  -- its full row
-  pub linked : WasLinked g l.row
-  pub group : Group (rows_in v) g (Alone l.row l.rebalance.after)
-  pub full : (rows_in v).frozen l.row ≡ true
+  -- the rows of its group
+  pub linked : (q : ℕ) → IsOfGroup l q → WasLinked g q
+  pub group : Holds (rows_in v) g l.row l.rebalance.second l.rebalance.after
+  pub full : (q : ℕ) → IsOfGroup l q → (rows_in v).frozen q ≡ true
   pub lower : l.lower ≡ least_in v l.row
-  -- the row before it
+  -- the row before them
   pub held : (p : ℕ) → l.rebalance.before ≡ Some p → IsHeld g p
   -- the least keys of the new rows
   pub rises : (n : ℕ) (more : List ℕ) → l.rebalance.taken ≡ n ∷ more → Rises (least_in v) n more
@@ -109,11 +110,11 @@ module _ {z : Sizes} {r r' : Run} {s : ℕ} {choice : Choice} {l l' : Local} whe
   -- the event
   pub replacing : Happens z r r' s choice l l' (Activity.Rebalance (Rebalance.Replace Replace.Exchange)) → IsSane z r.world → MayReplace z (word z r.world) r.ledger.rows s l → link_of (word z r.world (replaced_link l.rebalance.before)) ≡ Some (unmarked_link (Some l.row)) →
       (n : ℕ) (more : List ℕ) → l.rebalance.taken ≡ n ∷ more → Event (rows_in (word z r.world)) (rows_in (word z r'.world)) r.ledger.rows r'.ledger.rows (length r.history.log)
-  replacing h sane m e n more t = replaces l.rebalance.before l.row None l.rebalance.after n more (record {
+  replacing h sane m e n more t = replaces l.rebalance.before l.row l.rebalance.second l.rebalance.after n more (record {
     link = opened l.rebalance.before refl e;
     found = exchanged_head (word z r.world) l.rebalance.before ∙ ap row_linked e;
     holds = m.group;
-    full = λ x i. full x i;
+    full = λ x i. m.full x (of_group l x i);
     infants = λ x i. (infant x i).status;
     unmarked = λ x i. let p = place x i in ap has_mark (whole_next z (word z r.world) (at_infant p.0 l) x (m.links p.0) (m.whole p.0 x p.1));
     unfrozen = λ x i. let p = place x i in ap has_frozen (whole_count z (word z r.world) (at_infant p.0 l) x (m.counts p.0) (m.whole p.0 x p.1));
@@ -151,10 +152,6 @@ module _ {z : Sizes} {r r' : Run} {s : ℕ} {choice : Choice} {l l' : Local} whe
       infant : (x : ℕ) → IsIn (n ∷ more) x → IsInfantOf r.ledger.rows s x
       infant x i = let p = place x i in m.own.owned p.0 x p.1
 
-      full : (x : ℕ) → IsIn (l.row ∷ []) x → (rows_in (word z r.world)).frozen x ≡ true
-      full x (inl c) = subst (λ k. (rows_in (word z r.world)).frozen k ≡ true) (sym c) m.full
-      full x (inr c) = absurd c
-
       opened : (b : Option ℕ) → l.rebalance.before ≡ b → link_of (word z r.world (replaced_link b)) ≡ Some (unmarked_link (Some l.row)) → IsOpenLink (rows_in (word z r.world)) r.ledger.rows b
       opened None c f = tt
       opened (Some p) c f = (m.held p c, ap has_mark f)
@@ -178,15 +175,14 @@ module _ {z : Sizes} {r r' : Run} {s : ℕ} {choice : Choice} {l l' : Local} whe
           let before : link_of (word z r.world (name.Next x)) ≡ Some (unmarked_link (Some l.row)) = subst (λ b. link_of (word z r.world (replaced_link b)) ≡ Some (unmarked_link (Some l.row))) c e in
           ap (λ w. has_mark (link_of w)) after ∙ ap has_mark (link_of-link_word (unmarked_link (Some (first_infant l))) m.first) ∙ sym (ap has_mark before)
 
-      dead : (x : ℕ) → IsIn (l.row ∷ []) x → r'.ledger.rows.fates x ≡ fate_dead s (length r.history.log) (r.ledger.rows.fates x)
-      dead x (inl c) = subst (λ k. r'.ledger.rows.fates k ≡ fate_dead s (length r.history.log) (r.ledger.rows.fates k)) (sym c) (fate_of_full h won)
-      dead x (inr c) = absurd c
+      dead : (x : ℕ) → IsIn (group_of l) x → r'.ledger.rows.fates x ≡ fate_dead s (length r.history.log) (r.ledger.rows.fates x)
+      dead x i = fate_of_full h won x i
 
       live : (x : ℕ) → IsIn (n ∷ more) x → r'.ledger.rows.fates x ≡ fate_live (word z r.world) (length r.history.log) x (r.ledger.rows.fates x)
-      live x i = fate_of_new h won x (there x i) (λ c. linked_not_infant r.ledger.rows s x (subst (WasLinked r.ledger.rows) (sym c) m.linked) (infant x i))
+      live x i = fate_of_new h won x (there x i) (λ c. linked_not_infant r.ledger.rows s x (m.linked x (of_group l x c)) (infant x i))
 
-      stays : (x : ℕ) → (IsIn (l.row ∷ []) x → ⊥) → (IsIn (n ∷ more) x → ⊥) → (x ≡ l.row) ⊎ IsIn l.rebalance.taken x → ⊥
-      stays x a b (inl c) = a (inl c)
+      stays : (x : ℕ) → (IsIn (group_of l) x → ⊥) → (IsIn (n ∷ more) x → ⊥) → IsIn (group_of l) x ⊎ IsIn l.rebalance.taken x → ⊥
+      stays x a b (inl c) = a c
       stays x a b (inr c) = b (subst (λ xs. IsIn xs x) t c)
 
   -- a lost exchange leaves all

@@ -1,24 +1,22 @@
 -- What an event does to the rows and to the ledger: a seat that enters begins its visit, one that
 -- leaves or tries again ends it; a seat that rebalances its row exchanges the row's state, marks
--- its link and freezes its count, and then takes, writes and links new rows in its place, as
--- `BuildEvents` and `ReplaceEvent` say. Nothing else of either changes. So every event is one of
+-- its link, freezes the rows of its group, and then takes, writes and links new rows in its place,
+-- as `BuildEvents` and `ReplaceEvent` say. Nothing else of either changes. So every event is one of
 -- those of `kw_rows`, whose laws say what it keeps.
-use Rattle.std.proofs.Common.{ℕ, suc, ◌≡◌, ◌≢◌, ◌⊎◌, inl, inr, ◌+◌, ◌≤◌, ◌∷◌, [], true, Option, Some, None, arith, refl, sym, ◌∙◌, ap, subst, length, length-append, bit_or}
+use Rattle.std.proofs.Common.{ℕ, suc, ◌≡◌, ◌≢◌, ◌⊎◌, inl, inr, ◌+◌, ◌≤◌, ◌==◌, if◌then◌else◌, ◌∷◌, [], true, Option, Some, None, arith, refl, sym, ◌∙◌, ap, subst, length, length-append}
 use Rattle.std.proofs.lemmas.Bool.{cases_eq}
 use Rattle.kw_words.specs.declared.layout.Name.TheVariants as name
 use Rattle.kw_words.specs.declared.count.Count.{Count as Counted}
-use Rattle.kw_words.specs.declared.link.Link.{Link}
-use Rattle.kw_words.specs.declared.sizes.TheConstants.{MARK_BIT}
+use Rattle.kw_words.specs.declared.sizes.TheConstants.{MOST_GROUP}
 use Rattle.kw_words.specs.declared.state.State.{State}
 use Rattle.kw_words.specs.declared.state.State.TheVariants as state
 use Rattle.kw_words.specs.Count.{count_of}
 use Rattle.kw_words.specs.Link.{link_of}
 use Rattle.kw_words.specs.Plain.{key_of_word}
-use Rattle.kw_words.specs.State.{IsState, state_of, state_word}
+use Rattle.kw_words.specs.State.{state_of, state_word}
 use Rattle.kw_words.proofs.CountWords.{count_of_next}
-use Rattle.kw_words.proofs.LinkWords.{link_of_marked}
-use Rattle.kw_words.proofs.StateWords.{state_word_of}
-use Rattle.kw_rows.specs.Events.{Event, Visits, SameLinks, MarksLink, Freezes, freezes, begins, ends, engages, marks, decides, normalises, rests}
+use Rattle.kw_words.proofs.StateWords.{IsState-state_of, state_of-Leader, state_of-Normal, state_word_of}
+use Rattle.kw_rows.specs.Events.{Event, Visits, SameLinks, MarksLink, Freezes, freezes, begins, ends, engages, marks, decides, rests}
 use Rattle.kw_rows.specs.Group.{View, Group, Named}
 use Rattle.kw_rows.specs.Ledger as kw_rows
 use Rattle.kw_rows.specs.RowState as row
@@ -27,6 +25,7 @@ use Rattle.kw_rows.proofs.Kept.{kept}
 use Rattle.kw_rows.proofs.Named.{held_by}
 use Rattle.kw_rows.proofs.Views.{may_freeze, may_mark}
 use Rattle.kw_world.specs.declared.activity.Activity.{Activity}
+use Rattle.kw_world.specs.declared.activity.rebalance.claim.Claim.TheVariants as Claim
 use Rattle.kw_world.specs.declared.activity.rebalance.engage.Engage.TheVariants as Engage
 use Rattle.kw_world.specs.declared.activity.enter.Enter.TheVariants as Enter
 use Rattle.kw_world.specs.declared.activity.rebalance.freeze.Freeze.TheVariants as Freeze
@@ -38,7 +37,8 @@ use Rattle.kw_world.specs.declared.activity.rebalance.write.Write.TheVariants as
 use Rattle.kw_world.specs.declared.answer.Answer.{Answer}
 use Rattle.kw_world.specs.declared.event.Choice.{Choice}
 use Rattle.kw_world.specs.declared.local.Local.{Local}
-use Rattle.kw_world.specs.Sane.{IsActivity, IsGiven, IsKnownWord, IsSane}
+use Rattle.kw_world.specs.ClaimTransitions.{row_after}
+use Rattle.kw_world.specs.Sane.{IsActivity, IsGiven, IsSane}
 use Rattle.kw_world.specs.SeekTransitions.{infant}
 use Rattle.kw_world.specs.Sizes.{Sizes}
 use Rattle.kw_world.specs.Step.{word}
@@ -49,12 +49,13 @@ use Rattle.kw_core.specs.Run.{Run}
 use Rattle.kw_core.specs.Words.{next_in}
 use Rattle.kw_core.proofs.Fates.{ChangesFate, DrawsNumber, fate_stays, numbers_stay, others_stay}
 use Rattle.kw_core.proofs.FreezeFrame.{freezes_given}
-use Rattle.kw_core.proofs.Happens.{Happens, chosen, exchanged, log_entry, not_exchanged}
+use Rattle.kw_core.proofs.Happens.{Happens, chosen, exchanged, log_entry, not_chosen, not_exchanged}
 use Rattle.kw_core.proofs.InfantFrames.{ChangesCount, ChangesHead, ChangesLeast, ChangesNext, ChangesState, head_stays}
 use Rattle.kw_shape.proofs.BuildEvents.{count_word, freeing, giving_back, least_word, ledger_kept, links_kept, making_normal, next_word, numbering, retiring, sets_state, state_kept, states_still, taking, word_says, writing}
+use Rattle.kw_shape.proofs.Engaging.{claiming_next, marking_along, marks_row, normal_event, normalising_next}
 use Rattle.kw_shape.proofs.MayReplace.{may_replace}
-use Rattle.kw_shape.proofs.InfantsFit.{row_link}
-use Rattle.kw_shape.proofs.InfantsStay.{infant_at}
+use Rattle.kw_shape.proofs.Hands.{hand_of_group, holds_led, in_group}
+use Rattle.kw_shape.proofs.InfantsStay.{infant_at, row_link}
 pub use Rattle.kw_shape.proofs.LinkedRows.{balance_at, all_young, fresh_linked, hand_infant, linked_keeps}
 use Rattle.kw_shape.proofs.RelyRows.{RelyRows}
 use Rattle.kw_shape.proofs.ReplaceEvent.{replace_event}
@@ -66,15 +67,14 @@ use Rattle.kw_core.specs.Stages.{IsVisiting}
 use Rattle.kw_core.proofs.Frame.{WritesPass}
 use Rattle.kw_shape.specs.Visits.{Visits as InVisits}
 
--- a marked link leads where it led
-marked_link : (w : ℕ) (x : Option Link) → link_of w ≡ x → IsKnownWord x → (row_linked (link_of (bit_or w MARK_BIT)) ≡ row_linked (link_of w)) × (has_mark (link_of (bit_or w MARK_BIT)) ≡ true)
-marked_link w (Some link) e k = let m = link_of_marked w link e in (ap row_linked m ∙ ap row_linked (sym e), ap has_mark m)
-marked_link w None e k = absurd k
-
 -- one more cell asked for leaves the count frozen or not
 frozen_next : (w : ℕ) (c : Option Counted) → count_of w ≡ c → IsGiven c → has_frozen (count_of (w + 1)) ≡ has_frozen c
 frozen_next w (Some c) e g = ap has_frozen (count_of_next w c e (omega (arith, g)))
 frozen_next w None e g = absurd g
+
+-- a word that says that so many rows are led says that none are, if it is that word
+led_none : (n : ℕ) {w : ℕ} → state_of w ≡ Some (state.Leader n) → w ≡ state_word (state.Leader 0) → n ≡ 0
+led_none n e f = let x : Some (state.Leader n) ≡ Some (state.Leader 0) = sym e ∙ ap state_of f ∙ state_of-Leader 0 (omega arith) in cc
 
 module _ {z : Sizes} {r r' : Run} {s : ℕ} {choice : Choice} {l l' : Local} where
   -- The words.
@@ -139,19 +139,11 @@ module _ {z : Sizes} {r r' : Run} {s : ℕ} {choice : Choice} {l l' : Local} whe
 
   -- a seat that makes its row normal
   normalising : (seat : ℕ) → Happens z r r' s choice l l' (Activity.Rebalance (Rebalance.Engage (Engage.Normal seat))) → Shape z r → Event (rows_in (word z r.world)) (rows_in (word z r'.world)) r.ledger.rows r'.ledger.rows (length r.history.log)
-  normalising seat h i = which (cases_eq (word z r.world (name.State l.row)) (state_word (state.Infant seat)))
-    where
-      small : IsState (state.Infant seat)
-      small = let k = subst (λ b. IsActivity z b) h.activity (i.sane.locals s l h.knows).ranges.activity in omega (arith, k, i.sane.sized.few_seats)
-
-      which : (word z r.world (name.State l.row) ≡ state_word (state.Infant seat)) ⊎ (word z r.world (name.State l.row) ≡ state_word (state.Infant seat) → ⊥) → Event (rows_in (word z r.world)) (rows_in (word z r'.world)) r.ledger.rows r'.ledger.rows (length r.history.log)
-      which (inl e) = normalises l.row seat (record {
-        held = held_by r.ledger.rows s l.row ((balance_at (Activity.Rebalance (Rebalance.Engage (Engage.Normal seat))) h i).fresh tt);
-        infant = word_says _ (state.Infant seat) small e;
-        sets = sets_state (Activity.Rebalance (Rebalance.Engage (Engage.Normal seat))) h i.sane (λ c. c) (λ q c. c) (λ q c. c) (λ q c. c) l.row (λ q d c. d c) row.Normal (word_says _ state.Normal tt (exchanged _ _ _ _ h.changed.same e));
-        ledger = ledger_kept (Activity.Rebalance (Rebalance.Engage (Engage.Normal seat))) h (λ q c. c) (λ c. c) (λ c. c);
-      })
-      which (inr d) = rests (record { links = links_kept (Activity.Rebalance (Rebalance.Engage (Engage.Normal seat))) h i.sane (λ c. c) (λ q c. c) (λ q c. c) (λ q c. c); states = states_still (Activity.Rebalance (Rebalance.Engage (Engage.Normal seat))) h i.sane l.row (λ q n c. n c) (not_exchanged _ _ _ _ h.changed.same d); ledger = ledger_kept (Activity.Rebalance (Rebalance.Engage (Engage.Normal seat))) h (λ q c. c) (λ c. c) (λ c. c) })
+  normalising seat h i =
+      normal_event (Activity.Rebalance (Rebalance.Engage (Engage.Normal seat))) l.row seat h i.sane
+      (record { head = λ c. c; next = λ q c. c; count = λ q c. c; least = λ q c. c; others = λ q d c. d c; fates = λ q c. c; visits = λ c. c; drawn = λ c. c })
+      (held_by r.ledger.rows s l.row ((balance_at (Activity.Rebalance (Rebalance.Engage (Engage.Normal seat))) h i).fresh tt))
+      (let k = subst (λ b. IsActivity z b) h.activity (i.sane.locals s l h.knows).ranges.activity in omega (arith, k, i.sane.sized.few_seats)) h.changed.same
 
   -- one that engages it
   engaging : Happens z r r' s choice l l' (Activity.Rebalance (Rebalance.Engage Engage.Lead)) → Shape z r → Event (rows_in (word z r.world)) (rows_in (word z r'.world)) r.ledger.rows r'.ledger.rows (length r.history.log)
@@ -172,24 +164,11 @@ module _ {z : Sizes} {r r' : Run} {s : ℕ} {choice : Choice} {l l' : Local} whe
 
   -- one that marks its link
   marking : (count : ℕ) → Happens z r r' s choice l l' (Activity.Rebalance (Rebalance.Engage (Engage.MarkLink count))) → Shape z r → MarksLink (rows_in (word z r.world)) (rows_in (word z r'.world)) r.ledger.rows r'.ledger.rows l.row
-  marking count h i = record {
-    engaged = may_mark (rows_in (word z r.world)) r.ledger.rows (length r.history.log) i.rows l.row count (balance_at (Activity.Rebalance (Rebalance.Engage (Engage.MarkLink count))) h i).group;
-    head = ap (λ w. row_linked (link_of w)) (head_stays (Activity.Rebalance (Rebalance.Engage (Engage.MarkLink count))) h (λ c. c));
-    next = λ q. which q (cases_eq q l.row);
-    marked = ap (λ w. has_mark (link_of w)) h.changed.same ∙ link.1;
-    others = λ q d. ap (λ w. has_mark (link_of w)) (next_word (Activity.Rebalance (Rebalance.Engage (Engage.MarkLink count))) h i.sane q d);
-    frozen = λ q. ap (λ w. has_frozen (count_of w)) (count_word (Activity.Rebalance (Rebalance.Engage (Engage.MarkLink count))) h i.sane q (λ c. c));
-    least = λ q. ap key_of_word (least_word (Activity.Rebalance (Rebalance.Engage (Engage.MarkLink count))) h i.sane q (λ c. c));
-    states = λ q. state_kept (Activity.Rebalance (Rebalance.Engage (Engage.MarkLink count))) h i.sane q (λ c. c);
-    ledger = ledger_kept (Activity.Rebalance (Rebalance.Engage (Engage.MarkLink count))) h (λ q c. c) (λ c. c) (λ c. c);
-  }
-    where
-      link : (row_linked (link_of (bit_or (word z r.world (name.Next l.row)) MARK_BIT)) ≡ row_linked (link_of (word z r.world (name.Next l.row)))) × (has_mark (link_of (bit_or (word z r.world (name.Next l.row)) MARK_BIT)) ≡ true)
-      link = marked_link (word z r.world (name.Next l.row)) _ refl (i.sane.each (name.Next l.row) (i.sane.locals s l h.knows).below.row)
-
-      which : (q : ℕ) → (q ≡ l.row) ⊎ (q ≡ l.row → ⊥) → next_in (word z r'.world) q ≡ next_in (word z r.world) q
-      which q (inl e) = subst (λ x. next_in (word z r'.world) x ≡ next_in (word z r.world) x) (sym e) (ap (λ w. row_linked (link_of w)) h.changed.same ∙ link.0)
-      which q (inr d) = ap (λ w. row_linked (link_of w)) (next_word (Activity.Rebalance (Rebalance.Engage (Engage.MarkLink count))) h i.sane q d)
+  marking count h i =
+      marks_row (Activity.Rebalance (Rebalance.Engage (Engage.MarkLink count))) l.row h i.sane
+      (record { head = λ c. c; others = λ q d c. d c; count = λ q c. c; least = λ q c. c; state = λ q c. c; fates = λ q c. c; visits = λ c. c; drawn = λ c. c })
+      (i.sane.locals s l h.knows).below.row
+      (may_mark (rows_in (word z r.world)) r.ledger.rows (length r.history.log) i.rows l.row count (balance_at (Activity.Rebalance (Rebalance.Engage (Engage.MarkLink count))) h i).group) h.changed.same
 
   -- so the link is marked from now on, and leads where it led
   pub row_marked : (count : ℕ) → Happens z r r' s choice l l' (Activity.Rebalance (Rebalance.Engage (Engage.MarkLink count))) → Shape z r → (rows_in (word z r'.world)).marked l.row ≡ true
@@ -198,50 +177,68 @@ module _ {z : Sizes} {r r' : Run} {s : ℕ} {choice : Choice} {l l' : Local} whe
   pub row_next : (count : ℕ) → Happens z r r' s choice l l' (Activity.Rebalance (Rebalance.Engage (Engage.MarkLink count))) → Shape z r → next_in (word z r'.world) l.row ≡ next_in (word z r.world) l.row
   row_next count h i = (marking count h i).next l.row
 
-  -- one that decides how many rows go
+  -- one that decides how many rows go: no more than a group has, and two only where there is a next
+  -- one
+  few_go : (count : ℕ) → Happens z r r' s choice l l' (Activity.Rebalance (Rebalance.Engage (Engage.Decide count))) → Shape z r → count ≤ MOST_GROUP
+  few_go count h i = subst (λ b. IsActivity z b) h.activity (i.sane.locals s l h.knows).ranges.activity
+
   deciding : (count : ℕ) → Happens z r r' s choice l l' (Activity.Rebalance (Rebalance.Engage (Engage.Decide count))) → Shape z r → Event (rows_in (word z r.world)) (rows_in (word z r'.world)) r.ledger.rows r'.ledger.rows (length r.history.log)
   deciding count h i = which (cases_eq (word z r.world (name.State l.row)) (state_word (state.Leader 0)))
     where
-      one : count ≡ 1
-      one = (kinds_at (Activity.Rebalance (Rebalance.Engage (Engage.Decide count))) h i).kind.1
+      b : Balances (word z r.world) r.ledger.rows s (Activity.Rebalance (Rebalance.Engage (Engage.Decide count))) l
+      b = balance_at (Activity.Rebalance (Rebalance.Engage (Engage.Decide count))) h i
 
       which : (word z r.world (name.State l.row) ≡ state_word (state.Leader 0)) ⊎ (word z r.world (name.State l.row) ≡ state_word (state.Leader 0) → ⊥) → Event (rows_in (word z r.world)) (rows_in (word z r'.world)) r.ledger.rows r'.ledger.rows (length r.history.log)
       which (inl e) = decides l.row count (record {
-        held = held_by r.ledger.rows s l.row ((balance_at (Activity.Rebalance (Rebalance.Engage (Engage.Decide count))) h i).fresh tt);
+        held = held_by r.ledger.rows s l.row (b.fresh tt);
         undecided = word_says _ (state.Leader 0) (omega arith) e;
-        marked = (balance_at (Activity.Rebalance (Rebalance.Engage (Engage.Decide count))) h i).group.0.marked;
-        some = omega (arith, one);
-        followed = λ two. absurd (omega (arith, one, two));
-        sets = sets_state (Activity.Rebalance (Rebalance.Engage (Engage.Decide count))) h i.sane (λ c. c) (λ q c. c) (λ q c. c) (λ q c. c) l.row (λ q d c. d c) (row.Leader count) (word_says _ (state.Leader count) (omega (arith, one)) (exchanged _ _ _ _ h.changed.same e));
+        marked = b.group.0.marked;
+        some = (kinds_at (Activity.Rebalance (Rebalance.Engage (Engage.Decide count))) h i).kind.1;
+        followed = λ two. let n = b.next two in (n.0, b.group.0.next ∙ n.1);
+        sets = sets_state (Activity.Rebalance (Rebalance.Engage (Engage.Decide count))) h i.sane (λ c. c) (λ q c. c) (λ q c. c) (λ q c. c) l.row (λ q d c. d c) (row.Leader count) (word_says _ (state.Leader count) (omega (arith, few_go count h i)) (exchanged _ _ _ _ h.changed.same e));
         ledger = ledger_kept (Activity.Rebalance (Rebalance.Engage (Engage.Decide count))) h (λ q c. c) (λ c. c) (λ c. c);
       })
       which (inr d) = rests (record { links = links_kept (Activity.Rebalance (Rebalance.Engage (Engage.Decide count))) h i.sane (λ c. c) (λ q c. c) (λ q c. c) (λ q c. c); states = states_still (Activity.Rebalance (Rebalance.Engage (Engage.Decide count))) h i.sane l.row (λ q n c. n c) (not_exchanged _ _ _ _ h.changed.same d); ledger = ledger_kept (Activity.Rebalance (Rebalance.Engage (Engage.Decide count))) h (λ q c. c) (λ c. c) (λ c. c) })
 
-  -- a row that was found led alone, or undecided, is led alone from now on
-  pub decided_state : (count : ℕ) → Happens z r r' s choice l l' (Activity.Rebalance (Rebalance.Engage (Engage.Decide count))) → Shape z r → (n : ℕ) → state_of (word z r.world (name.State l.row)) ≡ Some (state.Leader n) → n ≤ 1 → (rows_in (word z r'.world)).state l.row ≡ row.Leader 1
-  decided_state count h i n e o = which (cases_eq (word z r.world (name.State l.row)) (state_word (state.Leader 0)))
+  -- a row that was found undecided leads as many as this seat decided, and else as many as it led
+  pub decided_state : (count : ℕ) → Happens z r r' s choice l l' (Activity.Rebalance (Rebalance.Engage (Engage.Decide count))) → Shape z r → (n : ℕ) → state_of (word z r.world (name.State l.row)) ≡ Some (state.Leader n) → (rows_in (word z r'.world)).state l.row ≡ row.Leader (if n == 0 then count else n)
+  decided_state count h i n e = which (cases_eq n 0)
     where
-      one : count ≡ 1
-      one = (kinds_at (Activity.Rebalance (Rebalance.Engage (Engage.Decide count))) h i).kind.1
+      here : word z r.world (name.State l.row) ≡ state_word (state.Leader n)
+      here = sym (state_word_of _ (state.Leader n) e)
 
-      undecided : n ≡ 0 → word z r.world (name.State l.row) ≡ state_word (state.Leader 0)
-      undecided f = sym (state_word_of _ (state.Leader n) e) ∙ ap (λ x. state_word (state.Leader x)) f
+      which : (n ≡ 0) ⊎ (n ≡ 0 → ⊥) → (rows_in (word z r'.world)).state l.row ≡ row.Leader (if n == 0 then count else n)
+      which (inl f) = word_says _ (state.Leader count) (omega (arith, few_go count h i)) (exchanged _ _ _ _ h.changed.same (here ∙ ap (λ x. state_word (state.Leader x)) f)) ∙ ap row.Leader (sym (chosen n 0 count n f))
+      which (inr d) = ap (λ w. state_seen (state_of w)) (not_exchanged _ _ _ _ h.changed.same (λ f. d (led_none n e f))) ∙ ap state_seen e ∙ ap row.Leader (sym (not_chosen n 0 count n d))
 
-      which : (word z r.world (name.State l.row) ≡ state_word (state.Leader 0)) ⊎ (word z r.world (name.State l.row) ≡ state_word (state.Leader 0) → ⊥) → (rows_in (word z r'.world)).state l.row ≡ row.Leader 1
-      which (inl f) = word_says _ (state.Leader count) (omega (arith, one)) (exchanged _ _ _ _ h.changed.same f) ∙ ap row.Leader one
-      which (inr d) = ap (λ w. state_seen (state_of w)) (not_exchanged _ _ _ _ h.changed.same d) ∙ ap state_seen e ∙ ap row.Leader (alone n o (λ f. d (undecided f)))
-        where
-          alone : (m : ℕ) → m ≤ 1 → (m ≡ 0 → ⊥) → m ≡ 1
-          alone m u v = omega (arith, u, v)
+  -- that is one row at least, and no more than a group has
+  pub decided_bounds : (count : ℕ) → Happens z r r' s choice l l' (Activity.Rebalance (Rebalance.Engage (Engage.Decide count))) → Shape z r → (n : ℕ) → state_of (word z r.world (name.State l.row)) ≡ Some (state.Leader n) → (1 ≤ (if n == 0 then count else n)) × ((if n == 0 then count else n) ≤ MOST_GROUP)
+  decided_bounds count h i n e = which (cases_eq n 0)
+    where
+      few : count ≤ MOST_GROUP
+      few = few_go count h i
 
-  -- one that freezes it
-  pub freezing : Happens z r r' s choice l l' (Activity.Rebalance (Rebalance.Freeze Freeze.Count)) → Shape z r → Freezes (rows_in (word z r.world)) (rows_in (word z r'.world)) r.ledger.rows r'.ledger.rows l.row
+      which : (n ≡ 0) ⊎ (n ≡ 0 → ⊥) → (1 ≤ (if n == 0 then count else n)) × ((if n == 0 then count else n) ≤ MOST_GROUP)
+      which (inl f) = rw (chosen n 0 count n f) ((kinds_at (Activity.Rebalance (Rebalance.Engage (Engage.Decide count))) h i).kind.1, few)
+      which (inr d) = rw (not_chosen n 0 count n d) (omega (arith, d), IsState-state_of _ (state.Leader n) e)
+
+  -- the row after it goes along from now on, as it was found or made
+  pub claimed_state : Happens z r r' s choice l l' (Activity.Rebalance (Rebalance.Claim Claim.Exchange)) → Shape z r → (state_of (word z r.world (name.State (row_after l))) ≡ Some state.Normal) ⊎ (state_of (word z r.world (name.State (row_after l))) ≡ Some (state.Follower l.row)) → (rows_in (word z r'.world)).state (row_after l) ≡ row.Follower l.row
+  claimed_state h i (inl e) = word_says _ (state.Follower l.row) (omega (arith, (i.sane.locals s l h.knows).below.row, i.sane.sized.few_rows)) (exchanged _ _ _ _ h.changed.same (sym (state_word_of _ state.Normal e)))
+  claimed_state h i (inr e) = ap (λ w. state_seen (state_of w)) (not_exchanged _ _ _ _ h.changed.same (λ f. let x : Some (state.Follower l.row) ≡ Some state.Normal = sym e ∙ ap state_of f ∙ state_of-Normal in cc)) ∙ ap state_seen e
+
+  -- or leads a group of its own, as it was found
+  pub leader_left : Happens z r r' s choice l l' (Activity.Rebalance (Rebalance.Claim Claim.Exchange)) → Shape z r → (count : ℕ) → state_of (word z r.world (name.State (row_after l))) ≡ Some (state.Leader count) → (rows_in (word z r'.world)).state (row_after l) ≡ row.Leader count
+  leader_left h i count e = ap (λ w. state_seen (state_of w)) (not_exchanged _ _ _ _ h.changed.same (λ f. let x : Some (state.Leader count) ≡ Some state.Normal = sym e ∙ ap state_of f ∙ state_of-Normal in cc)) ∙ ap state_seen e
+
+  -- one that freezes a row of its group
+  pub freezing : Happens z r r' s choice l l' (Activity.Rebalance (Rebalance.Freeze Freeze.Count)) → Shape z r → Freezes (rows_in (word z r.world)) (rows_in (word z r'.world)) r.ledger.rows r'.ledger.rows l.rebalance.hand
   freezing h i = record {
-    decided = λ a. may_freeze (rows_in (word z r.world)) r.ledger.rows (length r.history.log) i.rows l.row None l.rebalance.after (held_by r.ledger.rows s l.row (b.fresh tt)) b.group l.row (inl refl) a;
+    decided = λ a. may_freeze (rows_in (word z r.world)) r.ledger.rows (length r.history.log) i.rows l.row l.rebalance.second l.rebalance.after (held_by r.ledger.rows s l.row (b.fresh tt)) (holds_led (rows_in (word z r.world)) r.ledger.rows l.row l.rebalance.second l.rebalance.after b.group) l.rebalance.hand (in_group l l.rebalance.hand (hand_of_group l (b.hands tt))) a;
     head = ap (λ w. row_linked (link_of w)) (head_stays (Activity.Rebalance (Rebalance.Freeze Freeze.Count)) h (λ c. c));
     next = λ q. ap (λ w. row_linked (link_of w)) (next_word (Activity.Rebalance (Rebalance.Freeze Freeze.Count)) h i.sane q (λ c. c));
     marked = λ q. ap (λ w. has_mark (link_of w)) (next_word (Activity.Rebalance (Rebalance.Freeze Freeze.Count)) h i.sane q (λ c. c));
-    frozen = is_frozen _ refl (i.sane.each (name.Count l.row) (i.sane.locals s l h.knows).below.row);
+    frozen = is_frozen _ refl (i.sane.each (name.Count l.rebalance.hand) (i.sane.locals s l h.knows).below.rebalance.hand);
     others = λ q d. ap (λ w. has_frozen (count_of w)) (count_word (Activity.Rebalance (Rebalance.Freeze Freeze.Count)) h i.sane q d);
     least = λ q. ap key_of_word (least_word (Activity.Rebalance (Rebalance.Freeze Freeze.Count)) h i.sane q (λ c. c));
     states = λ q. state_kept (Activity.Rebalance (Rebalance.Freeze Freeze.Count)) h i.sane q (λ c. c);
@@ -251,7 +248,7 @@ module _ {z : Sizes} {r r' : Run} {s : ℕ} {choice : Choice} {l l' : Local} whe
       b : Balances (word z r.world) r.ledger.rows s (Activity.Rebalance (Rebalance.Freeze Freeze.Count)) l
       b = balance_at (Activity.Rebalance (Rebalance.Freeze Freeze.Count)) h i
 
-      is_frozen : (c : Option Counted) → count_of (word z r.world (name.Count l.row)) ≡ c → IsGiven c → (rows_in (word z r'.world)).frozen l.row ≡ true
+      is_frozen : (c : Option Counted) → count_of (word z r.world (name.Count l.rebalance.hand)) ≡ c → IsGiven c → (rows_in (word z r'.world)).frozen l.rebalance.hand ≡ true
       is_frozen (Some c) e g = ap has_frozen (freezes_given h c e)
       is_frozen None e g = absurd g
 
@@ -264,7 +261,10 @@ module _ {z : Sizes} {r r' : Run} {s : ℕ} {choice : Choice} {l l' : Local} whe
   row_event (Activity.Rebalance (Rebalance.Engage Engage.Lead)) h i = engaging h i
   row_event (Activity.Rebalance (Rebalance.Engage (Engage.MarkLink count))) h i = marks l.row (marking count h i)
   row_event (Activity.Rebalance (Rebalance.Engage (Engage.Decide count))) h i = deciding count h i
-  row_event (Activity.Rebalance (Rebalance.Freeze Freeze.Count)) h i = freezes l.row (freezing h i)
+  row_event (Activity.Rebalance (Rebalance.Claim Claim.Exchange)) h i = claiming_next h i
+  row_event (Activity.Rebalance (Rebalance.Claim (Claim.Normal seat))) h i = normalising_next seat h i
+  row_event (Activity.Rebalance (Rebalance.Claim Claim.MarkLink)) h i = marks (row_after l) (marking_along h i)
+  row_event (Activity.Rebalance (Rebalance.Freeze Freeze.Count)) h i = freezes l.rebalance.hand (freezing h i)
   row_event (Activity.Rebalance (Rebalance.Seek Seek.Take)) h i = taking h i.sane i.rows.states
   row_event (Activity.Rebalance (Rebalance.Seek Seek.Reclaim)) h i = freeing h i.sane i.rows.states (i.sane.locals s l h.knows).ranges.rebalance.number (all_young h i)
   row_event (Activity.Rebalance (Rebalance.Seek Seek.GiveBack)) h i = giving_back h i.sane (hand_infant (Activity.Rebalance (Rebalance.Seek Seek.GiveBack)) h i tt)
@@ -280,7 +280,7 @@ module _ {z : Sizes} {r r' : Run} {s : ℕ} {choice : Choice} {l l' : Local} whe
   row_event (Activity.Rebalance (Rebalance.Replace Replace.Exchange)) h i = replace_event h i.sane (row_link z r.world s l i.sane h.knows) (λ e. may_replace h i)
   row_event (Activity.Rebalance (Rebalance.Replace Replace.Normalise)) h i = let w = won_at (Activity.Rebalance (Rebalance.Replace Replace.Normalise)) h i in making_normal h i.sane (held_by r.ledger.rows s (infant l) (w.fresh tt l.rebalance.at (infant l) (infant_at l (w.hand tt))))
   row_event (Activity.Rebalance (Rebalance.Replace Replace.Number)) h i = numbering h i.sane i.numbers
-  row_event (Activity.Rebalance (Rebalance.Replace Replace.Retire)) h i = let w = won_at (Activity.Rebalance (Rebalance.Replace Replace.Retire)) h i in retiring h i.sane (i.sane.locals s l h.knows).ranges.rebalance.number (w.dead tt) (w.number tt)
+  row_event (Activity.Rebalance (Rebalance.Replace Replace.Retire)) h i = let w = won_at (Activity.Rebalance (Rebalance.Replace Replace.Retire)) h i in retiring h i.sane (i.sane.locals s l h.knows).ranges.rebalance.number (w.dead l.rebalance.hand (inl refl)) (w.number tt)
   row_event a h i = rests (record { links = links_kept a h i.sane (λ c. c) (λ q c. c) (λ q c. c) (λ q c. c); states = λ q. state_kept a h i.sane q (λ c. c); ledger = ledger_kept a h (λ q c. c) (λ c. c) (λ c. c) })
 
   -- one event more is in the log
@@ -320,7 +320,7 @@ module _ {z : Sizes} {r r' : Run} {s : ℕ} {choice : Choice} {l l' : Local} whe
         built = λ q f. (linked_keeps a h i q (fresh_linked r.ledger.rows t q f)).built;
       }
 
-  -- what a seat knows of the row that it rebalances stays known
+  -- what a seat knows of the rows that it rebalances stays known
   pub group_keeps : (a : Activity) → Happens z r r' s choice l l' a → Shape z r → (t : ℕ) (view : View) → Named r.ledger.rows t view → Group (rows_in (word z r.world)) r.ledger.rows view → Group (rows_in (word z r'.world)) r'.ledger.rows view
   group_keeps a h i t view n g = (kept (rows_in (word z r.world)) (rows_in (word z r'.world)) r.ledger.rows r'.ledger.rows (length r.history.log) i.rows (row_event a h i)).group t view n g
 

@@ -21,7 +21,7 @@ use Rattle.kw_world.specs.ReplaceTransitions.{replaced_link}
 use Rattle.kw_world.specs.Sizes.{Sizes}
 use Rattle.kw_world.specs.Transition.{row_linked, row_or_first}
 use Rattle.kw_core.specs.Words.{Words, least_in, next_in}
-use Rattle.kw_core.proofs.Building.{Building, first_is_free, first_is_retired, first_is_taken, sought_is_free, sought_is_retired, sought_is_taken, pass_is_old, pass_is_young, frees_row, takes_row, loses_row, gives_one_back, gives_last_back, writes_count, writes_least, writes_link, writes_first, writes_entry, writes_key, writes_value, writes_version, writes_no_cell, writes_after, begins_before, guesses_before, guess_before_fails, before_serves, before_is_above, takes_head_before, leads_to_full, leads_on_marked, leads_to_other, leads_nowhere, walks_before, walks_past, replaces_row, is_marked_before, is_replaced, makes_normal, makes_last_normal, draws_number, retires_row, marked_link, retires_and_leaves}
+use Rattle.kw_core.proofs.Building.{Building, first_is_free, first_is_retired, first_is_taken, sought_is_free, sought_is_retired, sought_is_taken, pass_is_old, pass_is_young, frees_row, takes_row, loses_row, gives_one_back, gives_last_back, writes_count, writes_least, writes_link, writes_first, writes_entry, writes_key, writes_value, writes_version, writes_no_cell, writes_after, begins_before, guesses_before, guess_before_fails, before_serves, before_is_above, takes_head_before, leads_to_full, leads_on_marked, leads_to_other, leads_nowhere, walks_before, walks_past, replaces_row, is_marked_before, is_replaced, makes_normal, makes_last_normal, draws_number, retires_ahead, retires_row, marked_link, retires_and_leaves}
 use Rattle.kw_core.proofs.NextBuilt.{GivenBack, is_refused_rows, moves_left, tries_again, NextBack, gives_back, has_none, NextPass, has_looked, looks_on, NextSeek, asks, has_asked, NextTaken, has_enough, wants_more, NextNewCell, empties, fills, has_cells, NextNewEntry, has_entries, writes_idle, NextNewRow, has_written, writes_row, NextBefore, is_behind, is_first, was_done, was_served}
 use Rattle.kw_shape.specs.RowsIn.{rows_in, state_seen}
 use Rattle.kw_shape.specs.Search.{HasBefore, HasReachedNext, IsLeft, IsMeasured, IsSearching, Search}
@@ -80,7 +80,7 @@ module _ (v : Words) (g : Ledger) (t : ℕ) where
 
 module _ (v : Words) (g : Ledger) (t now : ℕ) (i : Structure (rows_in v) g now) (l : Local) (fresh : IsFresh g t l.row) (lower : l.lower ≡ least_in v l.row) where
   -- the first row is before the full one, if it is another
-  first_left : i.chain.first ≢ l.row → IsLeft v g l i.chain.first
+  pub first_left : i.chain.first ≢ l.row → IsLeft v g l i.chain.first
   first_left d = which fresh
     where
       live : IsLive g l.row → (i.chain.first ≡ l.row) ⊎ IsBefore (rows_in v) i.chain.first l.row ⊎ IsBefore (rows_in v) l.row i.chain.first → IsLeft v g l i.chain.first
@@ -158,5 +158,6 @@ module _ (v : Words) (g : Ledger) (t now : ℕ) (i : Structure (rows_in v) g now
   search_by z choice a k (makes_normal o) head x = elsewhere v g t _ _ (λ y. y) (λ y. y) (λ y. y) (λ y. y)
   search_by z choice a k (makes_last_normal o) head x = elsewhere v g t _ _ (λ y. y) (λ y. y) (λ y. y) (λ y. y)
   search_by z choice a k draws_number head x = elsewhere v g t _ _ (λ y. y) (λ y. y) (λ y. y) (λ y. y)
-  search_by z choice a k (retires_row nd) head x = elsewhere v g t _ _ (λ y. y) (λ y. y) (λ y. y) (λ y. y)
-  search_by z choice a k (retires_and_leaves dn) head x = elsewhere v g t _ _ (λ y. y) (λ y. y) (λ y. y) (λ y. y)
+  search_by z choice a k (retires_ahead q e) head x = elsewhere v g t _ _ (λ y. y) (λ y. y) (λ y. y) (λ y. y)
+  search_by z choice a k (retires_row n nd) head x = elsewhere v g t _ _ (λ y. y) (λ y. y) (λ y. y) (λ y. y)
+  search_by z choice a k (retires_and_leaves n dn) head x = elsewhere v g t _ _ (λ y. y) (λ y. y) (λ y. y) (λ y. y)

@@ -1,6 +1,7 @@
 -- Every event keeps the shape of the world.
-use Rattle.std.proofs.Common.{ℕ, ◌≡◌, ◌≢◌, ◌⊎◌, inl, inr, ◌+◌, ◌*◌, ◌<◌, ◌≤◌, true, false, Option, Some, None, arith, refl, sym, ◌∙◌, ap, subst, length, slice_get}
+use Rattle.std.proofs.Common.{if◌then◌else◌, Bool, ℕ, ◌≡◌, ◌≢◌, ◌⊎◌, inl, inr, ◌+◌, ◌*◌, ◌<◌, ◌≤◌, true, false, Option, Some, None, arith, refl, sym, ◌∙◌, ap, subst, length, slice_get}
 use Rattle.kw_words.specs.declared.layout.Name.TheVariants as name
+use Rattle.kw_world.specs.ClaimTransitions.{goes_along, row_after}
 use Rattle.kw_world.specs.declared.activity.Activity.{Activity}
 use Rattle.kw_world.specs.declared.activity.draw.Draw.TheVariants as Draw
 use Rattle.kw_world.specs.declared.activity.rebalance.engage.Engage.TheVariants as Engage
@@ -16,10 +17,10 @@ use Rattle.kw_world.specs.declared.event.Choice.{Choice}
 use Rattle.kw_world.specs.SeekTransitions.{infant}
 use Rattle.kw_world.specs.Sizes.{Sizes}
 use Rattle.kw_world.specs.WorldView.{WorldView}
-use Rattle.kw_words.specs.declared.sizes.TheConstants.{MOST_SEATS, SPENT}
+use Rattle.kw_words.specs.declared.sizes.TheConstants.{MOST_GROUP, MOST_SEATS, SPENT}
 use Rattle.kw_words.specs.Layout.{IsSized, IsWithin, words_of}
 use Rattle.kw_words.specs.declared.count.Count.{Count as Counted}
-use Rattle.kw_world.specs.Sane.{IsActivity, IsGiven, IsHead, IsSane, IsKnown, IsLed}
+use Rattle.kw_world.specs.Sane.{IsActivity, IsGiven, IsHead, IsRowBelow, IsSane, IsKnown, IsLed}
 use Rattle.kw_world.specs.Step.{word}
 use Rattle.kw_core.specs.Run.{Run}
 use Rattle.std.proofs.Common.{length-set, slice_set}
@@ -31,6 +32,8 @@ use Rattle.kw_core.proofs.Frame.{given-next}
 use Rattle.kw_core.proofs.FreezeFrame.{DrawsVersion, clock_stays, freezes_given, helper_raises}
 use Rattle.kw_core.proofs.RoomBelow.{room_below}
 use Rattle.kw_shape.proofs.Counts.{adders-set, adders_at_most, adders_but_one, built_adds, built_draws, drawers-set, drawers_few, square_few, adding_next, drawing_next}
+use Rattle.kw_core.specs.Ledger.{group_of}
+use Rattle.kw_core.proofs.Grouping.{NextCounted, claims_row, goes_alone, NextFrozen, NextGathered, freezes_ahead, froze_all, gathered_all, gathers_ahead}
 use Rattle.kw_core.proofs.Happens.{chosen, not_chosen}
 use Rattle.kw_words.specs.declared.link.Link.{Link}
 use Rattle.kw_world.specs.Calls.{first_key, is_scan}
@@ -45,7 +48,8 @@ use Rattle.kw_shape.specs.Plans.{Plans}
 use Rattle.kw_shape.specs.Search.{Search}
 use Rattle.kw_shape.specs.RowsIn.{rows_in}
 use Rattle.kw_shape.specs.Sought.{Sought}
-use Rattle.kw_shape.specs.Won.{HasWon, Won}
+use Rattle.kw_shape.specs.Hands.{IsOfGroup, IsToRetire}
+use Rattle.kw_shape.specs.Won.{Won}
 use Rattle.kw_shape.proofs.SoughtKeep.{outside_stays, sought_other, sought_own, unretired_other, unretired_own}
 use Rattle.kw_shape.proofs.NoneLost.{none_lost_other, none_lost_own}
 use Rattle.kw_shape.proofs.NursedKeep.{infants_go, infants_other, search_go, search_other}
@@ -55,9 +59,8 @@ use Rattle.kw_shape.proofs.VisitsKeep.{numbers_keep, visits_other, visits_own}
 use Rattle.kw_shape.proofs.BalancesKeep.{balances_other, balances_own}
 use Rattle.kw_core.proofs.Fates.{fate_stays}
 use Rattle.kw_rows.specs.Events.{IsIn}
-use Rattle.kw_shape.proofs.InfantsFit.{taken_below}
+use Rattle.kw_shape.proofs.InfantsStay.{infant_at, taken_below}
 use Rattle.kw_shape.proofs.InfantsRely.{index_of_row}
-use Rattle.kw_shape.proofs.InfantsStay.{infant_at}
 use Rattle.kw_shape.proofs.LinkedRows.{infants_at}
 use Rattle.kw_shape.proofs.PlansKeep.{plans_own}
 use Rattle.kw_shape.proofs.RowsKeep.{own_rely, others_kept, rely_rows, structure_keeps}
@@ -65,6 +68,7 @@ use Rattle.kw_shape.proofs.RelyRows.{is_visiting, walks_outside, walks_stable}
 use Rattle.kw_core.proofs.Happens.{Happens, each_seat, knows_next}
 use Rattle.kw_core.proofs.Frame.{WritesPass}
 use Rattle.kw_shape.proofs.Walking.{walks_by}
+use Rattle.kw_shape.proofs.Hands.{knows_group, of_group}
 use Rattle.kw_shape.proofs.Known.{AreSane, at_activity, known_by}
 use Rattle.kw_shape.proofs.InTable.{words_sane}
 use Rattle.kw_shape.proofs.SoughtRows.{sought_in}
@@ -80,7 +84,7 @@ use Rattle.kw_world.specs.Calls.{last_key}
 use Rattle.kw_world.specs.ScanTransitions.{answer_or_stopped}
 use Rattle.kw_world.specs.WalkTransitions.{is_stop}
 use Rattle.kw_core.specs.Stages.{IsVisiting, is_put, IsBalancing, IsDone}
-use Rattle.kw_shape.specs.Shape.{IsSomeCall, IsPutCall, IsReadCall, IsScanCall, IsAnswerOf, IsPairs}
+use Rattle.kw_shape.specs.Shape.{IsSomeCall, IsPutCall, IsReadCall, IsScanCall, IsAnswerOf, IsKind, IsPairs}
 use Rattle.kw_core.proofs.BuiltNext.{built_goes, built_next}
 use Rattle.kw_core.proofs.InfantFrames.{count_stays, count_written}
 use Rattle.kw_words.proofs.CountWords.{count_of-count_word}
@@ -88,13 +92,13 @@ use Rattle.kw_world.specs.WriteTransitions.{infant_cells, infant_count}
 use Rattle.kw_shape.proofs.EpochKeeps.{epoch_keeps}
 use Rattle.kw_shape.proofs.KeyedKeeps.{keyed_keeps}
 use Rattle.kw_shape.proofs.KeysKeep.{keys_own, keys_stay}
-use Rattle.kw_shape.specs.Keyed.{Keys}
+use Rattle.kw_shape.proofs.RestKeep.{rest_own}
+use Rattle.kw_shape.specs.Keyed.{IsRest, Keys}
 use Rattle.kw_shape.proofs.NewWords.{cells_few}
-use Rattle.kw_shape.proofs.NextCalls.{arrow_tidied}
-use Rattle.kw_shape.proofs.Offered.{offered_own, offered_other}
+use Rattle.kw_shape.proofs.NextCalls.{arrow_tidied, offered_other, offered_own}
 use Rattle.kw_world.specs.declared.limits.TheConstants.{TIDY_SHARE}
 use Rattle.kw_shape.proofs.AfterBuilding.{after_kinds, built_kinds, built_pass, built_visits}
-use Rattle.kw_core.proofs.Arrows.{Arrow, begins, enters, enters_scan, is_spent, waits, stores_waiting, draws, settles_empty, settles, starts_at_head, guesses, guess_fails, takes_head, guess_serves, guess_is_above, stops, puts_in_last, reads_last, reaches_next, walks_on, puts_before, reads_before, sees_pending, sees_stamped, sees_neither, is_wanted, is_gone_by, loads_to_help, helps, finds_stamped, finds_other, list_leads, list_ends, key_below, key_within, key_above, loads_version, gathers_listed, left_over_wanted, left_over_gone_by, gathers_left_over, clears_scan, finds_room, takes_cell, stores_key, stores_value, announces, loads_clock, stamps, is_stamped, stores_version, reaches_cell, sees_none, key_before, key_same, key_after, version_before, version_after, stores_after, inserts, loses, clears, leaves, retries, enters_again, clock_is_spent, clock_serves, epoch_is_spent, epoch_serves, finds_infant, finds_normal, finds_leader, finds_other_state, normalises, engages, is_engaged, marks_link, marks_led, decides, decides_not, finds_full, takes_full, announces_full, stamps_full, NextLook, looks, lists, NextLeftOver, goes_to_left_over, answers, ends_scan, scans_on, not_below, freezes_count, sees_idle, sees_unstamped, remembers, remembers_last, sees_frozen, sees_frozen_last, freezes_entry, freezes_last, looks_again, sees_quiet, sees_quiet_last, helps_scan, sees_drawn, sees_drawn_last, draws_for, settles_scan, settles_last, finds_drawn, finds_drawn_last, finds_no_scan, finds_no_scan_last, take_leads, takes_left, takes_no_more, takes_key, takes_version, keeps_taken, takes_left_key, keeps_left, keeps_no_more, builds, ends_at_state, ends_at_clock, ends_at_epoch, ends_undecided, tidies, begins_at_first, begins_behind, first_ends, first_leads, first_reaches, first_sees_none, inserts_at_first, inserts_behind}
+use Rattle.kw_core.proofs.Arrows.{Arrow, begins, enters, enters_scan, is_spent, waits, stores_waiting, draws, settles_empty, settles, starts_at_head, guesses, guess_fails, takes_head, guess_serves, guess_is_above, stops, puts_in_last, reads_last, reaches_next, walks_on, puts_before, reads_before, sees_pending, sees_stamped, sees_neither, is_wanted, is_gone_by, loads_to_help, helps, finds_stamped, finds_other, list_leads, list_ends, key_below, key_within, key_above, loads_version, gathers_listed, left_over_wanted, left_over_gone_by, gathers_left_over, clears_scan, finds_room, takes_cell, stores_key, stores_value, announces, loads_clock, stamps, is_stamped, stores_version, reaches_cell, sees_none, key_before, key_same, key_after, version_before, version_after, stores_after, inserts, loses, clears, leaves, retries, enters_again, clock_is_spent, clock_serves, epoch_is_spent, epoch_serves, finds_infant, finds_normal, finds_follower, finds_leader, finds_other_state, normalises, engages, is_engaged, marks_link, marks_last, marks_led, decides, decides_not, finds_full, takes_full, announces_full, stamps_full, NextLook, looks, lists, NextLeftOver, goes_to_left_over, answers, ends_scan, scans_on, not_below, freezes_count, sees_idle, sees_unstamped, remembers, remembers_last, sees_frozen, sees_frozen_last, freezes_entry, freezes_last, looks_again, sees_quiet, sees_quiet_last, helps_scan, sees_drawn, sees_drawn_last, draws_for, settles_scan, settles_last, finds_drawn, finds_drawn_last, finds_no_scan, finds_no_scan_last, take_leads, takes_left, takes_no_more, takes_key, takes_version, keeps_taken, takes_left_key, keeps_left, keeps_no_more, builds, ends_at_state, ends_at_clock, ends_at_epoch, ends_undecided, counts_next, claims_next, next_is_infant, next_leads, claims_not, ends_unclaimed, normalises_next, marks_next, begins_left, takes_leader, reaches_leader, leads_left, walks_left, head_follows, ends_at_head, none_is_left, ends_at_none, passes_left, ends_past, tidies, begins_at_first, begins_behind, first_ends, first_leads, first_reaches, first_sees_none, inserts_at_first, inserts_behind}
 use Rattle.kw_core.proofs.Building.{IsBuilding}
 
 -- The acting seat.
@@ -110,7 +114,7 @@ head_below rows None h = absurd h
 
 -- what the acting seat knows is in range
 known_own : (z : Sizes) (r r' : Run) (s : ℕ) (choice : Choice) (l : Local) (a : Activity) (l' : Local) → Arrow z (word z r.world) s choice l a l' → Happens z r r' s choice l l' a → Shape z r → IsKnown z r.world.rows l'
-known_own z r r' s choice l a l' b h i = known_by z r.world.rows (word z r.world) s choice l a l' b (words_of_sane z r.world i.sane) (head_below r.world.rows _ (i.sane.led name.Head tt)) h.seat h.begins h.offers (at_activity z r.world.rows a l h.activity (i.sane.locals s l h.knows)) (λ y. sought_in a y h i.sane)
+known_own z r r' s choice l a l' b h i = known_by z r.world.rows (word z r.world) s choice l a l' b (words_of_sane z r.world i.sane) (head_below r.world.rows _ (i.sane.led name.Head tt)) h.seat h.begins h.offers (at_activity z r.world.rows a l h.activity (i.sane.locals s l h.knows) (knows_group z r i s l h.knows a h.activity)) (λ y. sought_in a y h i.sane)
 
 -- the words are in range
 words_keep : (z : Sizes) (r r' : Run) (s : ℕ) (choice : Choice) (l : Local) (a : Activity) (l' : Local) → Happens z r r' s choice l l' a → Shape z r → AreSane z r.world.rows (word z r'.world)
@@ -120,7 +124,7 @@ words_keep z r r' s choice l a l' h i =
       clock = omega (arith, i.clock, i.sane.sized.few_seats, square_few z.seats MOST_SEATS i.sane.sized.few_seats);
       epoch = omega (arith, i.epoch, i.sane.sized.few_seats);
       given = λ q o. omega (arith, i.room q o, i.sane.sized.few_seats, i.sane.sized.few_cells);
-    }) a (word z r'.world) (at_activity z r.world.rows a l h.activity (i.sane.locals s l h.knows)) h.named h.changed
+    }) a (word z r'.world) (at_activity z r.world.rows a l h.activity (i.sane.locals s l h.knows) (knows_group z r i s l h.knows a h.activity)) h.named h.changed
 
 -- the world is sane
 pub sane_keeps : (z : Sizes) (r r' : Run) (s : ℕ) (choice : Choice) (l : Local) (a : Activity) (l' : Local) → Arrow z (word z r.world) s choice l a l' → Happens z r r' s choice l l' a → Shape z r → IsSane z r'.world
@@ -193,14 +197,14 @@ room_keeps z r r' s choice l a l' (finds_room e) h i q o = which (cases_eq l.row
 room_keeps z r r' s choice l a l' (finds_full e) h i q o = room_plain z r r' s choice l (Activity.Put Put.Count) _ h i q (ap (λ w. given_of (count_of w)) (count_stays (Activity.Put Put.Count) h q o (λ c. c))) refl o
 room_keeps z r r' s choice l a l' (takes_cell e) h i q o = room_add z r r' s choice l _ h i q refl o
 room_keeps z r r' s choice l a l' (takes_full e) h i q o = room_add z r r' s choice l _ h i q refl o
-room_keeps z r r' s choice l a l' freezes_count h i q o = room_plain z r r' s choice l (Activity.Rebalance (Rebalance.Freeze Freeze.Count)) _ h i q (frozen_given (cases_eq q l.row)) refl o
+room_keeps z r r' s choice l a l' freezes_count h i q o = room_plain z r r' s choice l (Activity.Rebalance (Rebalance.Freeze Freeze.Count)) _ h i q (frozen_given (cases_eq q l.rebalance.hand)) refl o
   where
-    at_row : (c : Option Counted) → count_of (word z r.world (name.Count l.row)) ≡ c → IsGiven c → given_in (word z r'.world) l.row ≡ given_in (word z r.world) l.row
-    at_row (Some c) e g = ap given_of (freezes_given h c e) ∙ ap given_of (sym e)
-    at_row None e g = absurd g
+    at_hand : (c : Option Counted) → count_of (word z r.world (name.Count l.rebalance.hand)) ≡ c → IsGiven c → given_in (word z r'.world) l.rebalance.hand ≡ given_in (word z r.world) l.rebalance.hand
+    at_hand (Some c) e g = ap given_of (freezes_given h c e) ∙ ap given_of (sym e)
+    at_hand None e g = absurd g
 
-    frozen_given : (q ≡ l.row) ⊎ (q ≡ l.row → ⊥) → given_in (word z r'.world) q ≡ given_in (word z r.world) q
-    frozen_given (inl e) = subst (λ x. given_in (word z r'.world) x ≡ given_in (word z r.world) x) (sym e) (at_row _ refl (i.sane.each (name.Count l.row) (i.sane.locals s l h.knows).below.row))
+    frozen_given : (q ≡ l.rebalance.hand) ⊎ (q ≡ l.rebalance.hand → ⊥) → given_in (word z r'.world) q ≡ given_in (word z r.world) q
+    frozen_given (inl e) = subst (λ x. given_in (word z r'.world) x ≡ given_in (word z r.world) x) (sym e) (at_hand _ refl (i.sane.each (name.Count l.rebalance.hand) (i.sane.locals s l h.knows).below.rebalance.hand))
     frozen_given (inr d) = ap (λ w. given_of (count_of w)) (count_stays (Activity.Rebalance (Rebalance.Freeze Freeze.Count)) h q o d)
 room_keeps z r r' s choice l a l' b h i q o = room_plain z r r' s choice l _ l' h i q (ap (λ w. given_of (count_of w)) (count_stays _ h q o (λ c. c))) (adding_next z (word z r.world) s choice l _ l' q b (λ x. x)) o
 
@@ -313,6 +317,24 @@ kinds_cell z l next (answers o n) k e = record { kind = get_answer l.call _ k n;
 kinds_cell z l next (ends_scan o y n) k e = record { kind = (scan_call l.call y, tt); range = λ x. absurd x }
 kinds_cell z l next (scans_on q o y n w) k e = record { kind = some_read l.call k; range = λ x. e }
 
+-- a put goes through the rows of its group
+frozen_kinds : (l next : Local) → NextFrozen l next → IsPutCall l.call → Kinds next.activity next
+frozen_kinds l next (freezes_ahead r e) k = record { kind = k; range = λ x. absurd x }
+frozen_kinds l next (froze_all e) k = record { kind = k; range = λ x. absurd x }
+
+counted_kinds : (count : ℕ) (l next : Local) → NextCounted count l next → IsPutCall l.call → Kinds next.activity next
+counted_kinds count l next (claims_row q two e) k = record { kind = k; range = λ x. absurd x }
+counted_kinds count l next (goes_alone d) k = record { kind = k; range = λ x. absurd x }
+
+gathered_kinds : (z : Sizes) (l next : Local) → NextGathered z l next → IsPutCall l.call → Kinds next.activity next
+gathered_kinds z l next (gathers_ahead r e) k = record { kind = k; range = λ x. absurd x }
+gathered_kinds z l next (gathered_all e) k = record { kind = k; range = λ x. absurd x }
+
+-- one row goes at least
+one_counted : (b : Bool) → 1 ≤ (if b then MOST_GROUP else 1)
+one_counted true = omega arith
+one_counted false = omega arith
+
 -- by the arrow that the seat takes
 kinds_by : (z : Sizes) (v : Words) (s : ℕ) (choice : Choice) (l : Local) (a : Activity) (l' : Local) → Arrow z v s choice l a l' → Kinds a l → Kinds l'.activity l'
 kinds_by z v s choice l a l' (builds b next y t) k = let g = built_goes z v choice l b next t in after_kinds next.activity next g.next (subst IsPutCall (sym g.call) (built_kinds b l y k))
@@ -410,26 +432,28 @@ kinds_by z v s choice l a l' (ends_at_epoch dn) k = record { kind = put_done l.c
 kinds_by z v s choice l a l' (epoch_serves e) k = record { kind = k.kind; range = λ x. absurd x }
 kinds_by z v s choice l a l' (finds_infant seat e) k = record { kind = k.kind; range = λ x. absurd x }
 kinds_by z v s choice l a l' (finds_normal e) k = record { kind = k.kind; range = λ x. absurd x }
-kinds_by z v s choice l a l' (finds_leader count e o) k = record { kind = (k.kind, o); range = λ x. absurd x }
+kinds_by z v s choice l a l' (finds_leader count e) k = record { kind = k.kind; range = λ x. absurd x }
+kinds_by z v s choice l a l' (finds_follower leader e) k = record { kind = k.kind; range = λ x. absurd x }
 kinds_by z v s choice l a l' (finds_other_state nd) k = record { kind = k.kind; range = λ x. absurd x }
 kinds_by z v s choice l a l' (ends_at_state dn) k = record { kind = put_done l.call k.kind; range = λ x. absurd x }
 kinds_by z v s choice l a l' (normalises seat) k = record { kind = k.kind; range = λ x. absurd x }
-kinds_by z v s choice l a l' (engages e) k = record { kind = (k.kind, omega arith); range = λ x. absurd x }
+kinds_by z v s choice l a l' (engages e) k = record { kind = k.kind; range = λ x. absurd x }
 kinds_by z v s choice l a l' (is_engaged e) k = record { kind = k.kind; range = λ x. absurd x }
-kinds_by z v s choice l a l' (marks_link count e) k = record { kind = (k.kind.0, refl); range = λ x. absurd x }
-kinds_by z v s choice l a l' (marks_led count e) k = record { kind = k.kind.0; range = λ x. absurd x }
-kinds_by z v s choice l a l' (decides count n e o) k = record { kind = k.kind.0; range = λ x. absurd x }
+kinds_by z v s choice l a l' (marks_link count q e o) k = record { kind = k.kind; range = λ x. absurd x }
+kinds_by z v s choice l a l' (marks_last count e o) k = record { kind = (k.kind, omega arith); range = λ x. absurd x }
+kinds_by z v s choice l a l' (marks_led count next d n) k = counted_kinds count _ next n k.kind
+kinds_by z v s choice l a l' (decides count m next e n) k = counted_kinds _ _ next n k.kind.0
 kinds_by z v s choice l a l' (decides_not count nd) k = record { kind = k.kind.0; range = λ x. absurd x }
 kinds_by z v s choice l a l' (ends_undecided count dn) k = record { kind = put_done l.call k.kind.0; range = λ x. absurd x }
 kinds_by z v s choice l a l' freezes_count k = record { kind = k.kind; range = λ x. absurd x }
 kinds_by z v s choice l a l' (sees_idle j e) k = record { kind = k.kind; range = λ x. absurd x }
 kinds_by z v s choice l a l' (sees_unstamped j c e) k = record { kind = k.kind; range = λ x. absurd x }
 kinds_by z v s choice l a l' (remembers j c version e o) k = record { kind = k.kind; range = λ x. absurd x }
-kinds_by z v s choice l a l' (remembers_last j c version e o) k = record { kind = k.kind; range = λ x. absurd x }
+kinds_by z v s choice l a l' (remembers_last j c version next e o n) k = frozen_kinds _ next n k.kind
 kinds_by z v s choice l a l' (sees_frozen j e o) k = record { kind = k.kind; range = λ x. absurd x }
-kinds_by z v s choice l a l' (sees_frozen_last j e o) k = record { kind = k.kind; range = λ x. absurd x }
+kinds_by z v s choice l a l' (sees_frozen_last j next e o n) k = frozen_kinds l next n k.kind
 kinds_by z v s choice l a l' (freezes_entry j e o) k = record { kind = k.kind; range = λ x. absurd x }
-kinds_by z v s choice l a l' (freezes_last j e o) k = record { kind = k.kind; range = λ x. absurd x }
+kinds_by z v s choice l a l' (freezes_last j next e o n) k = frozen_kinds l next n k.kind
 kinds_by z v s choice l a l' (looks_again j e) k = record { kind = k.kind; range = λ x. absurd x }
 kinds_by z v s choice l a l' (sees_quiet j e o) k = record { kind = k.kind; range = λ x. absurd x }
 kinds_by z v s choice l a l' (sees_quiet_last j e o) k = record { kind = k.kind; range = λ x. absurd x }
@@ -444,14 +468,33 @@ kinds_by z v s choice l a l' (finds_drawn_last j version e o) k = record { kind 
 kinds_by z v s choice l a l' (finds_no_scan j e o) k = record { kind = k.kind; range = λ x. absurd x }
 kinds_by z v s choice l a l' (finds_no_scan_last j e o) k = record { kind = k.kind; range = λ x. absurd x }
 kinds_by z v s choice l a l' (take_leads c e) k = record { kind = k.kind; range = λ x. absurd x }
-kinds_by z v s choice l a l' (takes_left m e n) k = record { kind = k.kind; range = λ x. absurd x }
+kinds_by z v s choice l a l' (takes_left m e n o) k = record { kind = k.kind; range = λ x. absurd x }
 kinds_by z v s choice l a l' takes_key k = record { kind = k.kind; range = λ x. absurd x }
 kinds_by z v s choice l a l' takes_version k = record { kind = k.kind; range = λ x. absurd x }
 kinds_by z v s choice l a l' keeps_taken k = record { kind = k.kind; range = λ x. absurd x }
 kinds_by z v s choice l a l' takes_left_key k = record { kind = k.kind; range = λ x. absurd x }
-kinds_by z v s choice l a l' (keeps_left m n) k = record { kind = k.kind; range = λ x. absurd x }
-kinds_by z v s choice l a l' (takes_no_more e n) k = record { kind = k.kind; range = λ x. absurd x }
-kinds_by z v s choice l a l' (keeps_no_more n) k = record { kind = k.kind; range = λ x. absurd x }
+kinds_by z v s choice l a l' (keeps_left m n o) k = record { kind = k.kind; range = λ x. absurd x }
+kinds_by z v s choice l a l' (takes_no_more next e f n) k = gathered_kinds z l next n k.kind
+kinds_by z v s choice l a l' (keeps_no_more next f n) k = gathered_kinds z _ next n k.kind
+kinds_by z v s choice l a l' counts_next k = record { kind = (k.kind, one_counted (goes_along (count_of (v (name.Count (row_after l)))) l)); range = λ x. absurd x }
+kinds_by z v s choice l a l' (claims_next e) k = record { kind = k.kind; range = λ x. absurd x }
+kinds_by z v s choice l a l' (next_is_infant seat e) k = record { kind = k.kind; range = λ x. absurd x }
+kinds_by z v s choice l a l' (next_leads count e) k = record { kind = k.kind; range = λ x. absurd x }
+kinds_by z v s choice l a l' (normalises_next seat) k = record { kind = k.kind; range = λ x. absurd x }
+kinds_by z v s choice l a l' marks_next k = record { kind = k.kind; range = λ x. absurd x }
+kinds_by z v s choice l a l' (begins_left q e d) k = record { kind = k.kind; range = λ x. absurd x }
+kinds_by z v s choice l a l' (takes_leader q e) k = record { kind = k.kind; range = λ x. absurd x }
+kinds_by z v s choice l a l' (reaches_leader e) k = record { kind = k.kind; range = λ x. absurd x }
+kinds_by z v s choice l a l' (leads_left q e d) k = record { kind = k.kind; range = λ x. absurd x }
+kinds_by z v s choice l a l' (walks_left o) k = record { kind = k.kind; range = λ x. absurd x }
+kinds_by z v s choice l a l' (claims_not nd) k = record { kind = k.kind; range = λ x. absurd x }
+kinds_by z v s choice l a l' (head_follows nd e) k = record { kind = k.kind; range = λ x. absurd x }
+kinds_by z v s choice l a l' (none_is_left nd e) k = record { kind = k.kind; range = λ x. absurd x }
+kinds_by z v s choice l a l' (passes_left nd o) k = record { kind = k.kind; range = λ x. absurd x }
+kinds_by z v s choice l a l' (ends_unclaimed dn) k = record { kind = put_done l.call k.kind; range = λ x. absurd x }
+kinds_by z v s choice l a l' (ends_at_head dn) k = record { kind = put_done l.call k.kind; range = λ x. absurd x }
+kinds_by z v s choice l a l' (ends_at_none dn) k = record { kind = put_done l.call k.kind; range = λ x. absurd x }
+kinds_by z v s choice l a l' (ends_past dn) k = record { kind = put_done l.call k.kind; range = λ x. absurd x }
 
 -- the acting seat goes on to an activity of its call
 pub kinds_own : (z : Sizes) (r r' : Run) (s : ℕ) (choice : Choice) (l : Local) (a : Activity) (l' : Local) → Arrow z (word z r.world) s choice l a l' → Happens z r r' s choice l l' a → Shape z r → Kinds l'.activity l'
@@ -496,8 +539,12 @@ module _ {z : Sizes} {r r' : Run} {s : ℕ} {choice : Choice} {l l' : Local} whe
   beyond_stays (Activity.Rebalance (Rebalance.Seek Seek.GiveBack)) h i q o = fate_stays (Activity.Rebalance (Rebalance.Seek Seek.GiveBack)) h q (λ c. absurd (omega (arith, o, c, taken_below z r.world s l i.sane h.knows l.rebalance.at (infant l) (infant_at l ((infants_at (Activity.Rebalance (Rebalance.Seek Seek.GiveBack)) h i).hand tt)))))
   beyond_stays (Activity.Rebalance (Rebalance.Replace Replace.Exchange)) h i q o = fate_stays (Activity.Rebalance (Rebalance.Replace Replace.Exchange)) h q acts
     where
-      acts : (q ≡ l.row) ⊎ IsIn l.rebalance.taken q → ⊥
-      acts (inl c) = absurd (omega (arith, o, c, (i.sane.locals s l h.knows).below.row))
+      group : IsOfGroup l q → ⊥
+      group (inl c) = omega (arith, o, c, (i.sane.locals s l h.knows).below.row)
+      group (inr c) = let p : q < r.world.rows = subst (IsRowBelow r.world.rows) c (i.sane.locals s l h.knows).below.rebalance.second in omega (arith, o, p)
+
+      acts : IsIn (group_of l) q ⊎ IsIn l.rebalance.taken q → ⊥
+      acts (inl c) = group (of_group l q c)
       acts (inr c) = let p = index_of_row l.rebalance.taken q c in absurd (omega (arith, o, taken_below z r.world s l i.sane h.knows p.0 q p.1))
   beyond_stays a h i q o = fate_stays a h q (λ x. x)
 
@@ -505,6 +552,7 @@ pub shape_keeps : (z : Sizes) (r r' : Run) (s : ℕ) (choice : Choice) (l : Loca
 shape_keeps z r r' s choice l a l' h i = record {
   sane = sane;
   built = i.built;
+  fits = i.fits;
   room = λ q o. room_keeps z r r' s choice l a l' h.arrow h i q (subst (λ x. q < x) h.rows o);
   clock = clock_keeps z r r' s choice l a l' h.arrow h i;
   rows = structure_keeps a h i;
@@ -519,14 +567,15 @@ shape_keeps z r r' s choice l a l' h i = record {
   outside = outside_stays a h i;
   walks = each_seat h (λ t k. Walks (word z r'.world) r'.ledger.rows t k.activity k) (walks_own z r r' s choice l a l' h.arrow h i) (walks_other z r r' s choice l a l' h i);
   balances = each_seat h (λ t k. Balances (word z r'.world) r'.ledger.rows t k.activity k) (balances_own z r r' s choice l a l' h.arrow h i) (balances_other z r r' s choice l a l' h i);
-  keys = each_seat h (λ t k. Keys (word z r'.world) r'.ledger.rows k.activity k) (keys_own a h i sane) (λ t k d g. keys_stay a h i sane t k g);
+  rest = each_seat h (λ t k. IsRest z k.activity k) (rest_own a h i) (λ t k d g. i.rest t k g);
+  keys = each_seat h (λ t k. Keys z (word z r'.world) r'.ledger.rows k.activity k) (keys_own a h i sane) (λ t k d g. keys_stay a h i sane t k g);
   plans = each_seat h (λ t k. Plans z k.activity k) (plans_own z r r' s choice l a l' h.arrow h i) (λ t k d g. i.plans t k g);
   infants = each_seat h (λ t k. Infants z (word z r'.world) r'.ledger.rows t k.activity k) (infants_go a h.arrow h i) (infants_other a h i);
   none_lost = each_seat h (λ t k. HasLostNone r'.ledger.rows t k.activity k) (none_lost_own a l' h.arrow h i) (none_lost_other a h i);
   search = each_seat h (λ t k. Search (word z r'.world) r'.ledger.rows t k.activity k) (search_go a h.arrow h i) (search_other a h i);
   won = each_seat h (λ t k. Won r'.ledger.rows t k.activity k) (won_own a h.arrow h i) (won_other a h i);
   sought = each_seat h (λ t k. Sought z (word z r'.world) r'.ledger.rows t k.activity k) (sought_own a h.arrow h i) (sought_other a h i);
-  unretired = each_seat h (λ t k. HasWon k.activity → IsEngaged ((rows_in (word z r'.world)).state k.row)) (unretired_own a h.arrow h i) (unretired_other a h i);
+  unretired = each_seat h (λ t k. (q : ℕ) → IsToRetire k.activity k q → IsEngaged ((rows_in (word z r'.world)).state q)) (unretired_own a h.arrow h i) (unretired_other a h i);
 }
   where
     sane : IsSane z r'.world

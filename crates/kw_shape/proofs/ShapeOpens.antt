@@ -41,7 +41,8 @@ use Rattle.kw_shape.specs.Balances.{Balances}
 use Rattle.kw_shape.specs.Infants.{HasLostNone, Infants}
 use Rattle.kw_shape.specs.Search.{Search}
 use Rattle.kw_shape.specs.Sought.{Sought}
-use Rattle.kw_shape.specs.Won.{HasWon, Won}
+use Rattle.kw_shape.specs.Hands.{IsToRetire}
+use Rattle.kw_shape.specs.Won.{Won}
 use Rattle.kw_shape.proofs.SoughtKeep.{unsought}
 use Rattle.kw_shape.proofs.Comings.{unbuilt_search}
 use Rattle.kw_shape.proofs.InfantsKeep.{nowhere}
@@ -50,7 +51,7 @@ use Rattle.kw_shape.proofs.BalancesKeep.{outside}
 use Rattle.kw_shape.proofs.PlansKeep.{unplanned}
 use Rattle.kw_shape.specs.Plans.{Plans}
 use Rattle.kw_shape.specs.Epochs.{numberers}
-use Rattle.kw_shape.specs.Keyed.{IsOfCell, Keyed, Keys}
+use Rattle.kw_shape.specs.Keyed.{IsOfCell, IsRest, Keyed, Keys}
 use Rattle.kw_words.specs.Pend.{pend_of}
 use Rattle.kw_words.specs.Plain.{built_of_word, cell_of_link_word, key_of_word}
 use Rattle.kw_words.proofs.PlainWords.{built_of_word-zero}
@@ -228,17 +229,19 @@ module _ (z : Sizes) (o : Opening) (i : IsOpening z o) where
   shape_starts = record {
     sane = opened-sane z o i;
     built = i.built;
+    fits = i.fits;
     room = λ q w. omega (arith, given-none q w, no_adders o.seats q, i.sized.some_cells);
     clock = omega (arith, opens name.Clock tt, no_drawers z.seats o.seats, i.clock);
     rows = structure_starts;
     beyond = beyond_starts;
     keyed = λ q k. keyed_starts q;
     epoch = omega (arith, opens name.Epoch tt, no_numberers o.seats, i.epoch);
-    keys = each_rests z o (λ t l. Keys (word z (opened z o)) (ledger_at_first o).rows l.activity l) (λ t. record { own = λ x. absurd x; list = λ c x. absurd x; marks = λ x. absurd x; saw = λ x. absurd x; key = λ x. absurd x; gathered = λ x. absurd x });
+    rest = each_rests z o (λ t l. IsRest z l.activity l) (λ t x. absurd x);
+    keys = each_rests z o (λ t l. Keys z (word z (opened z o)) (ledger_at_first o).rows l.activity l) (λ t. record { own = λ x. absurd x; list = λ c x. absurd x; marks = λ x. absurd x; saw = λ x. absurd x; key = λ x. absurd x; gathered = λ x. absurd x });
     plans = each_rests z o (λ t l. Plans z l.activity l) (λ t. unplanned z Activity.Idle (resting 0) refl);
     infants = each_rests z o (λ t l. Infants z (word z (opened z o)) (ledger_at_first o).rows t l.activity l) (λ t. nowhere z (word z (opened z o)) (ledger_at_first o).rows t Activity.Idle (resting 0) refl);
     none_lost = each_rests z o (λ t l. HasLostNone (ledger_at_first o).rows t l.activity l) (λ t q x. none_infant q x.status);
-    search = each_rests z o (λ t l. Search (word z (opened z o)) (ledger_at_first o).rows t l.activity l) (λ t. unbuilt_search (word z (opened z o)) (ledger_at_first o).rows t Activity.Idle (resting 0) (λ x. x));
+    search = each_rests z o (λ t l. Search (word z (opened z o)) (ledger_at_first o).rows t l.activity l) (λ t. unbuilt_search (word z (opened z o)) (ledger_at_first o).rows t Activity.Idle (resting 0) (λ x. x) (λ x. x));
     won = each_rests z o (λ t l. Won (ledger_at_first o).rows t l.activity l) (λ t. unwon (ledger_at_first o).rows t Activity.Idle (resting 0) (λ x. x));
     numbers = record { below = λ m at e. let x : None ≡ Some at = e in absurd (cc); rises = λ m n x y e f. let u : None ≡ Some x = e in absurd (cc) };
     tidies = each_rests z o (λ t l. l.tidies ≡ true → IsBalancing l.activity ⊎ IsDone l.activity) (λ t e. let y : false ≡ true = e in cc);
@@ -247,7 +250,7 @@ module _ (z : Sizes) (o : Opening) (i : IsOpening z o) where
     visits = λ t l g. each_rests z o (λ t l. t < z.seats → Visits (word z (opened z o)) (ledger_at_first o).rows t l.activity l) visits_start t l g (omega (arith, slice_get_within (opened z o).locals t l g, (opened-sane z o i).seats));
     outside = λ t w. refl;
     sought = each_rests z o (λ t l. Sought z (word z (opened z o)) (ledger_at_first o).rows t l.activity l) (λ t. unsought z (word z (opened z o)) (ledger_at_first o).rows t Activity.Idle (resting 0) (λ x. x, λ x. x));
-    unretired = each_rests z o (λ t l. HasWon l.activity → IsEngaged ((rows_in (word z (opened z o))).state l.row)) (λ t x. absurd x);
+    unretired = each_rests z o (λ t l. (q : ℕ) → IsToRetire l.activity l q → IsEngaged ((rows_in (word z (opened z o))).state q)) (λ t q x. absurd x);
     walks = each_rests z o (λ t l. Walks (word z (opened z o)) (ledger_at_first o).rows t l.activity l) (λ t. walks_outside (word z (opened z o)) (ledger_at_first o).rows t Activity.Idle (resting 0) (λ x. x));
     balances = each_rests z o (λ t l. Balances (word z (opened z o)) (ledger_at_first o).rows t l.activity l) (λ t. outside (word z (opened z o)) (ledger_at_first o).rows t Activity.Idle (resting 0) (λ x. x) tt);
   }

@@ -1,5 +1,5 @@
--- Every event keeps what each seat knows of the retired row that it asks for, and that the full row
--- which a seat has replaced is not retired before the seat does so.
+-- Every event keeps what each seat knows of the retired row that it asks for, and that no row of a
+-- group which a seat has replaced is retired before the seat does so.
 --
 -- A dead row that stays dead keeps its state, unless it is retired now: each exchange of a state
 -- expects one that no dead row has, but for the one that frees a retired row, after which the row
@@ -16,6 +16,7 @@ use Rattle.kw_words.specs.State.{IsState, state_of, state_word}
 use Rattle.kw_words.proofs.LinkWords.{link_word_of}
 use Rattle.kw_words.proofs.PlainWords.{number_of_word-number_word}
 use Rattle.kw_words.proofs.StateWords.{state_word_of}
+use Rattle.kw_rows.specs.Group.{Group}
 use Rattle.kw_rows.specs.Ledger.{Dead, Fate, IsDead, IsFresh, IsHeld, IsLive, Ledger, Live, WasHeld}
 use Rattle.kw_rows.specs.RowState as row
 use Rattle.kw_rows.specs.RowState.{IsEngaged}
@@ -24,6 +25,7 @@ use Rattle.kw_rows.specs.States.{IsDeadState, IsNumbered, States}
 use Rattle.kw_rows.proofs.Framed as framed
 use Rattle.kw_rows.proofs.Named.{held_by}
 use Rattle.kw_world.specs.declared.activity.Activity.{Activity}
+use Rattle.kw_world.specs.declared.activity.rebalance.claim.Claim.TheVariants as Claim
 use Rattle.kw_world.specs.declared.activity.rebalance.engage.Engage.TheVariants as Engage
 use Rattle.kw_world.specs.declared.activity.enter.Enter.TheVariants as Enter
 use Rattle.kw_world.specs.declared.activity.rebalance.Rebalance.TheVariants as Rebalance
@@ -34,6 +36,7 @@ use Rattle.kw_world.specs.declared.activity.look.Look.TheVariants as Look
 use Rattle.kw_world.specs.declared.event.Choice.{Choice}
 use Rattle.kw_world.specs.declared.local.Local.{Local}
 use Rattle.kw_world.specs.declared.rebalance.Afterwards.{Afterwards}
+use Rattle.kw_world.specs.ClaimTransitions.{row_after}
 use Rattle.kw_world.specs.ReplaceTransitions.{replaced_link}
 use Rattle.kw_world.specs.Sane.{IsActivity}
 use Rattle.kw_world.specs.SeekTransitions.{infant}
@@ -53,11 +56,14 @@ use Rattle.kw_core.proofs.NextBuilt.{GivenBack, is_refused_rows, moves_left, tri
 use Rattle.kw_shape.proofs.BuildEvents.{dead_by_state, free_by_state, seat_fits, state_kept, states_still, word_says}
 use Rattle.kw_shape.proofs.Comings.{Comes, comes, goes_on, seeks, stays_out, won_builds}
 use Rattle.kw_shape.proofs.InfantsRely.{linked_not_infant}
-use Rattle.kw_shape.proofs.LinkedRows.{GoesNow, balance_at, dead_before, full_live, hand_infant, held_dead, linked_keeps, linked_not_free, sought_at}
+use Rattle.kw_shape.proofs.LinkedRows.{GoesNow, balance_at, dead_before, full_live, hand_infant, held_dead, linked_keeps, linked_not_free, named_to_retire, retire_fresh, sought_at}
+use Rattle.kw_shape.proofs.Hands.{ahead_other}
 use Rattle.kw_shape.proofs.VisitsKeep.{old_number, visiting_busy}
 use Rattle.kw_shape.proofs.RelyRows.{is_visiting}
 use Rattle.kw_shape.proofs.RowsKeep.{others_kept, visit_begins, visit_ends, visit_taken_back, won_at}
-use Rattle.kw_shape.proofs.WonKeep.{WonBy, has_next, has_number, was_last, wins_now, won_balances, won_by}
+use Rattle.kw_shape.proofs.WonKeep.{WonBy, has_ahead, has_next, has_number, to_retire_won, was_last, wins_now, won_by}
+use Rattle.kw_shape.specs.Balances.{led}
+use Rattle.kw_shape.specs.Hands.{IsOfGroup, IsToRetire}
 use Rattle.kw_shape.specs.Infants.{IsInfantOf}
 use Rattle.kw_shape.specs.RowsIn.{rows_in, state_seen}
 use Rattle.kw_shape.specs.Shape.{Shape}
@@ -80,6 +86,20 @@ retired_seen (Some (state.Retired number)) m e = ap (λ n. Some (state.Retired n
     same_number : (n m : ℕ) → row.Retired n ≡ row.Retired m → n ≡ m
     same_number n m e = cc
 retired_seen None m e = absurd (cc)
+
+-- each row of a group that is in the list is led, alone or not, or goes along
+group_engaged : (w : Rows) (g : Ledger) (l : Local) → IsLive g l.row → Group w g (led l.row l.rebalance.second l.rebalance.after) → (q : ℕ) → IsOfGroup l q → IsEngaged (w.state q)
+group_engaged w g l live k q o = saw l.rebalance.second k o
+  where
+    alone : {B : Type 0} → (w.state l.row ≡ row.Leader 1) ⊎ (w.state l.row ≡ row.Leader 2) × B → q ≡ l.row → IsEngaged (w.state q)
+    alone (inl f) e = subst IsEngaged (sym (ap w.state e ∙ f)) tt
+    alone (inr f) e = subst IsEngaged (sym (ap w.state e ∙ f.0)) tt
+
+    saw : (x : Option ℕ) → Group w g (led l.row x l.rebalance.after) → (q ≡ l.row) ⊎ (x ≡ Some q) → IsEngaged (w.state q)
+    saw None m (inl e) = alone (m.1 live).either e
+    saw None m (inr e) = let y : None ≡ Some q = e in absurd (cc)
+    saw (Some c) m (inl e) = subst IsEngaged (sym (ap w.state e ∙ (m.2 live).leads)) tt
+    saw (Some c) m (inr e) = subst IsEngaged (sym (ap w.state (sym (same_Some c q e)) ∙ (m.2 live).follows)) tt
 
 -- Where a seat asks for a row.
 
@@ -174,11 +194,16 @@ module _ {z : Sizes} {r r' : Run} {s : ℕ} {choice : Choice} {l l' : Local} whe
       which (inr f) = states_still a h i.sane x others (lost f) q
 
   -- the state of a row that is dead before and after the event stays, unless the event retires it
-  pub dead_state : (a : Activity) → Happens z r r' s choice l l' a → Shape z r → (q : ℕ) → IsDead r.ledger.rows q → IsDead r'.ledger.rows q → (a ≡ Activity.Rebalance (Rebalance.Replace Replace.Retire) → q ≡ l.row → ⊥) → (rows_in (word z r'.world)).state q ≡ (rows_in (word z r.world)).state q
+  pub dead_state : (a : Activity) → Happens z r r' s choice l l' a → Shape z r → (q : ℕ) → IsDead r.ledger.rows q → IsDead r'.ledger.rows q → (a ≡ Activity.Rebalance (Rebalance.Replace Replace.Retire) → q ≡ l.rebalance.hand → ⊥) → (rows_in (word z r'.world)).state q ≡ (rows_in (word z r.world)).state q
   dead_state (Activity.Rebalance (Rebalance.Engage (Engage.Normal seat))) h i q d o n = exchange_leaves (Activity.Rebalance (Rebalance.Engage (Engage.Normal seat))) h i l.row q (state.Infant seat) small (λ c. c) (λ y e c. e c) (λ y c. c) (λ f. not_exchanged _ _ _ _ h.changed.same f) d
     where
       small : IsState (state.Infant seat)
       small = let k = subst (λ b. IsActivity z b) h.activity (i.sane.locals s l h.knows).ranges.activity in omega (arith, k, i.sane.sized.few_seats)
+  dead_state (Activity.Rebalance (Rebalance.Claim (Claim.Normal seat))) h i q d o n = exchange_leaves (Activity.Rebalance (Rebalance.Claim (Claim.Normal seat))) h i (row_after l) q (state.Infant seat) small (λ c. c) (λ y e c. e c) (λ y c. c) (λ f. not_exchanged _ _ _ _ h.changed.same f) d
+    where
+      small : IsState (state.Infant seat)
+      small = let k = subst (λ b. IsActivity z b) h.activity (i.sane.locals s l h.knows).ranges.activity in omega (arith, k, i.sane.sized.few_seats)
+  dead_state (Activity.Rebalance (Rebalance.Claim Claim.Exchange)) h i q d o n = exchange_leaves (Activity.Rebalance (Rebalance.Claim Claim.Exchange)) h i (row_after l) q state.Normal tt (λ c. c) (λ y e c. e c) (λ y c. c) (λ f. not_exchanged _ _ _ _ h.changed.same f) d
   dead_state (Activity.Rebalance (Rebalance.Engage Engage.Lead)) h i q d o n = exchange_leaves (Activity.Rebalance (Rebalance.Engage Engage.Lead)) h i l.row q state.Normal tt (λ c. c) (λ y e c. e c) (λ y c. c) (λ f. not_exchanged _ _ _ _ h.changed.same f) d
   dead_state (Activity.Rebalance (Rebalance.Engage (Engage.Decide count))) h i q d o n = exchange_leaves (Activity.Rebalance (Rebalance.Engage (Engage.Decide count))) h i l.row q (state.Leader 0) (omega arith) (λ c. absurd (omega (arith, c))) (λ y e c. e c) (λ y c. c) (λ f. not_exchanged _ _ _ _ h.changed.same f) d
   dead_state (Activity.Rebalance (Rebalance.Seek Seek.Take)) h i q d o n = exchange_leaves (Activity.Rebalance (Rebalance.Seek Seek.Take)) h i l.rebalance.sought q state.Free tt (λ c. c) (λ y e c. e c) (λ y c. c) (λ f. taken_lost h f) d
@@ -196,55 +221,58 @@ module _ {z : Sizes} {r r' : Run} {s : ℕ} {choice : Choice} {l l' : Local} whe
   dead_state (Activity.Rebalance (Rebalance.Replace Replace.Retire)) h i q d o n = state_kept (Activity.Rebalance (Rebalance.Replace Replace.Retire)) h i.sane q (λ c. n refl c)
   dead_state a h i q d o n = state_kept a h i.sane q (λ c. c)
 
-  -- The full row that a seat has replaced.
+  -- The rows of a group that a seat has replaced.
 
   -- one that is dead and held stays engaged, where the event does not retire it
-  stays_engaged : (a : Activity) → Happens z r r' s choice l l' a → Shape z r → (q : ℕ) → IsHeld r.ledger.rows q → IsDead r.ledger.rows q → (a ≡ Activity.Rebalance (Rebalance.Replace Replace.Retire) → q ≡ l.row → ⊥) → IsEngaged ((rows_in (word z r.world)).state q) → IsEngaged ((rows_in (word z r'.world)).state q)
+  stays_engaged : (a : Activity) → Happens z r r' s choice l l' a → Shape z r → (q : ℕ) → IsHeld r.ledger.rows q → IsDead r.ledger.rows q → (a ≡ Activity.Rebalance (Rebalance.Replace Replace.Retire) → q ≡ l.rebalance.hand → ⊥) → IsEngaged ((rows_in (word z r.world)).state q) → IsEngaged ((rows_in (word z r'.world)).state q)
   stays_engaged a h i q held d n e =
       let after : IsDead r'.ledger.rows q = ap (λ (f : Fate). f.status) (held_dead _ _ r.ledger.rows r'.ledger.rows q held d (linked_keeps a h i q (inr d))) ∙ d in
       subst IsEngaged (sym (dead_state a h i q d after n)) e
 
   -- what its winner has not retired is not retired: of two winners of one row the owner tells that
   -- they are one
-  pub unretired_other : (a : Activity) → Happens z r r' s choice l l' a → Shape z r → (t : ℕ) (k : Local) → t ≢ s → slice_get r.world.locals t ≡ Some k → HasWon k.activity → IsEngaged ((rows_in (word z r'.world)).state k.row)
-  unretired_other a h i t k d g x =
+  pub unretired_other : (a : Activity) → Happens z r r' s choice l l' a → Shape z r → (t : ℕ) (k : Local) → t ≢ s → slice_get r.world.locals t ≡ Some k → (q : ℕ) → IsToRetire k.activity k q → IsEngaged ((rows_in (word z r'.world)).state q)
+  unretired_other a h i t k d g q x =
       let w = i.won t k g in
-      stays_engaged a h i k.row (held_by r.ledger.rows t k.row ((i.balances t k g).fresh (won_balances k.activity x))) (w.dead x) retires (i.unretired t k g x)
+      stays_engaged a h i q (held_by r.ledger.rows t q (retire_fresh z r i t k g q x)) (w.dead q x) retires (i.unretired t k g q x)
     where
-      retires : a ≡ Activity.Rebalance (Rebalance.Replace Replace.Retire) → k.row ≡ l.row → ⊥
+      retires : a ≡ Activity.Rebalance (Rebalance.Replace Replace.Retire) → q ≡ l.rebalance.hand → ⊥
       retires e c =
-          let own = (won_at (Activity.Rebalance (Rebalance.Replace Replace.Retire)) (subst (Happens z r r' s choice l l') e h) i).owner tt in
-          d (sym ((i.won t k g).owner x) ∙ ap (λ q. (r.ledger.rows.fates q).owner) c ∙ own)
+          let own = (won_at (Activity.Rebalance (Rebalance.Replace Replace.Retire)) (subst (Happens z r r' s choice l l') e h) i).owner l.rebalance.hand (inl refl) in
+          d (sym ((i.won t k g).owner q x) ∙ ap (λ y. (r.ledger.rows.fates y).owner) c ∙ own)
 
-  -- a row that is replaced is led, alone or not
-  replaced_engaged : Happens z r r' s choice l l' (Activity.Rebalance (Rebalance.Replace Replace.Exchange)) → Shape z r → link_of (word z r.world (replaced_link l.rebalance.before)) ≡ Some (unmarked_link (Some l.row)) → IsEngaged ((rows_in (word z r'.world)).state l.row)
-  replaced_engaged h i e = subst IsEngaged (sym (state_kept (Activity.Rebalance (Rebalance.Replace Replace.Exchange)) h i.sane l.row (λ c. c))) (which ((balance_at (Activity.Rebalance (Rebalance.Replace Replace.Exchange)) h i).group.1 live).either)
+  -- a row that is replaced is led, alone or not, or goes along
+  replaced_engaged : Happens z r r' s choice l l' (Activity.Rebalance (Rebalance.Replace Replace.Exchange)) → Shape z r → link_of (word z r.world (replaced_link l.rebalance.before)) ≡ Some (unmarked_link (Some l.row)) → (q : ℕ) → IsOfGroup l q → IsEngaged ((rows_in (word z r'.world)).state q)
+  replaced_engaged h i e q o =
+      subst IsEngaged (sym (state_kept (Activity.Rebalance (Rebalance.Replace Replace.Exchange)) h i.sane q (λ c. c))) (group_engaged (rows_in (word z r.world)) r.ledger.rows l live (balance_at (Activity.Rebalance (Rebalance.Replace Replace.Exchange)) h i).group q o)
     where
       live : IsLive r.ledger.rows l.row
       live = full_live h i (sym (link_word_of (word z r.world (replaced_link l.rebalance.before)) (unmarked_link (Some l.row)) e))
 
-      which : {B : Type 0} → ((rows_in (word z r.world)).state l.row ≡ row.Leader 1) ⊎ ((rows_in (word z r.world)).state l.row ≡ row.Leader 2) × B → IsEngaged ((rows_in (word z r.world)).state l.row)
-      which (inl f) = subst IsEngaged (sym f) tt
-      which (inr f) = subst IsEngaged (sym f.0) tt
-
-  pub unretired_own : (a : Activity) → Arrow z (word z r.world) s choice l a l' → Happens z r r' s choice l l' a → Shape z r → HasWon l'.activity → IsEngaged ((rows_in (word z r'.world)).state l'.row)
-  unretired_own a b h i x = which (comes z (word z r.world) s choice l a l' b)
+  pub unretired_own : (a : Activity) → Arrow z (word z r.world) s choice l a l' → Happens z r r' s choice l l' a → Shape z r → (q : ℕ) → IsToRetire l'.activity l' q → IsEngaged ((rows_in (word z r'.world)).state q)
+  unretired_own a b h i q x = which (comes z (word z r.world) s choice l a l' b)
     where
-      stays : HasWon a → (a ≢ Activity.Rebalance (Rebalance.Replace Replace.Retire)) → IsEngaged ((rows_in (word z r'.world)).state l.row)
-      stays w n =
-          let o = subst HasWon (sym h.activity) w in
-          stays_engaged a h i l.row (held_by r.ledger.rows s l.row ((i.balances s l h.knows).fresh (won_balances l.activity o))) ((i.won s l h.knows).dead o) (λ e c. n e) (i.unretired s l h.knows o)
+      stays : (c : Activity) → Happens z r r' s choice l l' c → (c ≡ Activity.Rebalance (Rebalance.Replace Replace.Retire) → q ≡ l.rebalance.hand → ⊥) → IsToRetire c l q → IsEngaged ((rows_in (word z r'.world)).state q)
+      stays c y n w =
+          let o = subst (λ d. IsToRetire d l q) (sym y.activity) w in
+          stays_engaged c y i q (held_by r.ledger.rows s q (named_to_retire c y i q w)) ((won_at c y i).dead q w) n (i.unretired s l h.knows q o)
 
-      by : (c : Activity) (k : Local) → WonBy (word z r.world) l c k → Happens z r r' s choice l l' c → (HasWon c → (c ≢ Activity.Rebalance (Rebalance.Replace Replace.Retire)) → IsEngaged ((rows_in (word z r'.world)).state l.row)) → IsEngaged ((rows_in (word z r'.world)).state k.row)
-      by c k (wins_now e) y f = replaced_engaged y i e
-      by c k (has_next o) y f = f tt (λ e. cc)
-      by c k was_last y f = f tt (λ e. cc)
-      by c k has_number y f = f tt (λ e. cc)
+      -- the row ahead is not the one that is retired now
+      ahead : (p : ℕ) → Happens z r r' s choice l l' (Activity.Rebalance (Rebalance.Replace Replace.Retire)) → l.rebalance.ahead ≡ Some p → q ≡ p → IsEngaged ((rows_in (word z r'.world)).state q)
+      ahead p y e c = stays (Activity.Rebalance (Rebalance.Replace Replace.Retire)) y (λ f u. ahead_other l p ((balance_at (Activity.Rebalance (Rebalance.Replace Replace.Retire)) y i).hands tt) ((balance_at (Activity.Rebalance (Rebalance.Replace Replace.Retire)) y i).apart tt) e (sym c ∙ u)) (inr (e ∙ ap Some (sym c)))
 
-      which : Comes z (word z r.world) choice l a l' → IsEngaged ((rows_in (word z r'.world)).state l'.row)
-      which (stays_out n) = absurd (n (won_builds l'.activity x))
-      which (seeks e t) = absurd (subst HasWon e x)
-      which (goes_on o t) = by a l' (won_by z (word z r.world) choice l a l' t x) h stays
+      by : (c : Activity) (k : Local) → WonBy (word z r.world) l c k → Happens z r r' s choice l l' c → IsToRetire k.activity k q → IsEngaged ((rows_in (word z r'.world)).state q)
+      by c k (wins_now e) y w = replaced_engaged y i e q w
+      by c k (has_next o) y w = stays (Activity.Rebalance (Rebalance.Replace Replace.Normalise)) y (λ e. absurd (cc)) w
+      by c k was_last y w = stays (Activity.Rebalance (Rebalance.Replace Replace.Normalise)) y (λ e. absurd (cc)) w
+      by c k has_number y w = stays (Activity.Rebalance (Rebalance.Replace Replace.Number)) y (λ e. absurd (cc)) w
+      by c k (has_ahead p e) y (inl w) = ahead p y e w
+      by c k (has_ahead p e) y (inr w) = let f : None ≡ Some q = w in absurd (cc)
+
+      which : Comes z (word z r.world) choice l a l' → IsEngaged ((rows_in (word z r'.world)).state q)
+      which (stays_out n) = absurd (n (won_builds l'.activity (to_retire_won l'.activity l' q x)))
+      which (seeks e t) = absurd (subst HasWon e (to_retire_won l'.activity l' q x))
+      which (goes_on o t) = by a l' (won_by z (word z r.world) choice l a l' t (to_retire_won l'.activity l' q x)) h x
 
   -- A seat that the table does not have.
 
@@ -297,8 +325,8 @@ module _ {z : Sizes} {r r' : Run} {s : ℕ} {choice : Choice} {l l' : Local} whe
   asked_after a h i t q m since p same was d = which (dead_before a h i q d)
     where
       -- a row that is retired now was not retired before
-      retires : (rows_in (word z r.world)).state q ≡ row.Retired m → a ≡ Activity.Rebalance (Rebalance.Replace Replace.Retire) → q ≡ l.row → ⊥
-      retires e c f = let x : IsEngaged ((rows_in (word z r.world)).state l.row) = i.unretired s l h.knows (subst HasWon (sym (h.activity ∙ c)) tt) in subst IsEngaged (ap (rows_in (word z r.world)).state (sym f) ∙ e) x
+      retires : (rows_in (word z r.world)).state q ≡ row.Retired m → a ≡ Activity.Rebalance (Rebalance.Replace Replace.Retire) → q ≡ l.rebalance.hand → ⊥
+      retires e c f = let x : IsEngaged ((rows_in (word z r.world)).state q) = i.unretired s l h.knows q (subst (λ b. IsToRetire b l q) (sym (h.activity ∙ c)) (inl f)) in subst IsEngaged e x
 
       stays : r'.ledger.rows.fates q ≡ r.ledger.rows.fates q → ((rows_in (word z r.world)).state q ≡ row.Retired m) ⊎ WasHeld r.ledger.rows t q → IsDead r.ledger.rows q → ((rows_in (word z r'.world)).state q ≡ row.Retired m) ⊎ WasHeld r'.ledger.rows t q
       stays f (inl e) k = inl (dead_state a h i q k d (retires e) ∙ e)

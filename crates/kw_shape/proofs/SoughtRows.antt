@@ -100,8 +100,8 @@ module _ (rows : ℕ) (some : 0 < rows) where
   kept_sought z v choice l a k (walks_past next o y) n i = back_sought _ l next y i
   kept_sought z v choice l a k (is_marked_before next e y) n i = back_sought _ l next y i
   kept_sought z v choice l a k (is_replaced next d y) n i = back_sought _ l next y i
-  kept_sought z v choice l a k (retires_row nd) n i = record { sought = some; asked = omega arith }
-  kept_sought z v choice l a k (retires_and_leaves dn) n i = record { sought = some; asked = omega arith }
+  kept_sought z v choice l a k (retires_row m nd) n i = record { sought = some; asked = omega arith }
+  kept_sought z v choice l a k (retires_and_leaves m dn) n i = record { sought = some; asked = omega arith }
   kept_sought z v choice l a k _ n i = assumption i
 
   -- a search that sees a state

@@ -15,9 +15,10 @@ use Rattle.kw_world.specs.declared.local.Local.{Local}
 use Rattle.kw_world.specs.Sizes.{Sizes}
 use Rattle.kw_world.specs.Step.{word}
 use Rattle.kw_core.specs.Run.{Run}
-use Rattle.kw_core.specs.Stages.{IsBusy, IsVisiting}
+use Rattle.kw_core.specs.Stages.{IsBalancing, IsBusy, IsVisiting}
 use Rattle.kw_core.specs.Words.{Words}
-use Rattle.kw_core.proofs.Arrows.{Arrow, begins, enters, enters_scan, sees_stamped, sees_neither, is_gone_by, helps, finds_stamped, finds_other, list_ends, key_above, left_over_gone_by, gathers_left_over, leaves, NextLook, looks, lists, NextLeftOver, goes_to_left_over, answers, ends_scan, scans_on, retries, enters_again, builds, first_ends}
+use Rattle.kw_core.proofs.Arrows.{Arrow, begins, enters, enters_scan, sees_stamped, sees_neither, is_gone_by, helps, finds_stamped, finds_other, list_ends, key_above, left_over_gone_by, gathers_left_over, leaves, NextLook, looks, lists, NextLeftOver, goes_to_left_over, answers, ends_scan, scans_on, retries, enters_again, builds, first_ends, remembers_last, sees_frozen_last, freezes_last, takes_no_more, keeps_no_more, decides, marks_led}
+use Rattle.kw_core.proofs.Grouping.{GroupGoes, counted_goes, frozen_goes, gathered_goes}
 use Rattle.kw_core.proofs.BuiltNext.{built_goes}
 use Rattle.kw_core.proofs.Fates.{number_of_drawn, numbers_stay, other_numbers, others_stay}
 use Rattle.kw_core.proofs.Frame.{WritesPass, pass_kept}
@@ -45,6 +46,14 @@ left_over_visits l k (answers o n) = (tt, tt, refl)
 left_over_visits l k (ends_scan o y n) = (tt, tt, refl)
 left_over_visits l k (scans_on q o y n u) = (tt, tt, refl)
 
+-- a seat that goes through the rows of its group is in its visit
+balancing_visits : (a : Activity) → IsBalancing a → IsVisiting a × IsBusy a
+balancing_visits (Activity.Rebalance b) x = (tt, tt)
+balancing_visits _ x = absurd x
+
+group_visits : (l k : Local) → GroupGoes l k → StaysIn l k
+group_visits l k g = let x = balancing_visits k.activity g.next in (x.0, x.1, g.epoch)
+
 -- a seat that is in a visit makes a call
 pub visiting_busy : (a : Activity) → IsVisiting a → IsBusy a
 visiting_busy Activity.Idle x = absurd x
@@ -69,6 +78,13 @@ arrow_visits z v s choice l a k (left_over_gone_by next e y) p n = left_over_vis
 arrow_visits z v s choice l a k (gathers_left_over next y) p n = left_over_visits _ next y
 arrow_visits z v s choice l a k retries p n = absurd (n tt)
 arrow_visits z v s choice l a k enters_again p n = absurd p
+arrow_visits z v s choice l a k (remembers_last j c version next e o y) p n = let x = group_visits _ next (frozen_goes _ next y) in (x.0, x.1, x.2)
+arrow_visits z v s choice l a k (sees_frozen_last j next e o y) p n = let x = group_visits _ next (frozen_goes _ next y) in (x.0, x.1, x.2)
+arrow_visits z v s choice l a k (freezes_last j next e o y) p n = let x = group_visits _ next (frozen_goes _ next y) in (x.0, x.1, x.2)
+arrow_visits z v s choice l a k (takes_no_more next e f y) p n = let x = group_visits _ next (gathered_goes z _ next y) in (x.0, x.1, x.2)
+arrow_visits z v s choice l a k (keeps_no_more next f y) p n = let x = group_visits _ next (gathered_goes z _ next y) in (x.0, x.1, x.2)
+arrow_visits z v s choice l a k (marks_led count next d y) p n = let x = group_visits _ next (counted_goes _ _ next y) in (x.0, x.1, x.2)
+arrow_visits z v s choice l a k (decides count m next e y) p n = let x = group_visits _ next (counted_goes _ _ next y) in (x.0, x.1, x.2)
 arrow_visits z v s choice l a k _ p n = (tt, tt, refl)
 
 module _ {z : Sizes} {r r' : Run} {s : ℕ} {choice : Choice} {l l' : Local} where

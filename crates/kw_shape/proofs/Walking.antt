@@ -16,14 +16,15 @@ use Rattle.kw_world.specs.declared.event.Choice.{Choice}
 use Rattle.kw_world.specs.Sizes.{Sizes}
 use Rattle.kw_world.specs.Calls.{first_key, is_scan}
 use Rattle.kw_world.specs.Transition.{row_linked, row_or_first}
-use Rattle.kw_core.specs.Stages.{IsStarting, IsAtRow, IsPastStart}
+use Rattle.kw_core.specs.Stages.{IsBalancing, IsStarting, IsAtRow, IsPastStart}
 use Rattle.kw_core.specs.Words.{Words, next_in, least_in, built_in}
 use Rattle.kw_rows.specs.Ledger.{Ledger, IsFresh, IsLive}
 use Rattle.kw_rows.specs.Structure.{Structure}
 use Rattle.kw_rows.proofs.Named.{above_least, ends_at, ends_nowhere, fresh_next, held_by, normal_live}
 use Rattle.kw_shape.specs.RowsIn.{rows_in, state_seen}
 use Rattle.kw_shape.specs.Shape.{IsAtItsRow, IsOnWalk, Walks}
-use Rattle.kw_core.proofs.Arrows.{Arrow, enters, settles, starts_at_head, guesses, guess_fails, takes_head, guess_serves, guess_is_above, puts_in_last, reads_last, reaches_next, walks_on, puts_before, reads_before, sees_pending, sees_stamped, sees_neither, is_wanted, is_gone_by, loads_to_help, helps, finds_stamped, finds_other, list_leads, list_ends, key_below, key_within, key_above, loads_version, gathers_listed, left_over_wanted, left_over_gone_by, gathers_left_over, finds_room, takes_cell, stores_key, stores_value, announces, loads_clock, stamps, is_stamped, stores_version, reaches_cell, sees_none, key_before, key_same, key_after, version_before, version_after, stores_after, inserts, loses, NextLook, looks, lists, NextLeftOver, goes_to_left_over, answers, ends_scan, scans_on, builds, begins_at_first, begins_behind, first_ends, first_leads, first_reaches, first_sees_none, inserts_at_first, inserts_behind}
+use Rattle.kw_core.proofs.Arrows.{Arrow, enters, settles, starts_at_head, guesses, guess_fails, takes_head, guess_serves, guess_is_above, puts_in_last, reads_last, reaches_next, walks_on, puts_before, reads_before, sees_pending, sees_stamped, sees_neither, is_wanted, is_gone_by, loads_to_help, helps, finds_stamped, finds_other, list_leads, list_ends, key_below, key_within, key_above, loads_version, gathers_listed, left_over_wanted, left_over_gone_by, gathers_left_over, finds_room, takes_cell, stores_key, stores_value, announces, loads_clock, stamps, is_stamped, stores_version, reaches_cell, sees_none, key_before, key_same, key_after, version_before, version_after, stores_after, inserts, loses, NextLook, looks, lists, NextLeftOver, goes_to_left_over, answers, ends_scan, scans_on, builds, begins_at_first, begins_behind, first_ends, first_leads, first_reaches, first_sees_none, inserts_at_first, inserts_behind, remembers_last, sees_frozen_last, freezes_last, takes_no_more, keeps_no_more, decides, marks_led}
+use Rattle.kw_core.proofs.Grouping.{counted_goes, frozen_goes, gathered_goes}
 use Rattle.kw_core.proofs.BuiltNext.{built_next}
 use Rattle.kw_shape.proofs.AfterBuilding.{after_walks}
 
@@ -77,6 +78,11 @@ module _ (v : Words) (g : Ledger) (t : ℕ) where
   -- a seat that is nowhere along the rows
   nowhere : (a : Activity) (l : Local) → (IsAtRow a → ⊥) → (IsStarting a → ⊥) → (IsPastStart a → ⊥) → IsOnWalk a v g t l → Walks v g t a l
   nowhere a l x y q on = record { on = on; lower = λ u. absurd (q u); built = λ u. absurd (q u); at = λ u. absurd (x u); begins = λ u. absurd (y u); wants = λ u. absurd (q u) }
+
+  -- so is one that rebalances
+  rebalances : (a : Activity) (l : Local) → IsBalancing a → Walks v g t a l
+  rebalances (Activity.Rebalance b) l x = nowhere (Activity.Rebalance b) l (λ u. u) (λ u. u) (λ u. u) tt
+  rebalances _ l x = absurd x
 
   -- the next look of a reader
   look_stays : (z : Sizes) (j : ℕ) (a : Activity) (l : Local) (next : Activity) (k : Local) → NextLook z j next → IsAtRow a → k.row ≡ l.row → k.lower ≡ l.lower → k.built ≡ l.built → k.want ≡ l.want → k.next ≡ l.next → k.upper ≡ l.upper → k.call ≡ l.call → Walks v g t a l → Walks v g t next k
@@ -231,4 +237,11 @@ walks_by z v g s choice l a l' (version_after y) c w = stays v g s (Activity.Ins
 walks_by z v g s choice l a l' stores_after c w = stays v g s (Activity.Insert Insert.Set) l (Activity.Insert Insert.Exchange) _ tt tt refl refl refl refl refl refl refl w
 walks_by z v g s choice l a l' (inserts y) c w = stays v g s (Activity.Insert Insert.Exchange) l (Activity.Put Put.Clear) _ tt tt refl refl refl refl refl refl refl w
 walks_by z v g s choice l a l' (loses y) c w = stays v g s (Activity.Insert Insert.Exchange) l (Activity.Insert Insert.Start) _ tt tt refl refl refl refl refl refl refl w
+walks_by z v g s choice l a l' (remembers_last j x version next e o m) c w = rebalances v g s next.activity next (frozen_goes _ next m).next
+walks_by z v g s choice l a l' (sees_frozen_last j next e o m) c w = rebalances v g s next.activity next (frozen_goes _ next m).next
+walks_by z v g s choice l a l' (freezes_last j next e o m) c w = rebalances v g s next.activity next (frozen_goes _ next m).next
+walks_by z v g s choice l a l' (takes_no_more next e f m) c w = rebalances v g s next.activity next (gathered_goes z _ next m).next
+walks_by z v g s choice l a l' (keeps_no_more next f m) c w = rebalances v g s next.activity next (gathered_goes z _ next m).next
+walks_by z v g s choice l a l' (marks_led count next d m) c w = rebalances v g s next.activity next (counted_goes _ _ next m).next
+walks_by z v g s choice l a l' (decides count n next e m) c w = rebalances v g s next.activity next (counted_goes _ _ next m).next
 walks_by z v g s choice l a l' _ c w = nowhere v g s _ _ (λ u. u) (λ u. u) (λ u. u) tt

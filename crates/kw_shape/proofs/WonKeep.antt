@@ -1,5 +1,5 @@
--- What a seat knows once it has replaced its full row, and where it moves when it finds the row
--- before its full one marked.
+-- What a seat knows once it has replaced its group, and where it moves when it finds the row before
+-- its full one marked.
 use Rattle.std.proofs.Common.{ℕ, zero, suc, ◌≡◌, ◌≢◌, ◌⊎◌, inl, inr, ◌+◌, ◌<◌, false, true, List, [], ◌∷◌, Option, Some, None, arith, refl, sym, ◌∙◌, ap, subst, length, slice_get}
 use Rattle.std.proofs.lemmas.Option.{same_Some}
 use Rattle.kw_words.specs.declared.layout.Name.TheVariants as name
@@ -19,6 +19,7 @@ use Rattle.kw_world.specs.declared.event.Choice.{Choice}
 use Rattle.kw_world.specs.declared.local.Local.{Local}
 use Rattle.kw_world.specs.declared.rebalance.Afterwards.{Afterwards}
 use Rattle.kw_world.specs.declared.rebalance.Afterwards.TheVariants.{TryAgain, Refuse, MoveLeft}
+use Rattle.kw_world.specs.GroupPlaces.{at_first_row, at_last_row}
 use Rattle.kw_world.specs.ReplaceTransitions.{replaced_link}
 use Rattle.kw_world.specs.Sane.{IsHead}
 use Rattle.kw_world.specs.SeekTransitions.{at_infant}
@@ -30,15 +31,17 @@ use Rattle.kw_core.specs.Run.{Run}
 use Rattle.kw_core.specs.Stages.{IsBalancing, IsVisiting}
 use Rattle.kw_core.specs.Words.{Words, least_in}
 use Rattle.kw_core.proofs.Arrows.{Arrow}
-use Rattle.kw_core.proofs.Building.{Building, first_is_taken, sought_is_taken, pass_is_old, pass_is_young, takes_row, loses_row, gives_last_back, writes_first, writes_entry, writes_no_cell, writes_after, begins_before, takes_head_before, leads_on_marked, leads_nowhere, walks_past, replaces_row, is_marked_before, is_replaced, makes_normal, makes_last_normal, draws_number, marked_link}
+use Rattle.kw_core.proofs.Building.{Building, first_is_taken, sought_is_taken, pass_is_old, pass_is_young, takes_row, loses_row, gives_last_back, writes_first, writes_entry, writes_no_cell, writes_after, begins_before, takes_head_before, leads_on_marked, leads_nowhere, walks_past, replaces_row, is_marked_before, is_replaced, makes_normal, makes_last_normal, draws_number, retires_ahead, marked_link}
 use Rattle.kw_core.proofs.Fates.{fate_of_full, fate_of_new, number_of_drawn}
 use Rattle.kw_core.proofs.Happens.{Happens}
 use Rattle.kw_core.proofs.NextBuilt.{GivenBack, is_refused_rows, moves_left, tries_again, NextBack, gives_back, has_none, NextPass, has_looked, looks_on, NextSeek, asks, has_asked, NextTaken, has_enough, wants_more, NextNewCell, empties, fills, has_cells, NextNewEntry, has_entries, writes_idle, NextNewRow, has_written, writes_row, NextBefore, is_behind, is_first, was_done, was_served}
 use Rattle.kw_shape.proofs.Comings.{Comes, comes, goes_on, seeks, stays_out, won_builds}
+use Rattle.kw_shape.proofs.Hands.{in_group, of_group, same_group}
 use Rattle.kw_shape.proofs.InfantsRely.{linked_not_infant}
-use Rattle.kw_shape.proofs.LinkedRows.{balance_at, fresh_linked, held_dead, infants_at, linked_keeps}
+use Rattle.kw_shape.proofs.LinkedRows.{fresh_linked, held_dead, infants_at, linked_keeps, named_of_group, named_to_retire, retire_fresh}
 use Rattle.kw_shape.proofs.RowsKeep.{own_rely, others_kept, rely_rows, won_at}
 use Rattle.kw_shape.proofs.VisitsKeep.{old_number}
+use Rattle.kw_shape.specs.Hands.{IsOfGroup, IsToRetire}
 use Rattle.kw_shape.specs.Infants.{Infants}
 use Rattle.kw_shape.specs.RowsIn.{has_mark}
 use Rattle.kw_shape.specs.Search.{Search}
@@ -110,15 +113,16 @@ back_unwon c k next (has_none m o y) x = given_unwon c k next y x
 
 -- The row to which a seat moves.
 
--- it may name the row, and knows its least key
+-- it may name the row, and knows its least key; no row goes along with it as yet
 pub record Moves (v : Words) (g : Ledger) (t : ℕ) (k : Local) : Type 0 where
   pub fresh : IsFresh g t k.row
   pub lower : k.lower ≡ least_in v k.row
+  pub alone : k.rebalance.second ≡ None
 
 module _ (v : Words) (g : Ledger) (t : ℕ) (l : Local) where
   -- it is the one before the full row
   arrives : (p : ℕ) → l.rebalance.before ≡ Some p → IsFresh g t p → l.rebalance.least ≡ least_in v p → (next : Local) → GivenBack l MoveLeft next → Moves v g t next
-  arrives p e f m next moves_left = record { fresh = subst (λ b. IsFresh g t (row_or_first b)) (sym e) f; lower = m ∙ ap (λ b. least_in v (row_or_first b)) (sym e) }
+  arrives p e f m next moves_left = record { fresh = subst (λ b. IsFresh g t (row_or_first b)) (sym e) f; lower = m ∙ ap (λ b. least_in v (row_or_first b)) (sym e); alone = refl }
 
   back_moves : (p : ℕ) → l.rebalance.before ≡ Some p → IsFresh g t p → l.rebalance.least ≡ least_in v p → (next : Local) → NextBack MoveLeft l next → IsClock next.activity → Moves v g t next
   back_moves p e f m next (gives_back o) x = absurd x
@@ -168,7 +172,7 @@ unmarked_head rows q None h e = h
 pub head_open : (z : Sizes) (r : Run) → Shape z r → (q : ℕ) → link_of (word z r.world name.Head) ≡ Some (marked_link (Some q)) → ⊥
 head_open z r i q e = unmarked_head r.world.rows q _ (i.sane.led name.Head tt) e
 
--- What a seat knows of the row that it has replaced.
+-- What a seat knows of the rows that it has replaced.
 
 normal_won : (a : Activity) → IsNormalising a → HasWon a
 normal_won (Activity.Rebalance (Rebalance.Replace Replace.Normalise)) x = tt
@@ -191,9 +195,20 @@ won_balances (Activity.Rebalance (Rebalance.Replace Replace.Number)) x = tt
 won_balances (Activity.Rebalance (Rebalance.Replace Replace.Retire)) x = tt
 won_balances _ x = absurd x
 
+-- it has some still to retire: the one at hand, as soon as that has its number
+pub to_retire_won : (a : Activity) (k : Local) (q : ℕ) → IsToRetire a k q → HasWon a
+to_retire_won (Activity.Rebalance (Rebalance.Replace Replace.Normalise)) k q x = tt
+to_retire_won (Activity.Rebalance (Rebalance.Replace Replace.Number)) k q x = tt
+to_retire_won (Activity.Rebalance (Rebalance.Replace Replace.Retire)) k q x = tt
+to_retire_won _ k q x = absurd x
+
+hand_to_retire : (a : Activity) (k : Local) → IsRetiring a → IsToRetire a k k.rebalance.hand
+hand_to_retire (Activity.Rebalance (Rebalance.Replace Replace.Retire)) k x = inl refl
+hand_to_retire _ k x = absurd x
+
 -- elsewhere nothing
 pub unwon : (g : Ledger) (t : ℕ) (a : Activity) (k : Local) → (HasWon a → ⊥) → Won g t a k
-unwon g t a k n = record { hand = λ x. absurd (n (normal_won a x)); fresh = λ x. absurd (n (normal_won a x)); dead = λ x. absurd (n x); owner = λ x. absurd (n x); number = λ x. absurd (n (retire_won a x)) }
+unwon g t a k n = record { hand = λ x. absurd (n (normal_won a x)); fresh = λ x. absurd (n (normal_won a x)); dead = λ q x. absurd (n (to_retire_won a k q x)); owner = λ q x. absurd (n (to_retire_won a k q x)); number = λ x. absurd (n (retire_won a x)) }
 
 -- a row that stands at some place of a list is in it
 pub in_list : (xs : List ℕ) (i q : ℕ) → slice_get xs i ≡ Some q → IsIn xs q
@@ -202,7 +217,7 @@ in_list [] (suc i) q e = let x : None ≡ Some q = e in absurd (cc)
 in_list (x ∷ xs) zero q e = inl (sym (same_Some x q e))
 in_list (x ∷ xs) (suc i) q e = inr (in_list xs i q e)
 
--- a seat has replaced its row, or has not
+-- a seat has replaced its group, or has not
 has_won : (a : Activity) → HasWon a ⊎ (HasWon a → ⊥)
 has_won (Activity.Rebalance (Rebalance.Replace Replace.Normalise)) = inl tt
 has_won (Activity.Rebalance (Rebalance.Replace Replace.Number)) = inl tt
@@ -213,8 +228,9 @@ has_won _ = inr (λ x. x)
 pub data WonBy (v : Words) (l : Local) : Activity → Local → Type 0 where
   wins_now : link_of (v (replaced_link l.rebalance.before)) ≡ Some (unmarked_link (Some l.row)) → WonBy v l (Activity.Rebalance (Rebalance.Replace Replace.Exchange)) (record (at_infant 0 l) { activity = Activity.Rebalance (Rebalance.Replace Replace.Normalise) })
   has_next : l.rebalance.at + 1 < length l.rebalance.taken → WonBy v l (Activity.Rebalance (Rebalance.Replace Replace.Normalise)) (record (at_infant (l.rebalance.at + 1) l) { activity = Activity.Rebalance (Rebalance.Replace Replace.Normalise) })
-  was_last : WonBy v l (Activity.Rebalance (Rebalance.Replace Replace.Normalise)) (record l { activity = Activity.Rebalance (Rebalance.Replace Replace.Number) })
+  was_last : WonBy v l (Activity.Rebalance (Rebalance.Replace Replace.Normalise)) (record (at_first_row l) { activity = Activity.Rebalance (Rebalance.Replace Replace.Number) })
   has_number : WonBy v l (Activity.Rebalance (Rebalance.Replace Replace.Number)) (record l { rebalance = record l.rebalance { number = v name.Epoch }; activity = Activity.Rebalance (Rebalance.Replace Replace.Retire) })
+  has_ahead : (q : ℕ) → l.rebalance.ahead ≡ Some q → WonBy v l (Activity.Rebalance (Rebalance.Replace Replace.Retire)) (record (at_last_row q l) { activity = Activity.Rebalance (Rebalance.Replace Replace.Number) })
 
 pub won_by : (z : Sizes) (v : Words) (choice : Choice) (l : Local) (a : Activity) (k : Local) → Building z v choice l a k → HasWon k.activity → WonBy v l a k
 won_by z v choice l a k (first_is_taken q rows next f n y) x = absurd ((seek_plain rows _ next y).1 x)
@@ -239,6 +255,7 @@ won_by z v choice l a k (replaces_row e) x = wins_now e
 won_by z v choice l a k (makes_normal o) x = has_next o
 won_by z v choice l a k (makes_last_normal o) x = was_last
 won_by z v choice l a k draws_number x = has_number
+won_by z v choice l a k (retires_ahead q e) x = has_ahead q e
 won_by z v choice l a k _ x = absurd x
 
 module _ {z : Sizes} {r r' : Run} {s : ℕ} {choice : Choice} {l l' : Local} where
@@ -257,13 +274,23 @@ module _ {z : Sizes} {r r' : Run} {s : ℕ} {choice : Choice} {l l' : Local} whe
   still_numbered : (a : Activity) → Happens z r r' s choice l l' a → Shape z r → (q m : ℕ) → IsHeld r.ledger.rows q → IsDead r.ledger.rows q → IsNumbered r.ledger.rows q m → IsNumbered r'.ledger.rows q m
   still_numbered a h i q m o d n = record { at = n.at; drawn = old_number a h m (i.numbers.below m n.at n.drawn) ∙ n.drawn; after = omega (arith, n.after, ap (λ (f : Fate). f.gone) (dead_fate a h i q o d)) }
 
-  -- the seat that replaces its row knows the new ones, and that its own is dead
-  wins : Happens z r r' s choice l l' (Activity.Rebalance (Rebalance.Replace Replace.Exchange)) → Shape z r → link_of (word z r.world (replaced_link l.rebalance.before)) ≡ Some (unmarked_link (Some l.row)) → (k : Local) → k.rebalance.taken ≡ l.rebalance.taken → k.rebalance.at ≡ 0 → k.row ≡ l.row → Won r'.ledger.rows s (Activity.Rebalance (Rebalance.Replace Replace.Normalise)) k
-  wins h i e k taken at row = record {
+  -- so each row that the seat has still to retire is dead still, and its own
+  held_to_retire : (a : Activity) → Happens z r r' s choice l l' a → Shape z r → (q : ℕ) → IsToRetire a l q → IsHeld r.ledger.rows q
+  held_to_retire a h i q x = held_by r.ledger.rows s q (named_to_retire a h i q x)
+
+  dead_to_retire : (a : Activity) → Happens z r r' s choice l l' a → Shape z r → (q : ℕ) → IsToRetire a l q → IsDead r'.ledger.rows q
+  dead_to_retire a h i q x = still_dead a h i q (held_to_retire a h i q x) ((won_at a h i).dead q x)
+
+  owner_to_retire : (a : Activity) → Happens z r r' s choice l l' a → Shape z r → (q : ℕ) → IsToRetire a l q → (r'.ledger.rows.fates q).owner ≡ s
+  owner_to_retire a h i q x = still_owner a h i s q (held_to_retire a h i q x) ((won_at a h i).dead q x) ((won_at a h i).owner q x)
+
+  -- the seat that replaces its group knows the new rows, and that its own are dead
+  wins : Happens z r r' s choice l l' (Activity.Rebalance (Rebalance.Replace Replace.Exchange)) → Shape z r → link_of (word z r.world (replaced_link l.rebalance.before)) ≡ Some (unmarked_link (Some l.row)) → (k : Local) → k.rebalance.taken ≡ l.rebalance.taken → k.rebalance.at ≡ 0 → k.row ≡ l.row → k.rebalance.second ≡ l.rebalance.second → Won r'.ledger.rows s (Activity.Rebalance (Rebalance.Replace Replace.Normalise)) k
+  wins h i e k taken at row second = record {
     hand = λ x. omega (arith, at, ap length taken, (infants.enough tt).0);
     fresh = λ x j q f. fresh j q (subst (λ ys. slice_get ys j ≡ Some q) taken f);
-    dead = λ x. ap (λ q. (r'.ledger.rows.fates q).status) row ∙ ap (λ (f : Fate). f.status) (fate_of_full h won);
-    owner = λ x. ap (λ q. (r'.ledger.rows.fates q).owner) row ∙ ap (λ (f : Fate). f.owner) (fate_of_full h won);
+    dead = λ q x. ap (λ (f : Fate). f.status) (fate_of_full h won q (in_group l q (same_group l k row second q x)));
+    owner = λ q x. ap (λ (f : Fate). f.owner) (fate_of_full h won q (in_group l q (same_group l k row second q x)));
     number = λ x. absurd x;
   }
     where
@@ -273,11 +300,11 @@ module _ {z : Sizes} {r r' : Run} {s : ℕ} {choice : Choice} {l l' : Local} whe
       won : word z r.world (replaced_link l.rebalance.before) ≡ link_word (unmarked_link (Some l.row))
       won = sym (link_word_of (word z r.world (replaced_link l.rebalance.before)) (unmarked_link (Some l.row)) e)
 
-      full : WasLinked r.ledger.rows l.row
-      full = fresh_linked r.ledger.rows s l.row ((balance_at (Activity.Rebalance (Rebalance.Replace Replace.Exchange)) h i).fresh tt)
+      linked : (q : ℕ) → IsOfGroup l q → WasLinked r.ledger.rows q
+      linked q o = fresh_linked r.ledger.rows s q (named_of_group (Activity.Rebalance (Rebalance.Replace Replace.Exchange)) tt h i q o)
 
       fresh : (j q : ℕ) → slice_get l.rebalance.taken j ≡ Some q → IsFresh r'.ledger.rows s q
-      fresh j q f = inl (ap (λ (f : Fate). f.status) (fate_of_new h won q (in_list l.rebalance.taken j q f) (λ c. linked_not_infant r.ledger.rows s q (subst (WasLinked r.ledger.rows) (sym c) full) (infants.owned j q tt f))))
+      fresh j q f = inl (ap (λ (f : Fate). f.status) (fate_of_new h won q (in_list l.rebalance.taken j q f) (λ c. linked_not_infant r.ledger.rows s q (linked q (of_group l q c)) (infants.owned j q tt f))))
 
   -- one that makes its new rows normal may name them still
   still_fresh : Happens z r r' s choice l l' (Activity.Rebalance (Rebalance.Replace Replace.Normalise)) → Shape z r → (q : ℕ) → IsFresh r.ledger.rows s q → IsFresh r'.ledger.rows s q
@@ -285,25 +312,42 @@ module _ {z : Sizes} {r r' : Run} {s : ℕ} {choice : Choice} {l l' : Local} whe
 
   -- by the way that it came
   knows_won : (a : Activity) (k : Local) → WonBy (word z r.world) l a k → Happens z r r' s choice l l' a → Shape z r → Won r'.ledger.rows s k.activity k
-  knows_won a k (wins_now e) h i = wins h i e _ refl refl refl
-  knows_won a k (has_next o) h i =
-      let w = won_at (Activity.Rebalance (Rebalance.Replace Replace.Normalise)) h i in
-      let held = held_by r.ledger.rows s l.row ((balance_at (Activity.Rebalance (Rebalance.Replace Replace.Normalise)) h i).fresh tt) in
-      record { hand = λ x. o; fresh = λ x j q f. still_fresh h i q (w.fresh tt j q f); dead = λ x. still_dead (Activity.Rebalance (Rebalance.Replace Replace.Normalise)) h i l.row held (w.dead tt); owner = λ x. still_owner (Activity.Rebalance (Rebalance.Replace Replace.Normalise)) h i s l.row held (w.dead tt) (w.owner tt); number = λ x. absurd x }
-  knows_won a k was_last h i =
-      let w = won_at (Activity.Rebalance (Rebalance.Replace Replace.Normalise)) h i in
-      let held = held_by r.ledger.rows s l.row ((balance_at (Activity.Rebalance (Rebalance.Replace Replace.Normalise)) h i).fresh tt) in
-      record { hand = λ x. absurd x; fresh = λ x. absurd x; dead = λ x. still_dead (Activity.Rebalance (Rebalance.Replace Replace.Normalise)) h i l.row held (w.dead tt); owner = λ x. still_owner (Activity.Rebalance (Rebalance.Replace Replace.Normalise)) h i s l.row held (w.dead tt) (w.owner tt); number = λ x. absurd x }
+  knows_won a k (wins_now e) h i = wins h i e _ refl refl refl refl
+  knows_won a k (has_next o) h i = record {
+    hand = λ x. o;
+    fresh = λ x j q f. still_fresh h i q ((won_at (Activity.Rebalance (Rebalance.Replace Replace.Normalise)) h i).fresh tt j q f);
+    dead = dead_to_retire (Activity.Rebalance (Rebalance.Replace Replace.Normalise)) h i;
+    owner = owner_to_retire (Activity.Rebalance (Rebalance.Replace Replace.Normalise)) h i;
+    number = λ x. absurd x;
+  }
+  knows_won a k was_last h i = record {
+    hand = λ x. absurd x;
+    fresh = λ x. absurd x;
+    dead = dead_to_retire (Activity.Rebalance (Rebalance.Replace Replace.Normalise)) h i;
+    owner = owner_to_retire (Activity.Rebalance (Rebalance.Replace Replace.Normalise)) h i;
+    number = λ x. absurd x;
+  }
   knows_won a k has_number h i =
-      let w = won_at (Activity.Rebalance (Rebalance.Replace Replace.Number)) h i in
-      let held = held_by r.ledger.rows s l.row ((balance_at (Activity.Rebalance (Rebalance.Replace Replace.Number)) h i).fresh tt) in
+      let held = held_to_retire (Activity.Rebalance (Rebalance.Replace Replace.Number)) h i l.rebalance.hand (inl refl) in
+      let dead = (won_at (Activity.Rebalance (Rebalance.Replace Replace.Number)) h i).dead l.rebalance.hand (inl refl) in
       record {
         hand = λ x. absurd x;
         fresh = λ x. absurd x;
-        dead = λ x. still_dead (Activity.Rebalance (Rebalance.Replace Replace.Number)) h i l.row held (w.dead tt);
-        owner = λ x. still_owner (Activity.Rebalance (Rebalance.Replace Replace.Number)) h i s l.row held (w.dead tt) (w.owner tt);
-        number = λ x. record { at = length r.history.log; drawn = number_of_drawn h; after = omega (arith, i.rows.past.gone l.row (w.dead tt), ap (λ (f : Fate). f.gone) (dead_fate (Activity.Rebalance (Rebalance.Replace Replace.Number)) h i l.row held (w.dead tt))) };
+        dead = dead_to_retire (Activity.Rebalance (Rebalance.Replace Replace.Number)) h i;
+        owner = owner_to_retire (Activity.Rebalance (Rebalance.Replace Replace.Number)) h i;
+        number = λ x. record { at = length r.history.log; drawn = number_of_drawn h; after = omega (arith, i.rows.past.gone l.rebalance.hand dead, ap (λ (f : Fate). f.gone) (dead_fate (Activity.Rebalance (Rebalance.Replace Replace.Number)) h i l.rebalance.hand held dead)) };
       }
+  knows_won a k (has_ahead p e) h i = record {
+    hand = λ x. absurd x;
+    fresh = λ x. absurd x;
+    dead = λ q x. dead_to_retire (Activity.Rebalance (Rebalance.Replace Replace.Retire)) h i q (ahead q x);
+    owner = λ q x. owner_to_retire (Activity.Rebalance (Rebalance.Replace Replace.Retire)) h i q (ahead q x);
+    number = λ x. absurd x;
+  }
+    where
+      ahead : (q : ℕ) → (q ≡ p) ⊎ (None ≡ Some q) → IsToRetire (Activity.Rebalance (Rebalance.Replace Replace.Retire)) l q
+      ahead q (inl f) = inr (e ∙ ap Some (sym f))
+      ahead q (inr f) = let x : None ≡ Some q = f in absurd (cc)
 
   -- so the acting seat knows what it should
   pub won_own : (a : Activity) → Arrow z (word z r.world) s choice l a l' → Happens z r r' s choice l l' a → Shape z r → Won r'.ledger.rows s l'.activity l'
@@ -323,13 +367,13 @@ module _ {z : Sizes} {r r' : Run} {s : ℕ} {choice : Choice} {l l' : Local} whe
   won_other a h i t k d g = record {
     hand = w.hand;
     fresh = λ x j q f. let p = (i.visits t k g).in_visit (won_visits k.activity (normal_won k.activity x)) in (rely_rows a h i t p.since p.visits (others_kept a h t d ∙ p.visits)).fresh q (w.fresh x j q f);
-    dead = λ x. still_dead a h i k.row (held x) (w.dead x);
-    owner = λ x. still_owner a h i t k.row (held x) (w.dead x) (w.owner x);
-    number = λ x. let y = retire_won k.activity x in still_numbered a h i k.row k.rebalance.number (held y) (w.dead y) (w.number x);
+    dead = λ q x. still_dead a h i q (held q x) (w.dead q x);
+    owner = λ q x. still_owner a h i t q (held q x) (w.dead q x) (w.owner q x);
+    number = λ x. let y = hand_to_retire k.activity k x in still_numbered a h i k.rebalance.hand k.rebalance.number (held k.rebalance.hand y) (w.dead k.rebalance.hand y) (w.number x);
   }
     where
       w : Won r.ledger.rows t k.activity k
       w = i.won t k g
 
-      held : HasWon k.activity → IsHeld r.ledger.rows k.row
-      held x = held_by r.ledger.rows t k.row ((i.balances t k g).fresh (won_balances k.activity x))
+      held : (q : ℕ) → IsToRetire k.activity k q → IsHeld r.ledger.rows q
+      held q x = held_by r.ledger.rows t q (retire_fresh z r i t k g q x)

@@ -1,5 +1,7 @@
--- How many numbers of retired rows the seats may still draw before they ask the epoch anew.
-use Rattle.std.specs.Prelude.{ℕ, ◌+◌, List, [], ◌∷◌}
+-- How many numbers of retired rows the seats may still draw before they ask the epoch anew: one for
+-- each row that a rebalance may replace.
+use Rattle.std.specs.Prelude.{ℕ, ◌+◌, Option, Some, None, List, [], ◌∷◌}
+use Rattle.kw_words.specs.declared.sizes.TheConstants.{MOST_GROUP}
 use Rattle.kw_world.specs.declared.activity.Activity.{Activity}
 use Rattle.kw_world.specs.declared.activity.rebalance.engage.Engage.TheVariants as Engage
 use Rattle.kw_world.specs.declared.activity.rebalance.Rebalance.TheVariants as Rebalance
@@ -7,30 +9,37 @@ use Rattle.kw_world.specs.declared.activity.rebalance.replace.Replace.TheVariant
 use Rattle.kw_world.specs.declared.activity.rebalance.seek.Seek.TheVariants as Seek
 use Rattle.kw_world.specs.declared.local.Local.{Local}
 
-abbrev pub numbering : Activity → ℕ
-numbering (Activity.Rebalance (Rebalance.Engage Engage.State)) = 1
-numbering (Activity.Rebalance (Rebalance.Engage (Engage.Normal seat))) = 1
-numbering (Activity.Rebalance (Rebalance.Engage Engage.Lead)) = 1
-numbering (Activity.Rebalance (Rebalance.Engage (Engage.MarkLink count))) = 1
-numbering (Activity.Rebalance (Rebalance.Engage (Engage.Decide count))) = 1
-numbering (Activity.Rebalance (Rebalance.Freeze _)) = 1
-numbering (Activity.Rebalance (Rebalance.Gather _)) = 1
-numbering (Activity.Rebalance (Rebalance.Seek Seek.First)) = 1
-numbering (Activity.Rebalance (Rebalance.Seek Seek.Next)) = 1
-numbering (Activity.Rebalance (Rebalance.Seek (Seek.Pass i))) = 1
-numbering (Activity.Rebalance (Rebalance.Seek Seek.Reclaim)) = 1
-numbering (Activity.Rebalance (Rebalance.Seek Seek.Take)) = 1
-numbering (Activity.Rebalance (Rebalance.Write _)) = 1
-numbering (Activity.Rebalance (Rebalance.Replace Replace.Start)) = 1
-numbering (Activity.Rebalance (Rebalance.Replace Replace.GuessedLeast)) = 1
-numbering (Activity.Rebalance (Rebalance.Replace Replace.First)) = 1
-numbering (Activity.Rebalance (Rebalance.Replace Replace.Next)) = 1
-numbering (Activity.Rebalance (Rebalance.Replace Replace.NextLeast)) = 1
-numbering (Activity.Rebalance (Rebalance.Replace Replace.Exchange)) = 1
-numbering (Activity.Rebalance (Rebalance.Replace Replace.Normalise)) = 1
-numbering (Activity.Rebalance (Rebalance.Replace Replace.Number)) = 1
-numbering _ = 0
+-- one for the row of the group that comes after the one at hand, if there is one
+abbrev pub one_ahead : Option ℕ → ℕ
+one_ahead (Some r) = 1
+one_ahead None = 0
+
+abbrev pub numbering : Activity → Local → ℕ
+numbering (Activity.Rebalance (Rebalance.Engage Engage.State)) l = MOST_GROUP
+numbering (Activity.Rebalance (Rebalance.Engage (Engage.Normal seat))) l = MOST_GROUP
+numbering (Activity.Rebalance (Rebalance.Engage Engage.Lead)) l = MOST_GROUP
+numbering (Activity.Rebalance (Rebalance.Engage (Engage.MarkLink count))) l = MOST_GROUP
+numbering (Activity.Rebalance (Rebalance.Engage (Engage.Decide count))) l = MOST_GROUP
+numbering (Activity.Rebalance (Rebalance.Claim _)) l = MOST_GROUP
+numbering (Activity.Rebalance (Rebalance.Freeze _)) l = MOST_GROUP
+numbering (Activity.Rebalance (Rebalance.Gather _)) l = MOST_GROUP
+numbering (Activity.Rebalance (Rebalance.Seek Seek.First)) l = MOST_GROUP
+numbering (Activity.Rebalance (Rebalance.Seek Seek.Next)) l = MOST_GROUP
+numbering (Activity.Rebalance (Rebalance.Seek (Seek.Pass i))) l = MOST_GROUP
+numbering (Activity.Rebalance (Rebalance.Seek Seek.Reclaim)) l = MOST_GROUP
+numbering (Activity.Rebalance (Rebalance.Seek Seek.Take)) l = MOST_GROUP
+numbering (Activity.Rebalance (Rebalance.Write _)) l = MOST_GROUP
+numbering (Activity.Rebalance (Rebalance.Replace Replace.Start)) l = MOST_GROUP
+numbering (Activity.Rebalance (Rebalance.Replace Replace.GuessedLeast)) l = MOST_GROUP
+numbering (Activity.Rebalance (Rebalance.Replace Replace.First)) l = MOST_GROUP
+numbering (Activity.Rebalance (Rebalance.Replace Replace.Next)) l = MOST_GROUP
+numbering (Activity.Rebalance (Rebalance.Replace Replace.NextLeast)) l = MOST_GROUP
+numbering (Activity.Rebalance (Rebalance.Replace Replace.Exchange)) l = MOST_GROUP
+numbering (Activity.Rebalance (Rebalance.Replace Replace.Normalise)) l = MOST_GROUP
+numbering (Activity.Rebalance (Rebalance.Replace Replace.Number)) l = 1 + one_ahead l.rebalance.ahead
+numbering (Activity.Rebalance (Rebalance.Replace Replace.Retire)) l = one_ahead l.rebalance.ahead
+numbering _ l = 0
 
 abbrev pub numberers : List Local → ℕ
 numberers [] = 0
-numberers (l ∷ locals) = numbering l.activity + numberers locals
+numberers (l ∷ locals) = numbering l.activity l + numberers locals

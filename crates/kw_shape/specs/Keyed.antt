@@ -4,7 +4,7 @@
 -- Links are followed from a row's first one, or from a cell with which the row was built. A place
 -- that has no cell yet may have a link of an earlier use of the row, which says nothing; it is not
 -- reached before a put has stored the link after its own cell.
-use Rattle.std.specs.Prelude.{ℕ, ◌≡◌, ◌⊎◌, ◌<◌, All, Option, Some, None}
+use Rattle.std.specs.Prelude.{ℕ, ◌≡◌, ◌⊎◌, ◌<◌, ◌≤◌, All, Option, Some, None}
 use Rattle.kw_words.specs.declared.layout.Name.TheVariants as name
 use Rattle.kw_words.specs.declared.pend.Pend.{Pend}
 use Rattle.kw_words.specs.declared.pend.Pend.TheVariants as pend
@@ -12,13 +12,14 @@ use Rattle.kw_words.specs.Pend.{pend_of}
 use Rattle.kw_words.specs.Plain.{cell_of_link_word, key_of_word}
 use Rattle.kw_rows.specs.Ledger.{Ledger}
 use Rattle.kw_rows.specs.Rows as rows
+use Rattle.kw_cells.specs.declared.cell.Cell.{Cell}
 use Rattle.kw_world.specs.declared.activity.Activity.{Activity}
-use Rattle.kw_world.specs.declared.activity.rebalance.freeze.Freeze.TheVariants as Freeze
 use Rattle.kw_world.specs.declared.activity.rebalance.gather.Gather.TheVariants as Gather
 use Rattle.kw_world.specs.declared.activity.insert.Insert.TheVariants as Insert
 use Rattle.kw_world.specs.declared.activity.put.Put.TheVariants as Put
 use Rattle.kw_world.specs.declared.activity.rebalance.Rebalance.TheVariants as Rebalance
 use Rattle.kw_world.specs.declared.local.Local.{Local}
+use Rattle.kw_world.specs.GroupPlaces.{base, cell_at, places, row_at}
 use Rattle.kw_world.specs.Sizes.{Sizes}
 use Rattle.kw_core.specs.Words.{Words, built_in}
 use Rattle.kw_shape.specs.Infants.{Nursing, HasNone, nursing_of}
@@ -75,15 +76,21 @@ IsInList (Activity.Rebalance (Rebalance.Gather Gather.Version)) l c = l.place �
 IsInList (Activity.Rebalance (Rebalance.Gather Gather.Value)) l c = l.place ≡ c
 IsInList _ l c = ⊥
 
+-- the row in whose list that is: a rebalance has one of its group at hand
+abbrev pub list_row : Activity → Local → ℕ
+list_row (Activity.Rebalance _) l = l.rebalance.hand
+list_row _ l = l.row
+
 -- a rebalance remembers cells
 abbrev pub HasMarks : Activity → Type 0
-HasMarks (Activity.Rebalance (Rebalance.Freeze (Freeze.Look i))) = Unit {0}
-HasMarks (Activity.Rebalance (Rebalance.Freeze (Freeze.Entry i))) = Unit {0}
-HasMarks (Activity.Rebalance (Rebalance.Freeze (Freeze.Scan i))) = Unit {0}
-HasMarks (Activity.Rebalance (Rebalance.Freeze (Freeze.Draw i))) = Unit {0}
-HasMarks (Activity.Rebalance (Rebalance.Freeze (Freeze.Settle i))) = Unit {0}
+HasMarks (Activity.Rebalance (Rebalance.Freeze _)) = Unit {0}
 HasMarks (Activity.Rebalance (Rebalance.Gather _)) = Unit {0}
 HasMarks _ = ⊥
+
+-- it gathers the cells of the row at hand
+abbrev pub IsGatheringRow : Activity → Type 0
+IsGatheringRow (Activity.Rebalance (Rebalance.Gather _)) = Unit {0}
+IsGatheringRow _ = ⊥
 
 -- it has reached the cell at hand, and has not loaded its key
 abbrev pub HasReachedCell : Activity → Type 0
@@ -107,11 +114,23 @@ abbrev pub HasGathered : Activity → Type 0
 HasGathered (Activity.Rebalance (Rebalance.Gather _)) = Unit {0}
 HasGathered a = IsPlanned (nursing_of a)
 
--- what a seat knows of the keys of its row
-pub record Keys (v : Words) (g : Ledger) (a : Activity) (l : Local) : Type 0 where
+-- the group has the place, and the row of the cell there may hold the key that stands in that cell
+abbrev pub HoldsPlace : Sizes → Words → Ledger → Local → ℕ → Type 0
+HoldsPlace z v g l p = (p < places z l.rebalance.second) × HoldsCell v g (row_at z l p) (cell_at z p)
+
+-- the group has the place of the gathered cell, and the row there may hold its key
+abbrev pub HoldsGathered : Sizes → Words → Ledger → Local → Cell → Type 0
+HoldsGathered z v g l c = (c.place < places z l.rebalance.second) × rows.HoldsKey (rows_in v) g (row_at z l c.place) c.key
+
+-- of the cells that a seat remembers while it gathers, none is of a row behind the one at hand
+abbrev pub IsRest : Sizes → Activity → Local → Type 0
+IsRest z a l = IsGatheringRow a → All (λ m. base z l.rebalance ≤ m.cell) l.rebalance.marks
+
+-- what a seat knows of the keys of its row, or of the rows of its group
+pub record Keys (z : Sizes) (v : Words) (g : Ledger) (a : Activity) (l : Local) : Type 0 where
   pub own : HasOwnKey a → HoldsCell v g l.row l.cell
-  pub list : (c : ℕ) → IsInList a l c → HoldsFrom v g l.row c
-  pub marks : HasMarks a → All (λ m. HoldsCell v g l.row m.cell) l.rebalance.marks
-  pub saw : HasReachedCell a → HoldsCell v g l.row l.place
-  pub key : HasKeyInHand a → rows.HoldsKey (rows_in v) g l.row l.place_key
-  pub gathered : HasGathered a → All (λ c. rows.HoldsKey (rows_in v) g l.row c.key) l.rebalance.gathered
+  pub list : (c : ℕ) → IsInList a l c → HoldsFrom v g (list_row a l) c
+  pub marks : HasMarks a → All (λ m. HoldsPlace z v g l m.cell) l.rebalance.marks
+  pub saw : HasReachedCell a → HoldsCell v g l.rebalance.hand l.place
+  pub key : HasKeyInHand a → rows.HoldsKey (rows_in v) g l.rebalance.hand l.place_key
+  pub gathered : HasGathered a → All (HoldsGathered z v g l) l.rebalance.gathered

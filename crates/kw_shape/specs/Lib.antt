@@ -2,6 +2,7 @@ pub mod Rooms
 pub mod RowsIn
 pub mod Visits
 pub mod Sought
+pub mod Hands
 pub mod Balances
 pub mod Shape
 pub mod ReachedRows

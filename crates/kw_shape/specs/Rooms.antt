@@ -31,6 +31,7 @@ drawing n (Activity.Rebalance (Rebalance.Engage (Engage.Normal seat))) = n
 drawing n (Activity.Rebalance (Rebalance.Engage Engage.Lead)) = n
 drawing n (Activity.Rebalance (Rebalance.Engage (Engage.MarkLink count))) = n
 drawing n (Activity.Rebalance (Rebalance.Engage (Engage.Decide count))) = n
+drawing n (Activity.Rebalance (Rebalance.Claim _)) = n
 drawing n (Activity.Rebalance (Rebalance.Freeze (Freeze.Scan i))) = n - i
 drawing n (Activity.Rebalance (Rebalance.Freeze (Freeze.Draw i))) = n - i
 drawing n (Activity.Rebalance (Rebalance.Freeze (Freeze.Settle i))) = n - (i + 1)

@@ -1,5 +1,5 @@
 -- What a seat knows of the row before its full one, while it seeks that row and until it exchanges
--- the link there.
+-- the link there; or until it is at that row, where its own one is a follower.
 --
 -- The walk to it goes along rows whose least keys are below that of the full row. Where that is not
 -- so, the full row is the first of the list, or was and is in it no more: a row of least key 0 has
@@ -8,6 +8,7 @@ use Rattle.std.specs.Prelude.{ℕ, ◌≡◌, ◌⊎◌, ◌<◌, Some}
 use Rattle.kw_rows.specs.Ledger.{Ledger, IsDead, IsFresh}
 use Rattle.kw_world.specs.declared.activity.Activity.{Activity}
 use Rattle.kw_world.specs.declared.activity.rebalance.Rebalance.TheVariants as Rebalance
+use Rattle.kw_world.specs.declared.activity.rebalance.left.Left.TheVariants as Left
 use Rattle.kw_world.specs.declared.activity.rebalance.replace.Replace.TheVariants as Replace
 use Rattle.kw_world.specs.declared.activity.rebalance.seek.Seek.TheVariants as Seek
 use Rattle.kw_world.specs.declared.local.Local.{Local}
@@ -21,6 +22,7 @@ IsSearching (Activity.Rebalance (Rebalance.Replace Replace.GuessedLeast)) l = Un
 IsSearching (Activity.Rebalance (Rebalance.Replace Replace.Next)) l = Unit {0}
 IsSearching (Activity.Rebalance (Rebalance.Replace Replace.NextLeast)) l = Unit {0}
 IsSearching (Activity.Rebalance (Rebalance.Replace Replace.Exchange)) l = Unit {0}
+IsSearching (Activity.Rebalance (Rebalance.Left _)) l = Unit {0}
 IsSearching (Activity.Rebalance (Rebalance.Seek Seek.GiveBack)) l = l.rebalance.afterwards ≡ MoveLeft
 IsSearching _ l = ⊥
 
@@ -29,6 +31,8 @@ abbrev pub IsMeasured : Activity → Local → Type 0
 IsMeasured (Activity.Rebalance (Rebalance.Replace Replace.Next)) l = Unit {0}
 IsMeasured (Activity.Rebalance (Rebalance.Replace Replace.NextLeast)) l = Unit {0}
 IsMeasured (Activity.Rebalance (Rebalance.Replace Replace.Exchange)) l = Unit {0}
+IsMeasured (Activity.Rebalance (Rebalance.Left Left.Next)) l = Unit {0}
+IsMeasured (Activity.Rebalance (Rebalance.Left Left.NextLeast)) l = Unit {0}
 IsMeasured (Activity.Rebalance (Rebalance.Seek Seek.GiveBack)) l = l.rebalance.afterwards ≡ MoveLeft
 IsMeasured _ l = ⊥
 
@@ -38,12 +42,14 @@ abbrev pub HasBefore : Activity → Local → Type 0
 HasBefore (Activity.Rebalance (Rebalance.Replace Replace.GuessedLeast)) l = Unit {0}
 HasBefore (Activity.Rebalance (Rebalance.Replace Replace.Next)) l = Unit {0}
 HasBefore (Activity.Rebalance (Rebalance.Replace Replace.NextLeast)) l = Unit {0}
+HasBefore (Activity.Rebalance (Rebalance.Left _)) l = Unit {0}
 HasBefore (Activity.Rebalance (Rebalance.Seek Seek.GiveBack)) l = l.rebalance.afterwards ≡ MoveLeft
 HasBefore _ l = ⊥
 
 -- it has reached a row behind that one
 abbrev pub HasReachedNext : Activity → Type 0
 HasReachedNext (Activity.Rebalance (Rebalance.Replace Replace.NextLeast)) = Unit {0}
+HasReachedNext (Activity.Rebalance (Rebalance.Left Left.NextLeast)) = Unit {0}
 HasReachedNext _ = ⊥
 
 -- the row is before the full one: its least key is below that one's, or the full row is dead and

@@ -5,7 +5,7 @@
 -- The words are a function of names here, so that a fact says what it reads.
 use Rattle.std.specs.Prelude.{ℕ, ◌≡◌, ◌⊎◌, ◌+◌, ◌*◌, ◌<◌, ◌≤◌, true, Option, Some, None, length, slice_get}
 use Rattle.kw_words.specs.declared.layout.Name.TheVariants as name
-use Rattle.kw_words.specs.declared.sizes.TheConstants.{SPENT}
+use Rattle.kw_words.specs.declared.sizes.TheConstants.{MOST_GROUP, SPENT}
 use Rattle.kw_model.specs.declared.call.Call.{Call}
 use Rattle.kw_model.specs.declared.call.Call.TheVariants.{Put, Del, Get, Scan}
 use Rattle.kw_world.specs.declared.answer.Answer.{Answer}
@@ -36,12 +36,13 @@ use Rattle.kw_shape.specs.RowsIn.{rows_in}
 use Rattle.kw_shape.specs.Visits.{Visits, Numbers}
 use Rattle.kw_shape.specs.Balances.{Balances}
 use Rattle.kw_shape.specs.Epochs.{numberers}
-use Rattle.kw_shape.specs.Keyed.{Keyed, Keys}
+use Rattle.kw_shape.specs.Hands.{IsToRetire}
+use Rattle.kw_shape.specs.Keyed.{IsRest, Keyed, Keys}
 use Rattle.kw_shape.specs.Plans.{Plans}
 use Rattle.kw_shape.specs.Infants.{HasLostNone, Infants}
 use Rattle.kw_shape.specs.Search.{Search}
 use Rattle.kw_shape.specs.Sought.{Sought}
-use Rattle.kw_shape.specs.Won.{HasWon, Won}
+use Rattle.kw_shape.specs.Won.{Won}
 
 -- The rows.
 
@@ -148,8 +149,7 @@ IsKind (Activity.Put _) l = IsPutCall l.call
 IsKind (Activity.Insert _) l = IsPutCall l.call
 IsKind (Activity.Leave answer) l = IsAnswerOf l.call answer
 IsKind (Activity.Enter Enter.LoadEpoch) l = IsPutCall l.call
-IsKind (Activity.Rebalance (Rebalance.Engage (Engage.MarkLink count))) l = IsPutCall l.call × (count ≤ 1)
-IsKind (Activity.Rebalance (Rebalance.Engage (Engage.Decide count))) l = IsPutCall l.call × (count ≡ 1)
+IsKind (Activity.Rebalance (Rebalance.Engage (Engage.Decide count))) l = IsPutCall l.call × (1 ≤ count)
 IsKind a l = IsKindAt (stage_of a) l.call
 
 -- the activity fits the call, and a scan that walks or reads has a key
@@ -167,6 +167,8 @@ pub record Shape (z : Sizes) (r : Run) : Type 0 where
   -- of one key a row that is built has room for more cells than scans may need at once, so the new
   -- rows of one full row differ in their least keys
   pub built : z.seats < z.built
+  -- and a new row is no longer than a row
+  pub fits : z.built ≤ z.cells
   pub room : (q : ℕ) → q < r.world.rows → given_in (word z r.world) q + adders q r.world.locals < z.cells + z.seats
   pub clock : word z r.world name.Clock + drawers z.seats r.world.locals ≤ SPENT + z.seats * z.seats
   -- the live rows are one list, rows that a seat may name lead to such rows, and states and marks
@@ -177,7 +179,7 @@ pub record Shape (z : Sizes) (r : Run) : Type 0 where
   -- the keys that stand in a row are such as it may hold
   pub keyed : (q : ℕ) → WasLinked r.ledger.rows q → Keyed z (word z r.world) r.ledger.rows q
   -- the epoch has room for the numbers that are drawn
-  pub epoch : word z r.world name.Epoch + numberers r.world.locals ≤ SPENT + z.seats
+  pub epoch : word z r.world name.Epoch + numberers r.world.locals ≤ SPENT + MOST_GROUP * z.seats
   pub numbers : Numbers (word z r.world) r.ledger.rows
   pub kinds : (t : ℕ) (l : Local) → slice_get r.world.locals t ≡ Some l → Kinds l.activity l
   -- a seat that tidies, since its put was done before, rebalances its row, or is about to leave
@@ -190,9 +192,10 @@ pub record Shape (z : Sizes) (r : Run) : Type 0 where
   pub outside : (t : ℕ) → length r.world.locals ≤ t → r.ledger.rows.visits t ≡ None
   pub walks : (t : ℕ) (l : Local) → slice_get r.world.locals t ≡ Some l → Walks (word z r.world) r.ledger.rows t l.activity l
   pub balances : (t : ℕ) (l : Local) → slice_get r.world.locals t ≡ Some l → Balances (word z r.world) r.ledger.rows t l.activity l
-  -- each seat knows keys of its row, what it has planned, the rows that it took, of which none is
-  -- lost, the row before its full one, and what it has replaced
-  pub keys : (t : ℕ) (l : Local) → slice_get r.world.locals t ≡ Some l → Keys (word z r.world) r.ledger.rows l.activity l
+  -- each seat knows keys of its row, what is left to gather, what it has planned, the rows that it
+  -- took, of which none is lost, the row before its full one, and what it has replaced
+  pub keys : (t : ℕ) (l : Local) → slice_get r.world.locals t ≡ Some l → Keys z (word z r.world) r.ledger.rows l.activity l
+  pub rest : (t : ℕ) (l : Local) → slice_get r.world.locals t ≡ Some l → IsRest z l.activity l
   pub plans : (t : ℕ) (l : Local) → slice_get r.world.locals t ≡ Some l → Plans z l.activity l
   pub infants : (t : ℕ) (l : Local) → slice_get r.world.locals t ≡ Some l → Infants z (word z r.world) r.ledger.rows t l.activity l
   pub none_lost : (t : ℕ) (l : Local) → slice_get r.world.locals t ≡ Some l → HasLostNone r.ledger.rows t l.activity l
@@ -200,5 +203,5 @@ pub record Shape (z : Sizes) (r : Run) : Type 0 where
   pub won : (t : ℕ) (l : Local) → slice_get r.world.locals t ≡ Some l → Won r.ledger.rows t l.activity l
   -- what each seat knows of the row that it asks for
   pub sought : (t : ℕ) (l : Local) → slice_get r.world.locals t ≡ Some l → Sought z (word z r.world) r.ledger.rows t l.activity l
-  -- the full row that a seat has replaced is not retired before it does so
-  pub unretired : (t : ℕ) (l : Local) → slice_get r.world.locals t ≡ Some l → HasWon l.activity → IsEngaged ((rows_in (word z r.world)).state l.row)
+  -- a row that a seat has replaced is not retired before it does so
+  pub unretired : (t : ℕ) (l : Local) → slice_get r.world.locals t ≡ Some l → (q : ℕ) → IsToRetire l.activity l q → IsEngaged ((rows_in (word z r.world)).state q)

@@ -2,13 +2,13 @@
 //!
 //! They follow from what the seat knows: its kept cells, cut at the starts, and the rows that it
 //! took. Each function takes the new row at hand. Takes no memory.
-ghost use Rattle.std.specs.Prelude.{◌≡◌, length, slice_get};
+ghost use Rattle.std.specs.Prelude.{◌≡◌, All, length, slice_get};
 ghost use Rattle.kw_cells.specs.Cells.{value_in};
 ghost use Rattle.kw_cells.specs.Kept.{AreRising};
 ghost use Rattle.kw_words.specs.Count.{count_word};
 ghost use Rattle.kw_words.specs.Link.{link_word};
-ghost use Rattle.kw_words.specs.Plain.{cell_link_word, key_word, least_word, value_word, version_word};
-ghost use Rattle.kw_world.specs.Sane.{IsLocal};
+ghost use Rattle.kw_words.specs.Plain.{IsCounted, IsValue, cell_link_word, key_word, least_word, value_word, version_word};
+ghost use Rattle.kw_world.specs.Sane.{IsCopy, IsLocal};
 ghost use Rattle.kw_world.specs.Sizes.{product};
 ghost use Rattle.kw_world.specs.WriteTransitions.{infant_cells, infant_count, infant_least, infant_link, first_listed, listed_after, key_in, version_in};
 
@@ -17,6 +17,7 @@ use crate::infant::{
 };
 use crate::infant_rising::listed_after_rising;
 use crate::operation::link_to;
+use kw_cells::cell::Cell;
 use kw_words::plain::{pack_cell_link, pack_key, pack_least, pack_value, pack_version};
 use kw_world::local::Local;
 
@@ -63,11 +64,18 @@ pub fn key_word(local: &Local, cell: u32) -> u64
     requires { IsLocal product local.now }
     ensures { result ≡ key_word (key_in (slice_get (infant_cells local.now) cell)) }
 {
-    let key = match infant_cells(local).get(cell as usize) {
+    pack_key(key_at(infant_cells(local), cell))
+}
+
+// The key of a cell, and 0 where there is none.
+#[inline(always)]
+fn key_at(cells: &[Cell], cell: u32) -> u32
+    ensures { result ≡ key_in (slice_get cells.now cell) }
+{
+    match cells.get(cell as usize) {
         Some(kept) => kept.key,
         None => 0,
-    };
-    pack_key(key)
+    }
 }
 
 /// The word of a cell's value: that of a tombstone where the row has no cell there.
@@ -76,11 +84,20 @@ pub fn value_word(local: &Local, cell: u32) -> u64
     requires { IsLocal product local.now }
     ensures { result ≡ value_word (value_in (slice_get (infant_cells local.now) cell)) }
 {
-    let value = match infant_cells(local).get(cell as usize) {
+    pack_value(value_at(infant_cells(local), cell))
+}
+
+// The value of a cell, and a tombstone's where there is none.
+#[inline(always)]
+fn value_at(cells: &[Cell], cell: u32) -> Option<u64>
+    requires { All IsCopy cells.now }
+    ensures value { result ≡ value_in (slice_get cells.now cell) }
+    ensures range { IsValue result }
+{
+    match cells.get(cell as usize) {
         Some(kept) => kept.value,
         None => None,
-    };
-    pack_value(value)
+    }
 }
 
 /// The word of a cell's version: that of none where the row has no cell there.
@@ -89,11 +106,20 @@ pub fn version_word(local: &Local, cell: u32) -> u64
     requires { IsLocal product local.now }
     ensures { result ≡ version_word (version_in (slice_get (infant_cells local.now) cell)) }
 {
-    let version = match infant_cells(local).get(cell as usize) {
+    pack_version(version_at(infant_cells(local), cell))
+}
+
+// The version of a cell, if there is one.
+#[inline(always)]
+fn version_at(cells: &[Cell], cell: u32) -> Option<u64>
+    requires { All IsCopy cells.now }
+    ensures version { result ≡ version_in (slice_get cells.now cell) }
+    ensures range { IsCounted result }
+{
+    match cells.get(cell as usize) {
         Some(kept) => Some(kept.version),
         None => None,
-    };
-    pack_version(version)
+    }
 }
 
 /// The word of the link after a cell: that to none where the row has no cell there.

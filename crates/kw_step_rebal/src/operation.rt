@@ -3,7 +3,7 @@
 //! The operation depends on what the seat knows and on its choice, and on no word.
 //! `operation_write` has those that store what a new row holds.
 ghost use Rattle.std.specs.Prelude.{◌≡◌, Some};
-ghost use Rattle.kw_step_rebal.specs.Families.{IsBuilding, IsLinking};
+ghost use Rattle.kw_step_rebal.specs.Families.{IsBuilding, IsClaiming, IsFreezing, IsGathering, IsGoingLeft, IsLinking};
 ghost use Rattle.kw_words.specs.Link.{link_word};
 ghost use Rattle.kw_words.specs.Pend.{IsPend, pend_word};
 ghost use Rattle.kw_words.specs.Scan.{scan_word};
@@ -33,9 +33,11 @@ use kw_words::state::State;
 use kw_world::activity::Activity;
 use kw_world::activity::enter::Enter;
 use kw_world::activity::rebalance::Rebalance;
+use kw_world::activity::rebalance::claim::Claim;
 use kw_world::activity::rebalance::engage::Engage;
 use kw_world::activity::rebalance::freeze::Freeze;
 use kw_world::activity::rebalance::gather::Gather;
+use kw_world::activity::rebalance::left::Left;
 use kw_world::activity::rebalance::replace::Replace;
 use kw_world::activity::rebalance::seek::Seek;
 use kw_world::activity::rebalance::write::Write;
@@ -77,17 +79,88 @@ pub fn rebalance_operation(seat: u32, local: &Local, choice: Choice) -> Operatio
             let state = Name::State(row);
             change_state(Kind::Decide, state, State::Leader(0), State::Leader(count))
         }
+        Activity::Rebalance(Rebalance::Claim(_)) => claim_operation(seat, local, choice),
+        Activity::Rebalance(Rebalance::Left(_)) => left_operation(seat, local, choice),
+        Activity::Rebalance(Rebalance::Freeze(_)) => freeze_operation(seat, local, choice),
+        Activity::Rebalance(Rebalance::Gather(_)) => gather_operation(seat, local, choice),
+        _ => build_operation(seat, local, choice),
+    }
+}
+
+// The operation of an event by which the row after the full one is taken along.
+#[tactic(auto, unfolding(kw_world::specs::Step::transition_of))]
+fn claim_operation(seat: u32, local: &Local, choice: Choice) -> Operation
+    requires ranges { IsLocal product local.now }
+    requires family { IsClaiming local.now.activity }
+    ensures { result ≡ (transition_of product seat choice local.now).operation }
+{
+    let next = local.rebalance.after.unwrap_or(0);
+    match local.activity {
+        Activity::Rebalance(Rebalance::Claim(Claim::Count)) => load(
+            Kind::LoadNextCount,
+            Name::Count(next),
+        ),
+        Activity::Rebalance(Rebalance::Claim(Claim::Exchange)) => claim(
+            Name::State(next),
+            local.row,
+        ),
+        Activity::Rebalance(Rebalance::Claim(Claim::Normal(owner))) => normalise(
+            Name::State(next),
+            owner,
+        ),
+        Activity::Rebalance(Rebalance::Claim(Claim::MarkLink)) => set_bits(
+            Kind::MarkLink,
+            Name::Next(next),
+            MARK_BIT,
+        ),
+        _ => unreachable!(),
+    }
+}
+
+// The operation of an event by which the seat of a follower goes left.
+#[tactic(auto, unfolding(kw_world::specs::Step::transition_of))]
+fn left_operation(seat: u32, local: &Local, choice: Choice) -> Operation
+    requires ranges { IsLocal product local.now }
+    requires family { IsGoingLeft local.now.activity }
+    ensures { result ≡ (transition_of product seat choice local.now).operation }
+{
+    match local.activity {
+        Activity::Rebalance(Rebalance::Left(Left::Start)) => match choice {
+            Choice::Guess(_) => load(Kind::LoadLeast, Name::Least(row_before(local))),
+            _ => load(Kind::LoadHead, Name::Head),
+        },
+        Activity::Rebalance(Rebalance::Left(Left::Next)) => load(
+            Kind::LoadLink,
+            Name::Next(row_before(local)),
+        ),
+        Activity::Rebalance(Rebalance::Left(Left::NextLeast)) => load(
+            Kind::LoadLeast,
+            Name::Least(local.candidate),
+        ),
+        _ => unreachable!(),
+    }
+}
+
+// The operation of an event by which the rows of the group are frozen, and the scans looked at.
+#[tactic(auto, unfolding(kw_world::specs::Step::transition_of))]
+fn freeze_operation(seat: u32, local: &Local, choice: Choice) -> Operation
+    requires ranges { IsLocal product local.now }
+    requires family { IsFreezing local.now.activity }
+    ensures { result ≡ (transition_of product seat choice local.now).operation }
+{
+    let hand = local.rebalance.hand;
+    match local.activity {
         Activity::Rebalance(Rebalance::Freeze(Freeze::Count)) => set_bits(
             Kind::FreezeCount,
-            Name::Count(row),
+            Name::Count(hand),
             FROZEN_BIT,
         ),
         Activity::Rebalance(Rebalance::Freeze(Freeze::Look(entry))) => load(
             Kind::LoadPend,
-            Name::Pend(row, entry),
+            Name::Pend(hand, entry),
         ),
         Activity::Rebalance(Rebalance::Freeze(Freeze::Entry(entry))) => freeze(
-            Name::Pend(row, entry),
+            Name::Pend(hand, entry),
             local.rebalance.entry,
         ),
         Activity::Rebalance(Rebalance::Freeze(Freeze::Scan(scan))) => load(
@@ -101,31 +174,44 @@ pub fn rebalance_operation(seat: u32, local: &Local, choice: Choice) -> Operatio
         Activity::Rebalance(Rebalance::Freeze(Freeze::Settle(scan))) => {
             settle(scan, local.rebalance.waiting, local.rebalance.drawn)
         }
+        _ => unreachable!(),
+    }
+}
+
+// The operation of an event by which the cells of the group are gathered.
+#[tactic(auto, unfolding(kw_world::specs::Step::transition_of))]
+fn gather_operation(seat: u32, local: &Local, choice: Choice) -> Operation
+    requires ranges { IsLocal product local.now }
+    requires family { IsGathering local.now.activity }
+    ensures { result ≡ (transition_of product seat choice local.now).operation }
+{
+    let hand = local.rebalance.hand;
+    match local.activity {
         Activity::Rebalance(Rebalance::Gather(Gather::Link)) => load(
             Kind::LoadAfter,
-            link_name(row, local.link),
+            link_name(hand, local.link),
         ),
         Activity::Rebalance(Rebalance::Gather(Gather::Key)) => load(
             Kind::LoadKey,
-            Name::Key(row, local.place),
+            Name::Key(hand, local.place),
         ),
         Activity::Rebalance(Rebalance::Gather(Gather::Version)) => load(
             Kind::LoadVersion,
-            Name::Version(row, local.place),
+            Name::Version(hand, local.place),
         ),
         Activity::Rebalance(Rebalance::Gather(Gather::Value)) => load(
             Kind::LoadValue,
-            Name::Value(row, local.place),
+            Name::Value(hand, local.place),
         ),
         Activity::Rebalance(Rebalance::Gather(Gather::LeftOverKey)) => load(
             Kind::LoadKey,
-            Name::Key(row, local.place),
+            Name::Key(hand, local.place),
         ),
         Activity::Rebalance(Rebalance::Gather(Gather::LeftOverValue)) => load(
             Kind::LoadValue,
-            Name::Value(row, local.place),
+            Name::Value(hand, local.place),
         ),
-        _ => build_operation(seat, local, choice),
+        _ => unreachable!(),
     }
 }
 
@@ -187,8 +273,8 @@ fn build_operation(seat: u32, local: &Local, choice: Choice) -> Operation
     }
 }
 
-// The operation of an event by which the new rows are linked in place of the full one, which is
-// retired.
+// The operation of an event by which the new rows are linked in place of the full one, and the rows
+// of the group are retired.
 #[tactic(auto, unfolding(kw_world::specs::Step::transition_of))]
 fn link_operation(seat: u32, local: &Local, choice: Choice) -> Operation
     requires ranges { IsLocal product local.now }
@@ -224,7 +310,7 @@ fn link_operation(seat: u32, local: &Local, choice: Choice) -> Operation
         ),
         Activity::Rebalance(Rebalance::Replace(Replace::Retire)) => {
             let retired = State::Retired(local.rebalance.number);
-            store_state(Kind::StoreRetired, local.row, retired)
+            store_state(Kind::StoreRetired, local.rebalance.hand, retired)
         }
         _ => unreachable!(),
     }
@@ -293,6 +379,26 @@ fn change_state(kind: Kind, name: Name, from: State, into: State) -> Operation
         kind,
         name,
         action: Action::Exchange(from, into),
+    }
+}
+
+// What the word of a row's state has for a follower, below the number of its leader.
+const FOLLOWER: u64 = 4;
+
+// The exchange that makes a normal row a follower of this row, whatever number that has.
+fn claim(name: Name, leader: u32) -> Operation
+    ensures { result ≡ record {
+      kind = Kind.EngageNext;
+      name = name;
+      action = Action.Exchange
+          (state_word State.Normal) (state_word (State.Follower leader));
+    } }
+{
+    let normal = State::Normal.pack();
+    Operation {
+        kind: Kind::EngageNext,
+        name,
+        action: Action::Exchange(normal, FOLLOWER + STATE_UNIT * leader as u64),
     }
 }
 

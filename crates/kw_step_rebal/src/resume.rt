@@ -4,7 +4,7 @@
 //! what the table says: the fields that the event's line names change, and the activity. One file
 //! for each topic has the lines that need more than a sentence.
 ghost use Rattle.std.specs.Prelude.{◌≡◌};
-ghost use Rattle.kw_step_rebal.specs.Families.{IsBuilding};
+ghost use Rattle.kw_step_rebal.specs.Families.{IsBuilding, IsClaiming, IsFreezing, IsGathering, IsGoingLeft};
 ghost use Rattle.kw_world.specs.Parts.{part_of};
 ghost use Rattle.kw_world.specs.Sane.{IsLocal, HasRoom};
 ghost use Rattle.kw_world.specs.Sizes.{product};
@@ -12,10 +12,12 @@ ghost use Rattle.kw_world.specs.Step.{next_of};
 ghost use Rattle.kw_world.specs.Transition.{outcome, to};
 ghost use Rattle.kw_world.specs.declared.part.Part.{Part};
 
-use crate::resume_engage::{again, clock, decide, engage, epoch, link_marked, state};
+use crate::resume_claim::{claimed, next_counted, next_marked};
+use crate::resume_engage::{clock, decide, engage, epoch, link_marked, state};
 use crate::resume_freeze::{count_frozen, entry_tried, look, scan, scan_helped};
+use crate::resume_left::{left, left_least, left_link};
 use crate::resume_replace::{
-    before, before_head, before_least, before_link, guess_least, normalised, replaced,
+    before, before_head, before_least, before_link, guess_least, normalised, replaced, retired,
 };
 use crate::resume_seek::{gave_back, pass, seek, seek_first, take_row};
 use crate::resume_take::{
@@ -25,9 +27,11 @@ use crate::resume_write::{to_write_after, to_write_cell, to_write_entry};
 use kw_world::activity::Activity;
 use kw_world::activity::enter::Enter;
 use kw_world::activity::rebalance::Rebalance;
+use kw_world::activity::rebalance::claim::Claim;
 use kw_world::activity::rebalance::engage::Engage;
 use kw_world::activity::rebalance::freeze::Freeze;
 use kw_world::activity::rebalance::gather::Gather;
+use kw_world::activity::rebalance::left::Left;
 use kw_world::activity::rebalance::replace::Replace;
 use kw_world::activity::rebalance::seek::Seek;
 use kw_world::activity::rebalance::write::Write;
@@ -62,7 +66,60 @@ pub fn rebalance_resume(local: &mut Local, rows: u32, choice: Choice, told: u64)
         Activity::Rebalance(Rebalance::Engage(Engage::MarkLink(count))) => link_marked(
             local, count, told,
         ),
-        Activity::Rebalance(Rebalance::Engage(Engage::Decide(_))) => decide(local, told),
+        Activity::Rebalance(Rebalance::Engage(Engage::Decide(count))) => decide(local, count, told),
+        Activity::Rebalance(Rebalance::Claim(_)) => claim_resume(local, rows, choice, told),
+        Activity::Rebalance(Rebalance::Left(_)) => left_resume(local, rows, choice, told),
+        Activity::Rebalance(Rebalance::Freeze(_)) => freeze_resume(local, rows, choice, told),
+        Activity::Rebalance(Rebalance::Gather(_)) => gather_resume(local, rows, choice, told),
+        _ => build_resume(local, rows, choice, told),
+    }
+}
+
+// What it knows after an event by which the row after the full one is taken along.
+#[tactic(auto, unfolding(kw_world::specs::Step::transition_of))]
+fn claim_resume(local: &mut Local, rows: u32, choice: Choice, told: u64) -> StepDone
+    requires ranges { IsLocal product local.old }
+    requires room { HasRoom product local.old }
+    requires family { IsClaiming local.old.activity }
+    ensures { outcome local.new result ≡ next_of product rows choice local.old told }
+{
+    match local.activity {
+        Activity::Rebalance(Rebalance::Claim(Claim::Count)) => next_counted(local, told),
+        Activity::Rebalance(Rebalance::Claim(Claim::Exchange)) => claimed(local, told),
+        Activity::Rebalance(Rebalance::Claim(Claim::Normal(_))) => to(
+            local,
+            Activity::Rebalance(Rebalance::Claim(Claim::Exchange)),
+        ),
+        Activity::Rebalance(Rebalance::Claim(Claim::MarkLink)) => next_marked(local, told),
+        _ => unreachable!(),
+    }
+}
+
+// What it knows after an event by which the seat of a follower goes left.
+#[tactic(auto, unfolding(kw_world::specs::Step::transition_of))]
+fn left_resume(local: &mut Local, rows: u32, choice: Choice, told: u64) -> StepDone
+    requires ranges { IsLocal product local.old }
+    requires room { HasRoom product local.old }
+    requires family { IsGoingLeft local.old.activity }
+    ensures { outcome local.new result ≡ next_of product rows choice local.old told }
+{
+    match local.activity {
+        Activity::Rebalance(Rebalance::Left(Left::Start)) => left(local, choice, told),
+        Activity::Rebalance(Rebalance::Left(Left::Next)) => left_link(local, told),
+        Activity::Rebalance(Rebalance::Left(Left::NextLeast)) => left_least(local, told),
+        _ => unreachable!(),
+    }
+}
+
+// What it knows after an event by which the rows of the group are frozen, and the scans looked at.
+#[tactic(auto, unfolding(kw_world::specs::Step::transition_of))]
+fn freeze_resume(local: &mut Local, rows: u32, choice: Choice, told: u64) -> StepDone
+    requires ranges { IsLocal product local.old }
+    requires room { HasRoom product local.old }
+    requires family { IsFreezing local.old.activity }
+    ensures { outcome local.new result ≡ next_of product rows choice local.old told }
+{
+    match local.activity {
         Activity::Rebalance(Rebalance::Freeze(Freeze::Count)) => count_frozen(local),
         Activity::Rebalance(Rebalance::Freeze(Freeze::Look(entry))) => look(local, entry, told),
         Activity::Rebalance(Rebalance::Freeze(Freeze::Entry(entry))) => entry_tried(
@@ -79,6 +136,19 @@ pub fn rebalance_resume(local: &mut Local, rows: u32, choice: Choice, told: u64)
         Activity::Rebalance(Rebalance::Freeze(Freeze::Settle(seat))) => scan_helped(
             local, seat, told,
         ),
+        _ => unreachable!(),
+    }
+}
+
+// What it knows after an event by which the cells of the group are gathered.
+#[tactic(auto, unfolding(kw_world::specs::Step::transition_of))]
+fn gather_resume(local: &mut Local, rows: u32, choice: Choice, told: u64) -> StepDone
+    requires ranges { IsLocal product local.old }
+    requires room { HasRoom product local.old }
+    requires family { IsGathering local.old.activity }
+    ensures { outcome local.new result ≡ next_of product rows choice local.old told }
+{
+    match local.activity {
         Activity::Rebalance(Rebalance::Gather(Gather::Link)) => take_from(local, told),
         Activity::Rebalance(Rebalance::Gather(Gather::Key)) => take_key(local, told),
         Activity::Rebalance(Rebalance::Gather(Gather::Version)) => take_version(local, told),
@@ -89,7 +159,7 @@ pub fn rebalance_resume(local: &mut Local, rows: u32, choice: Choice, told: u64)
         Activity::Rebalance(Rebalance::Gather(Gather::LeftOverValue)) => left_over_value(
             local, told,
         ),
-        _ => build_resume(local, rows, choice, told),
+        _ => unreachable!(),
     }
 }
 
@@ -153,7 +223,7 @@ fn build_resume(local: &mut Local, rows: u32, choice: Choice, told: u64) -> Step
                 Activity::Rebalance(Rebalance::Replace(Replace::Retire)),
             )
         }
-        Activity::Rebalance(Rebalance::Replace(Replace::Retire)) => again(local),
+        Activity::Rebalance(Rebalance::Replace(Replace::Retire)) => retired(local),
         _ => unreachable!(),
     }
 }

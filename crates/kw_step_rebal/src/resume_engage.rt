@@ -3,19 +3,22 @@ ghost use Rattle.std.specs.Prelude.{◌≡◌, ◌==◌};
 ghost use Rattle.kw_words.specs.Link.{link_of};
 ghost use Rattle.kw_words.specs.State.{state_of, state_word};
 ghost use Rattle.kw_words.specs.declared.state.State.{State};
-ghost use Rattle.kw_world.specs.EngageTransitions.{to_rebalance, retrying, refusal, again, refuse, balance_clock, balance_epoch, is_alone, state_seen, engaged, link_marked, decided};
+ghost use Rattle.kw_world.specs.EngageTransitions.{to_rebalance, retrying, refusal, again, refuse, balance_clock, balance_epoch, state_seen, engaged, to_group, claiming, counted, undecided, link_marked, decided};
 ghost use Rattle.kw_world.specs.Transition.{outcome, row_linked};
 
 use crate::resume::to;
 use kw_words::link::Link;
-use kw_words::sizes::SPENT;
+use kw_words::sizes::{MOST_GROUP, SPENT};
 use kw_words::state::State;
 use kw_world::activity::Activity;
 use kw_world::activity::rebalance::Rebalance;
+use kw_world::activity::rebalance::claim::Claim;
 use kw_world::activity::rebalance::engage::Engage;
 use kw_world::activity::rebalance::freeze::Freeze;
+use kw_world::activity::rebalance::left::Left;
 use kw_world::answer::Answer;
 use kw_world::event::StepDone;
+use kw_world::group::to_first_row;
 use kw_world::local::Local;
 
 // The rebalance of the seat's row begins, and nothing is known of an earlier one.
@@ -87,13 +90,6 @@ pub(crate) fn epoch(local: &mut Local, epoch: u64) -> StepDone
     }
 }
 
-// Whether a leader of so many rows is led alone, or that is not decided.
-fn is_alone(count: u32) -> bool
-    ensures { result ≡ is_alone count }
-{
-    count <= 1
-}
-
 // The seat was told the state of the full row.
 pub(crate) fn state(local: &mut Local, found: u64) -> StepDone
     ensures { outcome local.new result ≡ state_seen (state_of found) local.old }
@@ -104,10 +100,14 @@ pub(crate) fn state(local: &mut Local, found: u64) -> StepDone
             Activity::Rebalance(Rebalance::Engage(Engage::Normal(seat))),
         ),
         Some(State::Normal) => to(local, Activity::Rebalance(Rebalance::Engage(Engage::Lead))),
-        Some(State::Leader(count)) if is_alone(count) => to(
+        Some(State::Leader(count)) => to(
             local,
             Activity::Rebalance(Rebalance::Engage(Engage::MarkLink(count))),
         ),
+        Some(State::Follower(leader)) => {
+            local.rebalance.before = Some(leader);
+            to(local, Activity::Rebalance(Rebalance::Left(Left::Start)))
+        }
         _ => again(local),
     }
 }
@@ -126,34 +126,74 @@ pub(crate) fn engage(local: &mut Local, found: u64) -> StepDone
     }
 }
 
+// The rows of the group are known: they are frozen, the first one first, and no cell is remembered.
+pub(crate) fn to_group(local: &mut Local) -> StepDone
+    ensures { outcome local.new result ≡ to_group local.old }
+{
+    local.rebalance.marks.clear();
+    to_first_row(local);
+    to(local, Activity::Rebalance(Rebalance::Freeze(Freeze::Count)))
+}
+
+// It is decided how many rows the group has.
+fn counted(local: &mut Local, count: u32) -> StepDone
+    ensures { outcome local.new result ≡ counted count local.old }
+{
+    if count == MOST_GROUP && local.rebalance.after.is_some() {
+        to(
+            local,
+            Activity::Rebalance(Rebalance::Claim(Claim::Exchange)),
+        )
+    } else {
+        to_group(local)
+    }
+}
+
+// It is not decided: a full row that is the last one goes alone, and else the row after it is
+// asked.
+fn undecided(local: &mut Local) -> StepDone
+    ensures { outcome local.new result ≡ undecided local.old.rebalance.after local.old }
+{
+    if local.rebalance.after.is_some() {
+        to(local, Activity::Rebalance(Rebalance::Claim(Claim::Count)))
+    } else {
+        to(
+            local,
+            Activity::Rebalance(Rebalance::Engage(Engage::Decide(1))),
+        )
+    }
+}
+
 // The seat has marked the link of the full row, which leads so many rows, and was told the link
 // found.
 pub(crate) fn link_marked(local: &mut Local, count: u32, found: u64) -> StepDone
     ensures { outcome local.new result ≡ link_marked count (row_linked (link_of found)) local.old }
 {
-    local.rebalance.after = match Link::unpack(found) {
-        Some(link) => link.row,
-        None => None,
-    };
+    local.rebalance.after = linked(found);
     if count == 0 {
-        to(
-            local,
-            Activity::Rebalance(Rebalance::Engage(Engage::Decide(1))),
-        )
+        undecided(local)
     } else {
-        to(local, Activity::Rebalance(Rebalance::Freeze(Freeze::Count)))
+        counted(local, count)
     }
 }
 
-// The seat has tried to decide how many rows are replaced, and was told the state found.
-pub(crate) fn decide(local: &mut Local, found: u64) -> StepDone
-    ensures { outcome local.new result ≡ decided (state_of found) local.old }
+// The seat has tried to decide that so many rows are replaced, and was told the state found.
+pub(crate) fn decide(local: &mut Local, count: u32, found: u64) -> StepDone
+    ensures { outcome local.new result ≡ decided count (state_of found) local.old }
 {
     match State::unpack(found) {
-        Some(State::Leader(count)) if is_alone(count) => to(
-            local,
-            Activity::Rebalance(Rebalance::Freeze(Freeze::Count)),
-        ),
+        Some(State::Leader(0)) => counted(local, count),
+        Some(State::Leader(decided)) => counted(local, decided),
         _ => again(local),
+    }
+}
+
+// The row that a link leads to.
+pub(crate) fn linked(found: u64) -> Option<u32>
+    ensures { result ≡ row_linked (link_of found) }
+{
+    match Link::unpack(found) {
+        Some(link) => link.row,
+        None => None,
     }
 }

@@ -1,10 +1,12 @@
-//! What a seat knows after the events that freeze the full row, and after its looks at the scans.
+//! What a seat knows after the events that freeze the rows of the group, and after its looks at the
+//! scans.
 ghost use Rattle.std.specs.Prelude.{◌≡◌, ◌==◌, ◌<◌, Some, length};
 ghost use Rattle.kw_cells.specs.declared.limits.TheConstants.{MOST_NEEDED};
 ghost use Rattle.kw_words.specs.Pend.{pend_of, pend_word};
 ghost use Rattle.kw_words.specs.Scan.{scan_of};
-ghost use Rattle.kw_words.specs.declared.sizes.TheConstants.{SEATS};
-ghost use Rattle.kw_world.specs.FreezeTransitions.{count_frozen, to_freeze_look, marking, freezing, freeze_seen, entry_tried, to_scan_look, needing, scan_seen, scan_helped};
+ghost use Rattle.kw_words.specs.declared.sizes.TheConstants.{MOST_CELLS, SEATS};
+ghost use Rattle.kw_world.specs.declared.limits.TheConstants.{MOST_MARKS};
+ghost use Rattle.kw_world.specs.FreezeTransitions.{count_frozen, row_frozen, to_freeze_look, marking, freezing, freeze_seen, entry_tried, to_scan_look, needing, scan_seen, scan_helped};
 ghost use Rattle.kw_world.specs.Sane.{IsEntry};
 ghost use Rattle.kw_world.specs.Sizes.{product};
 ghost use Rattle.kw_world.specs.Transition.{outcome};
@@ -18,21 +20,40 @@ use kw_world::activity::Activity;
 use kw_world::activity::rebalance::Rebalance;
 use kw_world::activity::rebalance::freeze::Freeze;
 use kw_world::event::StepDone;
+use kw_world::group::{place_in_group, to_last_row};
 use kw_world::local::Local;
 use kw_world::marks::Mark;
 
-// The seat has frozen the count of the full row.
+// The seat has frozen the count of the row at hand.
 pub(crate) fn count_frozen(local: &mut Local) -> StepDone
     ensures { outcome local.new result ≡ count_frozen local.old }
 {
-    local.rebalance.marks.clear();
     to(
         local,
         Activity::Rebalance(Rebalance::Freeze(Freeze::Look(0))),
     )
 }
 
-// The seat goes on to the entry of this seat, or to the scans after the last entry.
+// The row at hand is frozen. The next row of the group is, and after the last one come the scans.
+fn row_frozen(local: &mut Local) -> StepDone
+    ensures { outcome local.new result ≡ row_frozen local.old.rebalance.ahead local.old }
+{
+    match local.rebalance.ahead {
+        Some(row) => {
+            to_last_row(local, row);
+            to(local, Activity::Rebalance(Rebalance::Freeze(Freeze::Count)))
+        }
+        None => {
+            local.rebalance.needed.clear();
+            to(
+                local,
+                Activity::Rebalance(Rebalance::Freeze(Freeze::Scan(0))),
+            )
+        }
+    }
+}
+
+// The seat goes on to the entry of this seat; after the last entry the row at hand is frozen.
 #[inline(always)]
 fn to_look(local: &mut Local, entry: u32) -> StepDone
     ensures { outcome local.new result ≡ to_freeze_look product entry local.old }
@@ -43,20 +64,18 @@ fn to_look(local: &mut Local, entry: u32) -> StepDone
             Activity::Rebalance(Rebalance::Freeze(Freeze::Look(entry))),
         )
     } else {
-        local.rebalance.needed.clear();
-        to(
-            local,
-            Activity::Rebalance(Rebalance::Freeze(Freeze::Scan(0))),
-        )
+        row_frozen(local)
     }
 }
 
-// The seat remembers a stamped cell.
+// The seat remembers a stamped cell of the row at hand.
 #[inline(always)]
 fn remember(local: &mut Local, cell: u32, version: u64)
-    requires { length local.old.rebalance.marks < SEATS }
-    ensures { local.new ≡ marking cell version local.old }
+    requires room { length local.old.rebalance.marks < MOST_MARKS }
+    requires cell { cell < MOST_CELLS }
+    ensures { local.new ≡ marking product cell version local.old }
 {
+    let cell = place_in_group(&local.rebalance, cell);
     local.rebalance.marks.push(Mark { cell, version });
 }
 
@@ -72,12 +91,12 @@ fn freeze(local: &mut Local, entry: u32, found: Pend) -> StepDone
     )
 }
 
-/// The seat was told the entry of this seat in the full row. An idle or a pending one is frozen
+/// The seat was told the entry of this seat in the row at hand. An idle or a pending one is frozen
 /// next, and a stamped cell is remembered.
 #[inline(always)]
 pub fn look(local: &mut Local, entry: u32, found: u64) -> StepDone
     requires entry { entry < SEATS }
-    requires room { length local.old.rebalance.marks < SEATS }
+    requires room { length local.old.rebalance.marks < MOST_MARKS }
     ensures { outcome local.new result ≡ freeze_seen product entry (pend_of found) local.old }
 {
     match Pend::unpack(found) {

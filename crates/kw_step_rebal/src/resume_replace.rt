@@ -4,11 +4,12 @@ ghost use Rattle.std.specs.Prelude.{◌≡◌, ◌≤◌, Some, length, ℕ};
 ghost use Rattle.kw_words.specs.Link.{link_of};
 ghost use Rattle.kw_words.specs.Plain.{key_of_word};
 ghost use Rattle.kw_words.specs.State.{state_of};
-ghost use Rattle.kw_world.specs.ReplaceTransitions.{before_transition, first_before, guess_before, guess_least, least_before, link_before, normalised, replaced, row_before};
+ghost use Rattle.kw_world.specs.ReplaceTransitions.{before_transition, first_before, guess_before, guess_least, least_before, link_before, normalised, replaced, retired, row_before};
 ghost use Rattle.kw_world.specs.Transition.{outcome, row_linked, row_or_first};
 
 use crate::infant::next_at;
 use crate::resume::to;
+use crate::resume_engage::{again, linked};
 use crate::resume_seek::{give_back, has_more};
 use kw_words::link::Link;
 use kw_words::plain::unpack_key;
@@ -17,18 +18,9 @@ use kw_world::activity::Activity;
 use kw_world::activity::rebalance::Rebalance;
 use kw_world::activity::rebalance::replace::Replace;
 use kw_world::event::{Choice, StepDone};
+use kw_world::group::{to_first_row, to_last_row};
 use kw_world::local::Local;
 use kw_world::rebalance::Afterwards;
-
-// The row that a link leads to.
-fn linked(found: u64) -> Option<u32>
-    ensures { result ≡ row_linked (link_of found) }
-{
-    match Link::unpack(found) {
-        Some(link) => link.row,
-        None => None,
-    }
-}
 
 // The seat was told the link to the first row. The full row may be that one, and no row stands
 // before it then.
@@ -186,9 +178,26 @@ pub(crate) fn normalised(local: &mut Local) -> StepDone
             Activity::Rebalance(Rebalance::Replace(Replace::Normalise)),
         )
     } else {
+        to_first_row(local);
         to(
             local,
             Activity::Rebalance(Rebalance::Replace(Replace::Number)),
         )
+    }
+}
+
+// The seat has retired the row at hand. The next row of the group gets a number, if there is one.
+pub(crate) fn retired(local: &mut Local) -> StepDone
+    ensures { outcome local.new result ≡ retired local.old.rebalance.ahead local.old }
+{
+    match local.rebalance.ahead {
+        Some(row) => {
+            to_last_row(local, row);
+            to(
+                local,
+                Activity::Rebalance(Rebalance::Replace(Replace::Number)),
+            )
+        }
+        None => again(local),
     }
 }

@@ -4,6 +4,7 @@ ghost use Rattle.kw_words.specs.Plain.{pass_of_word};
 ghost use Rattle.kw_words.specs.State.{state_of, state_word};
 ghost use Rattle.kw_words.specs.declared.sizes.TheConstants.{SEATS};
 ghost use Rattle.kw_words.specs.declared.state.State.{State};
+ghost use Rattle.kw_world.specs.LeftTransitions.{to_leader};
 ghost use Rattle.kw_world.specs.SeekTransitions.{gave_back, give_back, given_back, has_more, pass_seen, row_behind, seek_first_transition, seek_seen, seeking, take_row, to_pass, to_seek};
 ghost use Rattle.kw_world.specs.Sizes.{product};
 ghost use Rattle.kw_world.specs.Transition.{outcome};
@@ -38,12 +39,17 @@ fn given_back(local: &mut Local, afterwards: Afterwards) -> StepDone
     match afterwards {
         Afterwards::TryAgain => again(local),
         Afterwards::Refuse => refuse(local, Answer::NoRows),
-        Afterwards::MoveLeft => {
-            local.row = local.rebalance.before.unwrap_or(0);
-            local.lower = local.rebalance.least;
-            to_rebalance(local)
-        }
+        Afterwards::MoveLeft => move_left(local),
     }
+}
+
+// The seat rebalances the row at which its walk is from here on.
+pub(crate) fn move_left(local: &mut Local) -> StepDone
+    ensures { outcome local.new result ≡ to_leader local.old }
+{
+    local.row = local.rebalance.before.unwrap_or(0);
+    local.lower = local.rebalance.least;
+    to_rebalance(local)
 }
 
 // The taken rows are given back, one by one, and then this follows.

@@ -1,14 +1,15 @@
-//! What a seat knows after the events that gather the cells of the full row, and after the last of
+//! What a seat knows after the events that gather the cells of the group, and after the last of
 //! them.
 //!
-//! The end of the row's cells has no event of its own: it follows from the event that ends the
-//! walk, or from that on the last remembered cell that was not reached. The seat plans the new rows
-//! then, which takes no memory.
-ghost use Rattle.std.specs.Prelude.{◌≡◌, ◌≤◌, length};
+//! The end of a row's cells has no event of its own: it follows from the event that ends the
+//! walk, or from that on the last remembered cell that was not reached. The seat goes on to
+//! the next row of the group, or plans the new rows then, which takes no memory.
+ghost use Rattle.std.specs.Prelude.{◌≡◌, ◌<◌, ◌≤◌, length};
+ghost use Rattle.kw_cells.specs.declared.limits.TheConstants.{MOST_GATHERED};
 ghost use Rattle.kw_words.specs.Plain.{cell_of_link_word, key_of_word, value_of_word, version_of_word};
-ghost use Rattle.kw_words.specs.declared.sizes.TheConstants.{CELLS, SEATS};
+ghost use Rattle.kw_words.specs.declared.sizes.TheConstants.{CELLS, MOST_CELLS, SEATS};
 ghost use Rattle.kw_world.specs.Sizes.{product};
-ghost use Rattle.kw_world.specs.TakeTransitions.{keeping, planned, take_reached, take_past, take_version, taking, to_left, to_take};
+ghost use Rattle.kw_world.specs.TakeTransitions.{keeping, planned, row_gathered, take_reached, take_past, take_version, taking, to_left, to_list, to_take};
 ghost use Rattle.kw_world.specs.Transition.{outcome, to};
 
 use crate::resume::to;
@@ -22,35 +23,46 @@ use kw_world::activity::rebalance::Rebalance;
 use kw_world::activity::rebalance::gather::Gather;
 use kw_world::activity::rebalance::seek::Seek;
 use kw_world::event::StepDone;
+use kw_world::group::{cell_at, place_in_group, places_end, to_first_row, to_last_row};
 use kw_world::local::Local;
 use kw_world::rebuilt::Starts;
 
-// The seat begins to walk along the full row's list, and no cell is gathered.
-pub(crate) fn to_take(local: &mut Local) -> StepDone
-    ensures { outcome local.new result ≡ to_take local.old }
+// The seat begins to walk along the list of the row at hand.
+fn to_list(local: &mut Local) -> StepDone
+    ensures { outcome local.new result ≡ to_list local.old }
 {
     local.link = None;
     local.walked = 0;
-    local.rebalance.gathered.clear();
     to(local, Activity::Rebalance(Rebalance::Gather(Gather::Link)))
+}
+
+// The seat begins with the first row of the group, and no cell is gathered.
+pub(crate) fn to_take(local: &mut Local) -> StepDone
+    ensures { outcome local.new result ≡ to_take local.old }
+{
+    local.rebalance.gathered.clear();
+    to_first_row(local);
+    to_list(local)
 }
 
 // The seat has reached this cell behind its link, and need not remember it any more.
 #[inline(always)]
 fn reach(local: &mut Local, cell: u32)
-    requires { local.old.walked ≤ CELLS }
+    requires walked { local.old.walked ≤ CELLS }
+    requires cell { cell < MOST_CELLS }
     ensures { local.new ≡ taking product cell local.old }
 {
     local.place = cell;
     local.walked = (local.walked + 1).min(CELL_COUNT);
-    local.rebalance.marks.forget(cell);
+    let place = place_in_group(&local.rebalance, cell);
+    local.rebalance.marks.forget(place);
 }
 
 /// The seat was told the link at which it stands.
 #[inline(always)]
 pub fn take_from(local: &mut Local, found: u64) -> StepDone
     requires walked { local.old.walked ≤ CELLS }
-    requires gathered { length local.old.rebalance.gathered ≤ CELLS }
+    requires gathered { length local.old.rebalance.gathered ≤ MOST_GATHERED }
     requires needed { length local.old.rebalance.needed ≤ SEATS }
     ensures { outcome local.new result ≡ take_reached product (cell_of_link_word found) local.old }
 {
@@ -89,11 +101,13 @@ pub fn take_version(local: &mut Local, found: u64) -> StepDone
 // The seat was told the value of the cell in hand, and gathers the cell.
 #[inline(always)]
 fn gather(local: &mut Local, found: u64)
+    requires { local.old.place < CELLS }
     ensures { local.new ≡ keeping product (value_of_word found) local.old }
 {
+    let place = place_in_group(&local.rebalance, local.place);
     local.rebalance.gathered.gather(Cell {
         key: local.place_key,
-        place: local.place,
+        place,
         version: local.place_version,
         value: unpack_value(found),
     });
@@ -102,6 +116,7 @@ fn gather(local: &mut Local, found: u64)
 /// The seat was told the value of the cell that it reached, and goes on past it.
 #[inline(always)]
 pub fn take_value(local: &mut Local, found: u64) -> StepDone
+    requires { local.old.place < CELLS }
     ensures { outcome local.new result
         ≡ take_past (keeping product (value_of_word found) local.old) }
 {
@@ -126,7 +141,8 @@ pub fn take_left_over_key(local: &mut Local, found: u64) -> StepDone
 /// The seat was told the value of that cell.
 #[inline(always)]
 pub fn left_over_value(local: &mut Local, found: u64) -> StepDone
-    requires gathered { length local.old.rebalance.gathered ≤ CELLS }
+    requires place { local.old.place < CELLS }
+    requires gathered { length local.old.rebalance.gathered ≤ MOST_GATHERED }
     requires needed { length local.old.rebalance.needed ≤ SEATS }
     ensures { outcome local.new result
         ≡ to_left product (keeping product (value_of_word found) local.old) }
@@ -135,22 +151,40 @@ pub fn left_over_value(local: &mut Local, found: u64) -> StepDone
     to_left(local)
 }
 
-// The seat goes on to a remembered cell that it did not reach, or plans the new rows and begins to
-// seek free ones.
+// The seat goes on to a remembered cell of the row at hand that it did not reach; where none is
+// left, that row is gathered.
 fn to_left(local: &mut Local) -> StepDone
-    requires gathered { length local.old.rebalance.gathered ≤ CELLS }
+    requires gathered { length local.old.rebalance.gathered ≤ MOST_GATHERED }
     requires needed { length local.old.rebalance.needed ≤ SEATS }
     ensures { outcome local.new result ≡ to_left product local.old }
 {
+    let end = places_end(&local.rebalance);
     match local.rebalance.marks.least() {
-        Some(mark) => {
-            local.place = mark.cell;
+        Some(mark) if mark.cell < end => {
+            local.place = cell_at(mark.cell);
             local.place_version = mark.version;
             local.rebalance.marks.forget(mark.cell);
             to(
                 local,
                 Activity::Rebalance(Rebalance::Gather(Gather::LeftOverKey)),
             )
+        }
+        _ => row_gathered(local),
+    }
+}
+
+// The row at hand is gathered. The next row of the group is, and after the last one the seat plans
+// the new rows and begins to seek free ones.
+fn row_gathered(local: &mut Local) -> StepDone
+    requires gathered { length local.old.rebalance.gathered ≤ MOST_GATHERED }
+    requires needed { length local.old.rebalance.needed ≤ SEATS }
+    ensures { outcome local.new result
+        ≡ row_gathered product local.old.rebalance.ahead local.old }
+{
+    match local.rebalance.ahead {
+        Some(row) => {
+            to_last_row(local, row);
+            to_list(local)
         }
         None => {
             plan(local);
@@ -162,7 +196,7 @@ fn to_left(local: &mut Local) -> StepDone
 // The seat chooses the cells that the new rows get, and where each of these starts among them. The
 // cells go into its own list, and no other is made. No row is taken as yet.
 fn plan(local: &mut Local)
-    requires gathered { length local.old.rebalance.gathered ≤ CELLS }
+    requires gathered { length local.old.rebalance.gathered ≤ MOST_GATHERED }
     requires needed { length local.old.rebalance.needed ≤ SEATS }
     ensures { local.new ≡ planned product local.old }
 {

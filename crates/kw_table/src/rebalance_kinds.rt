@@ -1,8 +1,9 @@
 //! The kinds of event that come often in a rebalance, each a step of its own.
 //!
 //! They stand by what `kinds` says of its own: what each asks, what it tells, and what the pass has
-//! seen afterwards. First come those by which a full row gets its leader and is frozen, and scans
-//! are looked for, then those that find and write new rows, and link them in place of the full one.
+//! seen afterwards. First come those by which a full row gets its leader, the row after it goes
+//! along, both are frozen, and scans are looked for, then those that find and write new rows, and
+//! link them in place of the full one. These rows, one or two, are the group of the rebalance.
 //! What most rebalances do not need is made by `make`.
 ghost use Rattle.kw_table.specs.Passes.{operation, Asks, Makes};
 
@@ -36,7 +37,7 @@ pub fn engage(shared: &Shared, pass: &mut Pass, word: Name, expected: u64, store
     )
 }
 
-/// Marks the link after the full row, by which the row behind it stays there.
+/// Marks the link after a row of the group, by which the row behind it stays there.
 #[inline(always)]
 pub fn mark_link(shared: &Shared, pass: &mut Pass, word: Name, bits: u64) -> u64
     requires { Asks shared.now pass.old Choice.Go (operation Kind.MarkLink word (Action.Or bits)) }
@@ -74,7 +75,44 @@ pub fn decide(shared: &Shared, pass: &mut Pass, word: Name, expected: u64, store
     )
 }
 
-/// Freezes the count of the full row, by which it gives no cell any more.
+/// Loads the count of the row after the full one, which says whether it goes along.
+#[inline(always)]
+pub fn load_next_count(shared: &Shared, pass: &mut Pass, word: Name) -> u64
+    requires { Asks shared.now pass.old Choice.Go (operation Kind.LoadNextCount word Action.Load) }
+    ensures { Makes shared.now pass.old Choice.Go result pass.new }
+{
+    step!(
+        load,
+        LoadNextCount,
+        Action::Load,
+        shared,
+        pass,
+        Choice::Go,
+        word
+    )
+}
+
+/// Takes the row after the full one along: makes it a follower.
+#[inline(always)]
+pub fn engage_next(shared: &Shared, pass: &mut Pass, word: Name, expected: u64, stored: u64) -> u64
+    requires { Asks shared.now pass.old Choice.Go
+        (operation Kind.EngageNext word (Action.Exchange expected stored)) }
+    ensures { Makes shared.now pass.old Choice.Go result pass.new }
+{
+    step!(
+        exchange,
+        EngageNext,
+        Action::Exchange(expected, stored),
+        shared,
+        pass,
+        Choice::Go,
+        word,
+        expected,
+        stored
+    )
+}
+
+/// Freezes the count of a row of the group, by which it gives no cell any more.
 #[inline(always)]
 pub fn freeze_count(shared: &Shared, pass: &mut Pass, word: Name, bits: u64) -> u64
     requires { Asks shared.now pass.old Choice.Go
@@ -93,7 +131,7 @@ pub fn freeze_count(shared: &Shared, pass: &mut Pass, word: Name, bits: u64) -> 
     )
 }
 
-/// Freezes an entry of the full row, by which no put gets a version any more.
+/// Freezes an entry of a row of the group, by which no put gets a version any more.
 #[inline(always)]
 pub fn freeze_pend(shared: &Shared, pass: &mut Pass, word: Name, expected: u64, stored: u64) -> u64
     requires { Asks shared.now pass.old Choice.Go
@@ -234,7 +272,7 @@ pub fn normalise(shared: &Shared, pass: &mut Pass, word: Name, expected: u64, st
     )
 }
 
-/// Adds to the epoch: what it found is the number with which the full row is retired.
+/// Adds to the epoch: what it found is the number with which a row of the group is retired.
 #[inline(always)]
 pub fn add_epoch(shared: &Shared, pass: &mut Pass, word: Name, number: u64) -> u64
     requires { Asks shared.now pass.old Choice.Go (operation Kind.Number word (Action.Add number)) }
@@ -252,7 +290,7 @@ pub fn add_epoch(shared: &Shared, pass: &mut Pass, word: Name, number: u64) -> u
     )
 }
 
-/// Stores that the full row is retired.
+/// Stores that a row of the group is retired.
 #[inline(always)]
 pub fn retire(shared: &Shared, pass: &mut Pass, word: Name, stored: u64) -> u64
     requires { Asks shared.now pass.old Choice.Go

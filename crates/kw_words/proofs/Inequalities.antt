@@ -63,8 +63,9 @@ tries_below_frozen = omega arith
 pub clock_has_room : SPENT + SEATS * SEATS + SEATS < VERSION_END
 clock_has_room = omega arith
 
--- the numbers that seats may still take once the epoch is spent fit in a word
-pub epoch_has_room : SPENT + SEATS * SEATS + SEATS < NUMBER_END
+-- the numbers that seats may still take once the epoch is spent, one for each row that a rebalance
+-- replaces, fit in a word
+pub epoch_has_room : SPENT + MOST_GROUP * SEATS + 1 < NUMBER_END
 epoch_has_room = omega arith
 
 -- the seats are as many as code counts in words

@@ -34,6 +34,10 @@ pub const MOST_ROWS: u32 = 65_536;
 /// The most rows that one rebalance replaces.
 pub const MOST_GROUP: u32 = 2;
 
+/// A full row takes the row after it along where that has given no more cells than this. It does
+/// not grow with the sizes.
+pub const TAKE_ALONG: u32 = 8;
+
 /// The most rows that one rebalance builds.
 pub const MOST_NEW_ROWS: u32 = 7;
 

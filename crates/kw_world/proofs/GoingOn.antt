@@ -14,7 +14,7 @@ use Rattle.kw_words.specs.Pend.{pend_of, pend_word}
 use Rattle.kw_words.specs.Plain.{version_of_word, key_of_word, built_of_word, value_of_word, pass_of_word, cell_of_link_word, cell_link_word}
 use Rattle.kw_words.specs.Count.{count_of}
 use Rattle.kw_words.specs.Scan.{scan_of}
-use Rattle.kw_words.specs.declared.sizes.TheConstants.{SPENT}
+use Rattle.kw_words.specs.declared.sizes.TheConstants.{MOST_GROUP, SPENT}
 use Rattle.kw_world.specs.declared.answer.Answer.{Answer}
 use Rattle.kw_world.specs.declared.answer.Answer.TheVariants.{Done, Pairs, Spent}
 use Rattle.kw_world.specs.Answers.{reply_of}
@@ -23,10 +23,12 @@ use Rattle.kw_model.specs.declared.call.Call.{Call}
 use Rattle.kw_model.specs.declared.call.Call.TheVariants.{Put, Del, Get, Scan}
 use Rattle.kw_world.specs.declared.activity.Activity.{Activity}
 use Rattle.kw_world.specs.declared.activity.draw.Draw.TheVariants as Draw
+use Rattle.kw_world.specs.declared.activity.rebalance.claim.Claim.TheVariants as Claim
 use Rattle.kw_world.specs.declared.activity.rebalance.engage.Engage.TheVariants as Engage
 use Rattle.kw_world.specs.declared.activity.enter.Enter.TheVariants as Enter
 use Rattle.kw_world.specs.declared.activity.rebalance.freeze.Freeze.TheVariants as Freeze
 use Rattle.kw_world.specs.declared.activity.rebalance.gather.Gather.TheVariants as Gather
+use Rattle.kw_world.specs.declared.activity.rebalance.left.Left.TheVariants as Left
 use Rattle.kw_world.specs.declared.activity.insert.Insert.TheVariants as Insert
 use Rattle.kw_world.specs.declared.activity.look.Look.TheVariants as Look
 use Rattle.kw_world.specs.declared.activity.put.Put.TheVariants as Put
@@ -43,6 +45,7 @@ use Rattle.kw_world.specs.Sizes.{Sizes}
 use Rattle.kw_world.specs.Transition.{Outcome, row_linked, row_or_first, to, leave}
 use Rattle.kw_world.specs.PutTransitions.{stamp_seen, has_room, given_of, tidies_row}
 use Rattle.kw_world.specs.ListTransitions.{cell_guess, behind_cell, insert_started, insert_from, insert_key, insert_past, insert_tried, is_newer}
+use Rattle.kw_world.specs.GroupPlaces.{at_first_row, place_in_group}
 use Rattle.kw_world.specs.declared.marks.Mark.{Mark}
 use Rattle.kw_world.specs.Marks.{least_mark}
 use Rattle.kw_world.specs.ReadTransitions.{to_look, look_seen, help_seen, scan_on, row_read, left_over_of, to_left_over, list_started, list_reached, list_key, list_past, with_pairs, remembering, gathering}
@@ -54,12 +57,14 @@ use Rattle.kw_words.specs.declared.link.Link.{Link}
 use Rattle.kw_words.specs.State.{state_word}
 use Rattle.kw_world.specs.declared.rebalance.Afterwards.{Afterwards}
 use Rattle.kw_world.specs.declared.rebalance.Afterwards.TheVariants.{TryAgain, Refuse, MoveLeft}
-use Rattle.kw_world.specs.EngageTransitions.{again, refuse, to_rebalance, is_alone, state_seen, engaged, followed_by, link_marked, decided}
-use Rattle.kw_world.specs.FreezeTransitions.{to_scans, to_freeze_look, marking, freeze_seen, entry_tried, to_scan_look, needing, scan_seen, scan_helped}
-use Rattle.kw_world.specs.TakeTransitions.{to_take, left_of, take_reached, keeping}
+use Rattle.kw_world.specs.EngageTransitions.{again, refuse, to_rebalance, state_seen, engaged, followed_by, to_group, claiming, counted, undecided, link_marked, decided}
+use Rattle.kw_world.specs.ClaimTransitions.{to_mark_next, claimed}
+use Rattle.kw_world.specs.LeftTransitions.{to_leader, first_left, left_transition, link_left}
+use Rattle.kw_world.specs.FreezeTransitions.{row_frozen, to_freeze_look, marking, freeze_seen, entry_tried, to_scan_look, needing, scan_seen, scan_helped}
+use Rattle.kw_world.specs.TakeTransitions.{to_take, row_gathered, leaving_over, left_of, take_reached, keeping}
 use Rattle.kw_world.specs.SeekTransitions.{given_back, give_back, gave_back, at_infant, has_more, row_behind, to_seek, to_pass, seek_seen, pass_seen, seeking, seek_first_transition, with_row, take_row}
 use Rattle.kw_world.specs.WriteTransitions.{infant_cells, row_written, to_write_after, to_write_cell, to_write_entry}
-use Rattle.kw_world.specs.ReplaceTransitions.{at_before, first_before, guess_before, before_transition, row_before, link_before, row_replaced, replaced}
+use Rattle.kw_world.specs.ReplaceTransitions.{at_before, first_before, guess_before, before_transition, row_before, link_before, row_replaced, replaced, retired}
 use Rattle.kw_world.specs.Table.{transition}
 use Rattle.kw_world.specs.Step.{is_skipped, IsMade}
 use Rattle.kw_world.specs.declared.event.StepDone.TheVariants.{Moved, Ended}
@@ -204,7 +209,7 @@ state_goes : (state : Option State) (l : Local) → Goes l.number (state_seen st
 state_goes (Some Free) l = record { moved = refl; number = refl }
 state_goes (Some (Infant seat)) l = record { moved = refl; number = refl }
 state_goes (Some Normal) l = record { moved = refl; number = refl }
-state_goes (Some (Leader count)) l = either (is_alone count) (to (Activity.Rebalance (Rebalance.Engage (Engage.MarkLink count))) l) (again l) (record { moved = refl; number = refl }) (record { moved = refl; number = refl })
+state_goes (Some (Leader count)) l = record { moved = refl; number = refl }
 state_goes (Some (Follower leader)) l = record { moved = refl; number = refl }
 state_goes (Some (Retired number)) l = record { moved = refl; number = refl }
 state_goes None l = record { moved = refl; number = refl }
@@ -213,25 +218,62 @@ engaged_goes : (b : Bool) (l : Local) → Goes l.number (engaged b l)
 engaged_goes true l = record { moved = refl; number = refl }
 engaged_goes false l = record { moved = refl; number = refl }
 
-marked_goes : (count : ℕ) (after : Option ℕ) (l : Local) → Goes l.number (link_marked count after l)
-marked_goes count after l = either (count == 0) (to (Activity.Rebalance (Rebalance.Engage (Engage.Decide 1))) (followed_by after l)) (to (Activity.Rebalance (Rebalance.Freeze Freeze.Count)) (followed_by after l)) (record { moved = refl; number = refl }) (record { moved = refl; number = refl })
+claiming_goes : (after : Option ℕ) (l : Local) → Goes l.number (claiming after l)
+claiming_goes (Some r) l = record { moved = refl; number = refl }
+claiming_goes None l = record { moved = refl; number = refl }
 
-decided_goes : (state : Option State) (l : Local) → Goes l.number (decided state l)
-decided_goes (Some Free) l = record { moved = refl; number = refl }
-decided_goes (Some (Infant seat)) l = record { moved = refl; number = refl }
-decided_goes (Some Normal) l = record { moved = refl; number = refl }
-decided_goes (Some (Leader count)) l = either (is_alone count) (to (Activity.Rebalance (Rebalance.Freeze Freeze.Count)) l) (again l) (record { moved = refl; number = refl }) (record { moved = refl; number = refl })
-decided_goes (Some (Follower leader)) l = record { moved = refl; number = refl }
-decided_goes (Some (Retired number)) l = record { moved = refl; number = refl }
-decided_goes None l = record { moved = refl; number = refl }
+counted_goes : (count : ℕ) (l : Local) → Goes l.number (counted count l)
+counted_goes count l = either (count == MOST_GROUP) (claiming l.rebalance.after l) (to_group l) (claiming_goes l.rebalance.after l) (record { moved = refl; number = refl })
+
+undecided_goes : (after : Option ℕ) (l : Local) → Goes l.number (undecided after l)
+undecided_goes (Some r) l = record { moved = refl; number = refl }
+undecided_goes None l = record { moved = refl; number = refl }
+
+marked_goes : (count : ℕ) (after : Option ℕ) (l : Local) → Goes l.number (link_marked count after l)
+marked_goes count after l = either (count == 0) (undecided after (followed_by after l)) (counted count (followed_by after l)) (undecided_goes after (followed_by after l)) (counted_goes count (followed_by after l))
+
+decided_goes : (count : ℕ) (state : Option State) (l : Local) → Goes l.number (decided count state l)
+decided_goes count (Some Free) l = record { moved = refl; number = refl }
+decided_goes count (Some (Infant seat)) l = record { moved = refl; number = refl }
+decided_goes count (Some Normal) l = record { moved = refl; number = refl }
+decided_goes count (Some (Leader found)) l = counted_goes (if found == 0 then count else found) l
+decided_goes count (Some (Follower leader)) l = record { moved = refl; number = refl }
+decided_goes count (Some (Retired number)) l = record { moved = refl; number = refl }
+decided_goes count None l = record { moved = refl; number = refl }
+
+claimed_goes : (state : Option State) (l : Local) → Goes l.number (claimed state l)
+claimed_goes (Some Free) l = record { moved = refl; number = refl }
+claimed_goes (Some (Infant seat)) l = record { moved = refl; number = refl }
+claimed_goes (Some Normal) l = record { moved = refl; number = refl }
+claimed_goes (Some (Leader count)) l = record { moved = refl; number = refl }
+claimed_goes (Some (Follower leader)) l = either (leader == l.row) (to_mark_next l) (again l) (record { moved = refl; number = refl }) (record { moved = refl; number = refl })
+claimed_goes (Some (Retired number)) l = record { moved = refl; number = refl }
+claimed_goes None l = record { moved = refl; number = refl }
+
+first_left_goes : (r : ℕ) (l : Local) → Goes l.number (first_left r l)
+first_left_goes r l = either (r == l.row) (again l) (to (Activity.Rebalance (Rebalance.Left Left.Next)) (at_before (Some r) 0 l)) (record { moved = refl; number = refl }) (record { moved = refl; number = refl })
+
+left_start_goes : (choice : Choice) (l : Local) (rows told : ℕ) → Goes l.number ((left_transition choice l).next rows told)
+left_start_goes (Begin call) l rows told = first_left_goes (row_or_first (row_linked (link_of told))) l
+left_start_goes Go l rows told = first_left_goes (row_or_first (row_linked (link_of told))) l
+left_start_goes (Guess r) l rows told = record { moved = refl; number = refl }
+left_start_goes Stop l rows told = first_left_goes (row_or_first (row_linked (link_of told))) l
+
+link_left_goes : (r : Option ℕ) (l : Local) → Goes l.number (link_left r l)
+link_left_goes (Some r) l = either (r == l.row) (to_leader l) (to (Activity.Rebalance (Rebalance.Left Left.NextLeast)) (record l { candidate = r })) (record { moved = refl; number = refl }) (record { moved = refl; number = refl })
+link_left_goes None l = record { moved = refl; number = refl }
+
+row_frozen_goes : (ahead : Option ℕ) (l : Local) → Goes l.number (row_frozen ahead l)
+row_frozen_goes (Some r) l = record { moved = refl; number = refl }
+row_frozen_goes None l = record { moved = refl; number = refl }
 
 freeze_looks : (z : Sizes) (i : ℕ) (l : Local) → Goes l.number (to_freeze_look z i l)
-freeze_looks z i l = either (nat_lt i z.seats) (to (Activity.Rebalance (Rebalance.Freeze (Freeze.Look i))) l) (to_scans l) (record { moved = refl; number = refl }) (record { moved = refl; number = refl })
+freeze_looks z i l = either (nat_lt i z.seats) (to (Activity.Rebalance (Rebalance.Freeze (Freeze.Look i))) l) (row_frozen l.rebalance.ahead l) (record { moved = refl; number = refl }) (row_frozen_goes l.rebalance.ahead l)
 
 freeze_goes : (z : Sizes) (i : ℕ) (e : Option Pend) (l : Local) → Goes l.number (freeze_seen z i e l)
 freeze_goes z i (Some pend.Idle) l = record { moved = refl; number = refl }
 freeze_goes z i (Some (pend.Pending cell)) l = record { moved = refl; number = refl }
-freeze_goes z i (Some (pend.Stamped cell version)) l = freeze_looks z (i + 1) (marking cell version l)
+freeze_goes z i (Some (pend.Stamped cell version)) l = freeze_looks z (i + 1) (marking z cell version l)
 freeze_goes z i (Some pend.Frozen) l = freeze_looks z (i + 1) l
 freeze_goes z i None l = freeze_looks z (i + 1) l
 
@@ -259,9 +301,13 @@ helped_goes z i (Some (scan.Waiting clock)) l = scan_looks_then z (i + 1) (if cl
 helped_goes z i (Some (scan.Drawn version)) l = scan_looks_then z (i + 1) (needing version l) refl
 helped_goes z i None l = scan_looks_then z (i + 1) l refl
 
+row_gathered_goes : (z : Sizes) (ahead : Option ℕ) (l : Local) → Goes l.number (row_gathered z ahead l)
+row_gathered_goes z (Some r) l = record { moved = refl; number = refl }
+row_gathered_goes z None l = record { moved = refl; number = refl }
+
 left_goes : (z : Sizes) (m : Option Mark) (l : Local) → Goes l.number (left_of z m l)
-left_goes z (Some m) l = record { moved = refl; number = refl }
-left_goes z None l = record { moved = refl; number = refl }
+left_goes z (Some m) l = either (nat_lt m.cell (place_in_group z l.rebalance z.cells)) (to (Activity.Rebalance (Rebalance.Gather Gather.LeftOverKey)) (leaving_over z m l)) (row_gathered z l.rebalance.ahead l) (record { moved = refl; number = refl }) (row_gathered_goes z l.rebalance.ahead l)
+left_goes z None l = row_gathered_goes z l.rebalance.ahead l
 
 take_goes : (z : Sizes) (cell : Option ℕ) (l : Local) → Goes l.number (take_reached z cell l)
 take_goes z (Some cell) l = record { moved = refl; number = refl }
@@ -353,6 +399,10 @@ replaced_goes : (link : Option Link) (l : Local) → Goes l.number (replaced lin
 replaced_goes (Some link) l = row_replaced_goes link.row link.marked l
 replaced_goes None l = give_back_goes TryAgain l
 
+retired_goes : (ahead : Option ℕ) (l : Local) → Goes l.number (retired ahead l)
+retired_goes (Some r) l = record { moved = refl; number = refl }
+retired_goes None l = record { moved = refl; number = refl }
+
 -- the event is not the last of a call
 abbrev pub IsBeforeLast : Activity → Type 0
 IsBeforeLast (Activity.Leave answer) = ⊥
@@ -409,7 +459,12 @@ goes_on z (Activity.Rebalance (Rebalance.Engage Engage.State)) s choice l rows t
 goes_on z (Activity.Rebalance (Rebalance.Engage (Engage.Normal seat))) s choice l rows told e n = record { moved = refl; number = refl }
 goes_on z (Activity.Rebalance (Rebalance.Engage Engage.Lead)) s choice l rows told e n = engaged_goes (told == state_word Normal) l
 goes_on z (Activity.Rebalance (Rebalance.Engage (Engage.MarkLink count))) s choice l rows told e n = marked_goes count (row_linked (link_of told)) l
-goes_on z (Activity.Rebalance (Rebalance.Engage (Engage.Decide count))) s choice l rows told e n = decided_goes (state_of told) l
+goes_on z (Activity.Rebalance (Rebalance.Engage (Engage.Decide count))) s choice l rows told e n = decided_goes count (state_of told) l
+goes_on z (Activity.Rebalance (Rebalance.Claim Claim.Exchange)) s choice l rows told e n = claimed_goes (state_of told) l
+goes_on z (Activity.Rebalance (Rebalance.Claim _)) s choice l rows told e n = record { moved = refl; number = refl }
+goes_on z (Activity.Rebalance (Rebalance.Left Left.Start)) s choice l rows told e n = left_start_goes choice l rows told
+goes_on z (Activity.Rebalance (Rebalance.Left Left.Next)) s choice l rows told e n = link_left_goes (row_linked (link_of told)) l
+goes_on z (Activity.Rebalance (Rebalance.Left Left.NextLeast)) s choice l rows told e n = either (nat_lt (key_of_word told) l.lower) (to (Activity.Rebalance (Rebalance.Left Left.Next)) (at_before (Some l.candidate) (key_of_word told) l)) (again l) (record { moved = refl; number = refl }) (record { moved = refl; number = refl })
 goes_on z (Activity.Rebalance (Rebalance.Freeze Freeze.Count)) s choice l rows told e n = record { moved = refl; number = refl }
 goes_on z (Activity.Rebalance (Rebalance.Freeze (Freeze.Look i))) s choice l rows told e n = freeze_goes z i (pend_of told) l
 goes_on z (Activity.Rebalance (Rebalance.Freeze (Freeze.Entry i))) s choice l rows told e n = entry_goes z i (told == pend_word l.rebalance.entry) l
@@ -436,9 +491,9 @@ goes_on z (Activity.Rebalance (Rebalance.Replace Replace.First)) s choice l rows
 goes_on z (Activity.Rebalance (Rebalance.Replace Replace.Next)) s choice l rows told e n = link_before_goes (link_of told) l
 goes_on z (Activity.Rebalance (Rebalance.Replace Replace.NextLeast)) s choice l rows told e n = either (nat_lt (key_of_word told) l.lower) (to (Activity.Rebalance (Rebalance.Replace Replace.Next)) (at_before (Some l.candidate) (key_of_word told) l)) (give_back TryAgain l) (record { moved = refl; number = refl }) (give_back_goes TryAgain l)
 goes_on z (Activity.Rebalance (Rebalance.Replace Replace.Exchange)) s choice l rows told e n = replaced_goes (link_of told) l
-goes_on z (Activity.Rebalance (Rebalance.Replace Replace.Normalise)) s choice l rows told e n = either (has_more l) (to (Activity.Rebalance (Rebalance.Replace Replace.Normalise)) (at_infant (l.rebalance.at + 1) l)) (to (Activity.Rebalance (Rebalance.Replace Replace.Number)) l) (record { moved = refl; number = refl }) (record { moved = refl; number = refl })
+goes_on z (Activity.Rebalance (Rebalance.Replace Replace.Normalise)) s choice l rows told e n = either (has_more l) (to (Activity.Rebalance (Rebalance.Replace Replace.Normalise)) (at_infant (l.rebalance.at + 1) l)) (to (Activity.Rebalance (Rebalance.Replace Replace.Number)) (at_first_row l)) (record { moved = refl; number = refl }) (record { moved = refl; number = refl })
 goes_on z (Activity.Rebalance (Rebalance.Replace Replace.Number)) s choice l rows told e n = record { moved = refl; number = refl }
-goes_on z (Activity.Rebalance (Rebalance.Replace Replace.Retire)) s choice l rows told e n = record { moved = refl; number = refl }
+goes_on z (Activity.Rebalance (Rebalance.Replace Replace.Retire)) s choice l rows told e n = retired_goes l.rebalance.ahead l
 
 -- so an event that ends a call with this reply is one of a seat that was about to leave with an
 -- answer that makes it

@@ -23,7 +23,7 @@ use Rattle.kw_world.specs.WorldView.{WorldView}
 use Rattle.kw_world.specs.Local.{resting, no_rebalance}
 use Rattle.kw_world.specs.declared.activity.Activity.{Activity}
 use Rattle.kw_world.specs.Opening.{IsOpening, opened, opening_word, link_to}
-use Rattle.kw_world.specs.Sane.{IsSane, IsKnown, IsWord, IsLed, IsHead, IsStateBelow, IsLinkBelow, IsRowState, IsKnownWord, IsGiven, IsEntry, IsPair, IsMark, IsCopy, IsPlaced, IsVersion, IsRebalance, IsRebalanceBelow, HasRebalanceRoom, IsTakingRows}
+use Rattle.kw_world.specs.Sane.{IsSane, IsKnown, IsWord, IsLed, IsHead, IsStateBelow, IsLinkBelow, IsRowState, IsKnownWord, IsGiven, IsEntry, IsPair, IsMark, IsGroupMark, IsCopy, IsPlaced, IsVersion, IsRebalance, IsRebalanceBelow, HasRebalanceRoom, IsTakingRows}
 use Rattle.kw_world.specs.Step.{word}
 use Rattle.kw_world.proofs.Begins.{opened-word, length-opened}
 use Rattle.kw_world.proofs.Lists.{get-set_same, get-set_other}
@@ -32,7 +32,7 @@ use Rattle.kw_world.proofs.Lists.{get-set_same, get-set_other}
 pub none_ranges : (z : Sizes) → IsRebalance z no_rebalance
 none_ranges z = record {
   entry = tt;
-  marks = All-nil (IsMark z);
+  marks = All-nil (IsGroupMark z);
   waiting = (omega arith, omega arith);
   drawn = (omega arith, omega arith);
   needed = All-nil IsVersion;
@@ -41,13 +41,15 @@ none_ranges z = record {
   kept = All-nil IsCopy;
   places = All-nil (IsPlaced z);
   few = omega arith;
+  fits = λ n o. omega arith;
+  taken = omega arith;
   at = omega arith;
   least = omega arith;
   number = (omega arith, omega arith);
 }
 
 pub none_below : (rows : ℕ) → 0 < rows → IsRebalanceBelow rows no_rebalance
-none_below rows some = record { after = tt; taken = All-nil (λ r. r < rows); sought = some; asked = omega arith; before = tt }
+none_below rows some = record { after = tt; second = tt; hand = some; ahead = tt; taken = All-nil (λ r. r < rows); sought = some; asked = omega arith; before = tt }
 
 -- and its lists have room, where the seat does not seek rows
 pub none_room : (z : Sizes) (a : Activity) → (IsTakingRows a → ⊥) → HasRebalanceRoom z a no_rebalance

@@ -8,10 +8,12 @@ use Rattle.kw_words.specs.Layout.{IsWithin}
 use Rattle.kw_words.specs.Count.{count_of}
 use Rattle.kw_world.specs.declared.activity.Activity.{Activity}
 use Rattle.kw_world.specs.declared.activity.draw.Draw.TheVariants as Draw
+use Rattle.kw_world.specs.declared.activity.rebalance.claim.Claim.TheVariants as Claim
 use Rattle.kw_world.specs.declared.activity.rebalance.engage.Engage.TheVariants as Engage
 use Rattle.kw_world.specs.declared.activity.enter.Enter.TheVariants as Enter
 use Rattle.kw_world.specs.declared.activity.rebalance.freeze.Freeze.TheVariants as Freeze
 use Rattle.kw_world.specs.declared.activity.rebalance.gather.Gather.TheVariants as Gather
+use Rattle.kw_world.specs.declared.activity.rebalance.left.Left.TheVariants as Left
 use Rattle.kw_world.specs.declared.activity.insert.Insert.TheVariants as Insert
 use Rattle.kw_world.specs.declared.activity.look.Look.TheVariants as Look
 use Rattle.kw_world.specs.declared.activity.put.Put.TheVariants as Put
@@ -32,6 +34,7 @@ use Rattle.kw_world.specs.declared.operation.Action.TheVariants.{Load}
 use Rattle.kw_world.specs.WalkTransitions.{offered, start_transition, walk_transition, is_stopped}
 use Rattle.kw_world.specs.Parts.{part_of, part_at}
 use Rattle.kw_world.specs.SeekTransitions.{seek_first_transition}
+use Rattle.kw_world.specs.LeftTransitions.{left_transition}
 use Rattle.kw_world.specs.ReplaceTransitions.{before_transition, replaced_link}
 use Rattle.kw_world.specs.Table.{transition}
 use Rattle.kw_world.specs.Transition.{Outcome, row_or_first}
@@ -169,14 +172,25 @@ within z (Activity.Enter Enter.LoadEpoch) rows s choice l i b t o g = tt
 within z (Activity.Rebalance (Rebalance.Engage Engage.Clock)) rows s choice l i b t o g = tt
 within z (Activity.Rebalance (Rebalance.Engage Engage.Epoch)) rows s choice l i b t o g = tt
 within z (Activity.Rebalance (Rebalance.Engage _)) rows s choice l i b t o g = b.row
-within z (Activity.Rebalance (Rebalance.Freeze Freeze.Count)) rows s choice l i b t o g = b.row
-within z (Activity.Rebalance (Rebalance.Freeze (Freeze.Look k))) rows s choice l i b t o g = (b.row, o)
-within z (Activity.Rebalance (Rebalance.Freeze (Freeze.Entry k))) rows s choice l i b t o g = (b.row, o)
+within z (Activity.Rebalance (Rebalance.Claim Claim.Count)) rows s choice l i b t o g = row_within rows l.rebalance.after (first_row rows l b) b.rebalance.after
+within z (Activity.Rebalance (Rebalance.Claim _)) rows s choice l i b t o g = row_within rows l.rebalance.after (first_row rows l b) b.rebalance.after
+within z (Activity.Rebalance (Rebalance.Left Left.Start)) rows s choice l i b t o g = begins choice
+  where
+    begins : (c : Choice) → IsWithin z.seats z.cells rows (left_transition c l).operation.name
+    begins (Begin call) = tt
+    begins Go = tt
+    begins (Guess r) = row_within rows l.rebalance.before (first_row rows l b) b.rebalance.before
+    begins Stop = tt
+within z (Activity.Rebalance (Rebalance.Left Left.Next)) rows s choice l i b t o g = row_within rows l.rebalance.before (first_row rows l b) b.rebalance.before
+within z (Activity.Rebalance (Rebalance.Left Left.NextLeast)) rows s choice l i b t o g = b.candidate
+within z (Activity.Rebalance (Rebalance.Freeze Freeze.Count)) rows s choice l i b t o g = b.rebalance.hand
+within z (Activity.Rebalance (Rebalance.Freeze (Freeze.Look k))) rows s choice l i b t o g = (b.rebalance.hand, o)
+within z (Activity.Rebalance (Rebalance.Freeze (Freeze.Entry k))) rows s choice l i b t o g = (b.rebalance.hand, o)
 within z (Activity.Rebalance (Rebalance.Freeze (Freeze.Scan k))) rows s choice l i b t o g = o
 within z (Activity.Rebalance (Rebalance.Freeze (Freeze.Draw k))) rows s choice l i b t o g = tt
 within z (Activity.Rebalance (Rebalance.Freeze (Freeze.Settle k))) rows s choice l i b t o g = o
-within z (Activity.Rebalance (Rebalance.Gather Gather.Link)) rows s choice l i b t o g = link_within z rows l.row l.link i.link b.row
-within z (Activity.Rebalance (Rebalance.Gather _)) rows s choice l i b t o g = (b.row, i.place)
+within z (Activity.Rebalance (Rebalance.Gather Gather.Link)) rows s choice l i b t o g = link_within z rows l.rebalance.hand l.link i.link b.rebalance.hand
+within z (Activity.Rebalance (Rebalance.Gather _)) rows s choice l i b t o g = (b.rebalance.hand, i.place)
 within z (Activity.Rebalance (Rebalance.Seek Seek.First)) rows s choice l i b t o g = seeks choice g
   where
     seeks : (c : Choice) → IsOffered rows c → IsWithin z.seats z.cells rows (seek_first_transition c l).operation.name
@@ -208,7 +222,7 @@ within z (Activity.Rebalance (Rebalance.Replace Replace.NextLeast)) rows s choic
 within z (Activity.Rebalance (Rebalance.Replace Replace.Exchange)) rows s choice l i b t o g = replaced_within z rows l.rebalance.before b.rebalance.before
 within z (Activity.Rebalance (Rebalance.Replace Replace.Normalise)) rows s choice l i b t o g = taken_within rows l.rebalance.taken l.rebalance.at (first_row rows l b) b.rebalance.taken
 within z (Activity.Rebalance (Rebalance.Replace Replace.Number)) rows s choice l i b t o g = tt
-within z (Activity.Rebalance (Rebalance.Replace Replace.Retire)) rows s choice l i b t o g = b.row
+within z (Activity.Rebalance (Rebalance.Replace Replace.Retire)) rows s choice l i b t o g = b.rebalance.hand
 
 -- a count in range lets one more be added
 added : (w : ℕ) (c : Option Counted) → count_of w ≡ c → IsGiven c → w + 1 < 2 ^ 64
@@ -236,6 +250,14 @@ can_happen z (Activity.Rebalance (Rebalance.Replace Replace.Start)) s choice l w
     begins Go = tt
     begins (Guess r) = tt
     begins Stop = tt
+can_happen z (Activity.Rebalance (Rebalance.Left Left.Start)) s choice l w o = begins choice
+  where
+    begins : (c : Choice) → CanHappen (left_transition c l).operation.action w
+    begins (Begin call) = tt
+    begins Go = tt
+    begins (Guess r) = tt
+    begins Stop = tt
+can_happen z (Activity.Rebalance (Rebalance.Claim Claim.Count)) s choice l w o = tt
 can_happen z (Activity.Walk Walk.Start) s choice l w o = starts choice
   where
     starts : (c : Choice) → CanHappen (start_transition c l).operation.action w
@@ -273,6 +295,8 @@ next_of-seat z (Activity.Read Read.Link) s t choice l = refl
 next_of-seat z (Activity.Put Put.Count) s t choice l = refl
 next_of-seat z (Activity.Insert Insert.Link) s t choice l = refl
 next_of-seat z (Activity.Rebalance (Rebalance.Engage Engage.Clock)) s t choice l = refl
+next_of-seat z (Activity.Rebalance (Rebalance.Claim Claim.Count)) s t choice l = refl
+next_of-seat z (Activity.Rebalance (Rebalance.Left Left.Start)) s t choice l = refl
 next_of-seat z (Activity.Rebalance (Rebalance.Freeze Freeze.Count)) s t choice l = refl
 next_of-seat z (Activity.Rebalance (Rebalance.Gather Gather.Link)) s t choice l = refl
 next_of-seat z (Activity.Rebalance (Rebalance.Seek Seek.Next)) s t choice l = refl
@@ -320,6 +344,17 @@ store_blind z Activity.Retry s choice l v w h rows = refl
 store_blind z (Activity.Enter Enter.LoadEpoch) s choice l v w h rows = absurd h
 store_blind z (Activity.Rebalance (Rebalance.Engage Engage.Clock)) s choice l v w h rows = absurd h
 store_blind z (Activity.Rebalance (Rebalance.Engage _)) s choice l v w h rows = absurd h
+store_blind z (Activity.Rebalance (Rebalance.Claim Claim.Count)) s choice l v w h rows = absurd h
+store_blind z (Activity.Rebalance (Rebalance.Claim _)) s choice l v w h rows = absurd h
+store_blind z (Activity.Rebalance (Rebalance.Left Left.Start)) s choice l v w h rows = absurd (begins choice h)
+  where
+    begins : (c : Choice) → IsStore (left_transition c l).operation.action → ⊥
+    begins (Begin call) h = h
+    begins Go h = h
+    begins (Guess r) h = h
+    begins Stop h = h
+store_blind z (Activity.Rebalance (Rebalance.Left Left.Next)) s choice l v w h rows = absurd h
+store_blind z (Activity.Rebalance (Rebalance.Left Left.NextLeast)) s choice l v w h rows = absurd h
 store_blind z (Activity.Rebalance (Rebalance.Freeze Freeze.Count)) s choice l v w h rows = absurd h
 store_blind z (Activity.Rebalance (Rebalance.Freeze _)) s choice l v w h rows = absurd h
 store_blind z (Activity.Rebalance (Rebalance.Gather Gather.Link)) s choice l v w h rows = absurd h

@@ -1,18 +1,20 @@
 -- What follows from the events by which a rebalance begins: a full row gets a leader, its link is
--- marked, and how many rows the rebalance replaces is decided. That is one, always, as long as no
--- row is taken along; a row that somebody decided to replace together with another is left to
--- others.
-use Rattle.std.specs.Prelude.{ℕ, Bool, true, false, nat_le, ◌==◌, if◌then◌else◌, Option, Some, None}
-use Rattle.kw_words.specs.declared.sizes.TheConstants.{SPENT}
+-- marked, and how many rows the rebalance replaces is decided: the full row alone, or the row after
+-- it too. A row that follows another one is left to its leader.
+use Rattle.std.specs.Prelude.{ℕ, Bool, true, false, nat_le, ◌==◌, if◌then◌else◌, Option, Some, None, []}
+use Rattle.kw_words.specs.declared.sizes.TheConstants.{MOST_GROUP, SPENT}
 use Rattle.kw_words.specs.declared.state.State.{State}
 use Rattle.kw_words.specs.declared.state.State.TheVariants.{Free, Infant, Normal, Leader, Follower, Retired}
 use Rattle.kw_world.specs.declared.answer.Answer.{Answer}
 use Rattle.kw_world.specs.declared.activity.Activity.{Activity}
 use Rattle.kw_world.specs.declared.answer.Answer.TheVariants.{Done, Spent}
+use Rattle.kw_world.specs.declared.activity.rebalance.claim.Claim.TheVariants as Claim
 use Rattle.kw_world.specs.declared.activity.rebalance.engage.Engage.TheVariants as Engage
 use Rattle.kw_world.specs.declared.activity.rebalance.freeze.Freeze.TheVariants as Freeze
+use Rattle.kw_world.specs.declared.activity.rebalance.left.Left.TheVariants as Left
 use Rattle.kw_world.specs.declared.activity.rebalance.Rebalance.TheVariants as Rebalance
 use Rattle.kw_world.specs.declared.local.Local.{Local}
+use Rattle.kw_world.specs.GroupPlaces.{at_first_row}
 use Rattle.kw_world.specs.Local.{without_rows, without_rebalance}
 use Rattle.kw_world.specs.Transition.{Outcome, to, leave}
 
@@ -45,18 +47,18 @@ balance_clock clock l = if nat_le SPENT clock then refuse Spent l else to (Activ
 abbrev pub balance_epoch : ℕ → Local → Outcome
 balance_epoch epoch l = if nat_le SPENT epoch then refuse Spent l else to (Activity.Rebalance (Rebalance.Engage Engage.State)) l
 
--- the row is led alone, or that is not decided
-abbrev pub is_alone : ℕ → Bool
-is_alone count = nat_le count 1
+-- the leader that a follower's state names is known
+abbrev pub led_by : ℕ → Local → Local
+led_by leader l = record l { rebalance = record l.rebalance { before = Some leader } }
 
--- Engage::State: a normal row is engaged, a leader of one row is helped, and what its seat has
--- built is made normal first
+-- Engage::State: a normal row is engaged, a leader is helped, a follower is left to its leader, and
+-- what its seat has built is made normal first
 abbrev pub state_seen : Option State → Local → Outcome
 state_seen (Some Free) l = again l
 state_seen (Some (Infant seat)) l = to (Activity.Rebalance (Rebalance.Engage (Engage.Normal seat))) l
 state_seen (Some Normal) l = to (Activity.Rebalance (Rebalance.Engage Engage.Lead)) l
-state_seen (Some (Leader count)) l = if is_alone count then to (Activity.Rebalance (Rebalance.Engage (Engage.MarkLink count))) l else again l
-state_seen (Some (Follower leader)) l = again l
+state_seen (Some (Leader count)) l = to (Activity.Rebalance (Rebalance.Engage (Engage.MarkLink count))) l
+state_seen (Some (Follower leader)) l = to (Activity.Rebalance (Rebalance.Left Left.Start)) (led_by leader l)
 state_seen (Some (Retired number)) l = again l
 state_seen None l = again l
 
@@ -69,18 +71,35 @@ engaged false l = to (Activity.Rebalance (Rebalance.Engage Engage.State)) l
 abbrev pub followed_by : Option ℕ → Local → Local
 followed_by after l = record l { rebalance = record l.rebalance { after = after } }
 
--- Engage::MarkLink: the link does not change any more. It is decided that one row is replaced,
--- unless it was decided before: then it is frozen
-abbrev pub link_marked : ℕ → Option ℕ → Local → Outcome
-link_marked count after l = if count == 0 then to (Activity.Rebalance (Rebalance.Engage (Engage.Decide 1))) (followed_by after l) else to (Activity.Rebalance (Rebalance.Freeze Freeze.Count)) (followed_by after l)
+-- the rows of the group are known: they are frozen, the first one first, and no cell is remembered
+abbrev pub to_group : Local → Outcome
+to_group l = to (Activity.Rebalance (Rebalance.Freeze Freeze.Count)) (at_first_row (record l { rebalance = record l.rebalance { marks = [] } }))
 
--- Decide: the exchange was made, or somebody else decided the same, and the row is frozen; in any
--- other state it is not this seat's any more
-abbrev pub decided : Option State → Local → Outcome
-decided (Some Free) l = again l
-decided (Some (Infant seat)) l = again l
-decided (Some Normal) l = again l
-decided (Some (Leader count)) l = if is_alone count then to (Activity.Rebalance (Rebalance.Freeze Freeze.Count)) l else again l
-decided (Some (Follower leader)) l = again l
-decided (Some (Retired number)) l = again l
-decided None l = again l
+-- the row after the full one, if there is one, is to go along
+abbrev pub claiming : Option ℕ → Local → Outcome
+claiming (Some r) l = to (Activity.Rebalance (Rebalance.Claim Claim.Exchange)) l
+claiming None l = to_group l
+
+-- it is decided how many rows the group has
+abbrev pub counted : ℕ → Local → Outcome
+counted count l = if count == MOST_GROUP then claiming l.rebalance.after l else to_group l
+
+-- it is not decided: a full row that is the last one goes alone, and else the row after it is asked
+abbrev pub undecided : Option ℕ → Local → Outcome
+undecided (Some r) l = to (Activity.Rebalance (Rebalance.Claim Claim.Count)) l
+undecided None l = to (Activity.Rebalance (Rebalance.Engage (Engage.Decide 1))) l
+
+-- Engage::MarkLink: the link does not change any more
+abbrev pub link_marked : ℕ → Option ℕ → Local → Outcome
+link_marked count after l = if count == 0 then undecided after (followed_by after l) else counted count (followed_by after l)
+
+-- Decide: the exchange was made, or somebody else has decided, whose count holds; in any other
+-- state the row is not this seat's any more
+abbrev pub decided : ℕ → Option State → Local → Outcome
+decided count (Some Free) l = again l
+decided count (Some (Infant seat)) l = again l
+decided count (Some Normal) l = again l
+decided count (Some (Leader found)) l = counted (if found == 0 then count else found) l
+decided count (Some (Follower leader)) l = again l
+decided count (Some (Retired number)) l = again l
+decided count None l = again l

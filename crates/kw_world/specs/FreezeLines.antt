@@ -1,4 +1,4 @@
--- The lines by which the full row is frozen and the scans are looked at.
+-- The lines by which the rows of the group are frozen and the scans are looked at.
 use Rattle.std.specs.Prelude.{ℕ, ◌==◌}
 use Rattle.kw_words.specs.declared.layout.Name.TheVariants.{Clock, Scan, Count, Pend}
 use Rattle.kw_words.specs.declared.kind.Kind.TheVariants as kind
@@ -19,9 +19,9 @@ use Rattle.kw_world.specs.declared.activity.rebalance.freeze.Freeze.{Freeze}
 
 -- the lines of freezing
 abbrev pub freeze_lines : Sizes → Freeze → ℕ → Choice → Local → Transition
-freeze_lines z Freeze.Count s choice l = at kind.FreezeCount (Count l.row) (Or FROZEN_BIT) (λ _. count_frozen l)
-freeze_lines z (Freeze.Look i) s choice l = at kind.LoadPend (Pend l.row i) Load (λ w. freeze_seen z i (pend_of w) l)
-freeze_lines z (Freeze.Entry i) s choice l = at kind.FreezePend (Pend l.row i) (Exchange (pend_word l.rebalance.entry) (pend_word pend.Frozen)) (λ w. entry_tried z i (w == pend_word l.rebalance.entry) l)
+freeze_lines z Freeze.Count s choice l = at kind.FreezeCount (Count l.rebalance.hand) (Or FROZEN_BIT) (λ _. count_frozen l)
+freeze_lines z (Freeze.Look i) s choice l = at kind.LoadPend (Pend l.rebalance.hand i) Load (λ w. freeze_seen z i (pend_of w) l)
+freeze_lines z (Freeze.Entry i) s choice l = at kind.FreezePend (Pend l.rebalance.hand i) (Exchange (pend_word l.rebalance.entry) (pend_word pend.Frozen)) (λ w. entry_tried z i (w == pend_word l.rebalance.entry) l)
 freeze_lines z (Freeze.Scan i) s choice l = at kind.LoadScan (Scan i) Load (λ w. scan_seen z i (scan_of w) l)
 freeze_lines z (Freeze.Draw i) s choice l = at kind.HelpDraw Clock (Add 1) (λ v. to (Activity.Rebalance (Rebalance.Freeze (Freeze.Settle i))) (record l { rebalance = record l.rebalance { drawn = v } }))
 freeze_lines z (Freeze.Settle i) s choice l = at kind.HelpSettle (Scan i) (Exchange (scan_word (Waiting l.rebalance.waiting)) (scan_word (Drawn l.rebalance.drawn))) (λ w. scan_helped z i (scan_of w) l)

@@ -1,5 +1,5 @@
--- What follows from the events that freeze the full row, and from those that ask which versions
--- scans may still ask for.
+-- What follows from the events that freeze the rows of the group, one after the other, and from
+-- those that ask which versions scans may still ask for.
 --
 -- A frozen row gives no cell, and no put of it gets a version any more: each entry is frozen, or is
 -- stamped and remembered. A scan that waits is helped to a version, so that every scan has one that
@@ -14,25 +14,31 @@ use Rattle.kw_world.specs.declared.activity.rebalance.freeze.Freeze.TheVariants 
 use Rattle.kw_world.specs.declared.activity.rebalance.Rebalance.TheVariants as Rebalance
 use Rattle.kw_world.specs.declared.local.Local.{Local}
 use Rattle.kw_world.specs.Sizes.{Sizes}
+use Rattle.kw_world.specs.GroupPlaces.{at_last_row, place_in_group}
 use Rattle.kw_world.specs.Marks.{mark_of}
 use Rattle.kw_world.specs.Transition.{Outcome, to}
 use Rattle.kw_world.specs.TakeTransitions.{to_take}
 
--- Freeze::Count: the entries are looked at, and no cell is remembered
+-- Freeze::Count: the entries are looked at
 abbrev pub count_frozen : Local → Outcome
-count_frozen l = to (Activity.Rebalance (Rebalance.Freeze (Freeze.Look 0))) (record l { rebalance = record l.rebalance { marks = [] } })
+count_frozen l = to (Activity.Rebalance (Rebalance.Freeze (Freeze.Look 0))) l
 
 -- no version is needed as yet
 abbrev pub to_scans : Local → Outcome
 to_scans l = to (Activity.Rebalance (Rebalance.Freeze (Freeze.Scan 0))) (record l { rebalance = record l.rebalance { needed = [] } })
 
--- Freeze::Look(i): the entry of seat i; once all entries are frozen, the scans
-abbrev pub to_freeze_look : Sizes → ℕ → Local → Outcome
-to_freeze_look z i l = if nat_lt i z.seats then to (Activity.Rebalance (Rebalance.Freeze (Freeze.Look i))) l else to_scans l
+-- the row at hand is frozen: the next row of the group is, and after the last one come the scans
+abbrev pub row_frozen : Option ℕ → Local → Outcome
+row_frozen (Some r) l = to (Activity.Rebalance (Rebalance.Freeze Freeze.Count)) (at_last_row r l)
+row_frozen None l = to_scans l
 
--- the cell is remembered with this version
-abbrev pub marking : ℕ → ℕ → Local → Local
-marking cell version l = record l { rebalance = record l.rebalance { marks = l.rebalance.marks ++ mark_of cell version ∷ [] } }
+-- Freeze::Look(i): the entry of seat i; once all entries are frozen, the row is
+abbrev pub to_freeze_look : Sizes → ℕ → Local → Outcome
+to_freeze_look z i l = if nat_lt i z.seats then to (Activity.Rebalance (Rebalance.Freeze (Freeze.Look i))) l else row_frozen l.rebalance.ahead l
+
+-- the cell of the row at hand is remembered with this version, by its place in the group
+abbrev pub marking : Sizes → ℕ → ℕ → Local → Local
+marking z cell version l = record l { rebalance = record l.rebalance { marks = l.rebalance.marks ++ mark_of (place_in_group z l.rebalance cell) version ∷ [] } }
 
 -- the entry is about to be frozen
 abbrev pub freezing : ℕ → Pend → Local → Outcome
@@ -43,7 +49,7 @@ freezing i entry l = to (Activity.Rebalance (Rebalance.Freeze (Freeze.Entry i)))
 abbrev pub freeze_seen : Sizes → ℕ → Option Pend → Local → Outcome
 freeze_seen z i (Some Idle) l = freezing i Idle l
 freeze_seen z i (Some (Pending cell)) l = freezing i (Pending cell) l
-freeze_seen z i (Some (Stamped cell version)) l = to_freeze_look z (i + 1) (marking cell version l)
+freeze_seen z i (Some (Stamped cell version)) l = to_freeze_look z (i + 1) (marking z cell version l)
 freeze_seen z i (Some Frozen) l = to_freeze_look z (i + 1) l
 freeze_seen z i None l = to_freeze_look z (i + 1) l
 
@@ -52,7 +58,7 @@ abbrev pub entry_tried : Sizes → ℕ → Bool → Local → Outcome
 entry_tried z i true l = to_freeze_look z (i + 1) l
 entry_tried z i false l = to (Activity.Rebalance (Rebalance.Freeze (Freeze.Look i))) l
 
--- Freeze::Scan(i): the scan of seat i; once all scans are looked at, the cells of the row
+-- Freeze::Scan(i): the scan of seat i; once all scans are looked at, the cells of the rows
 abbrev pub to_scan_look : Sizes → ℕ → Local → Outcome
 to_scan_look z i l = if nat_lt i z.seats then to (Activity.Rebalance (Rebalance.Freeze (Freeze.Scan i))) l else to_take l
 

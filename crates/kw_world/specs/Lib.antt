@@ -7,6 +7,7 @@ pub mod Local
 pub mod WorldView
 pub mod Lending
 pub mod Transition
+pub mod GroupPlaces
 pub mod PutTransitions
 pub mod ListTransitions
 pub mod ReadTransitions
@@ -19,6 +20,8 @@ pub mod Opening
 pub mod Sane
 pub mod RowEnd
 pub mod EngageTransitions
+pub mod ClaimTransitions
+pub mod LeftTransitions
 pub mod FreezeTransitions
 pub mod TakeTransitions
 pub mod SeekTransitions

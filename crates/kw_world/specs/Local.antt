@@ -10,6 +10,9 @@ use Rattle.kw_world.specs.declared.rebalance.Afterwards.TheVariants.{TryAgain}
 abbrev pub no_rebalance : Rebalancing
 no_rebalance = record {
   after = None;
+  second = None;
+  hand = 0;
+  ahead = None;
   entry = pend.Idle;
   marks = [];
   waiting = 1;

@@ -24,6 +24,8 @@ pub record IsOpening (z : Sizes) (o : Opening) : Type 0 where
   pub epoch : o.epoch ≤ SPENT
   -- a row that is built has room for more cells of one key than scans may need at once
   pub built : z.seats < z.built
+  -- and it has no more than a row
+  pub fits : z.built ≤ z.cells
 
 -- an unmarked link to a row
 abbrev pub link_to : ℕ → Link

@@ -1,5 +1,5 @@
 -- What follows from the events that find the row before the full one, link the new rows in place of
--- the full row, and retire it.
+-- the full row, and retire the rows of the group.
 --
 -- The walk to the row before goes from the first row, or from a guessed one, and ends at the link
 -- to the full row. Where it sees a row whose least key is not below that of the full row, or no
@@ -21,6 +21,8 @@ use Rattle.kw_world.specs.declared.rebalance.Afterwards.TheVariants.{TryAgain, M
 use Rattle.kw_world.specs.declared.event.Choice.{Choice}
 use Rattle.kw_world.specs.declared.event.Choice.TheVariants.{Begin, Go, Guess, Stop}
 use Rattle.kw_world.specs.declared.operation.Action.TheVariants.{Load}
+use Rattle.kw_world.specs.EngageTransitions.{again}
+use Rattle.kw_world.specs.GroupPlaces.{at_first_row, at_last_row}
 use Rattle.kw_world.specs.SeekTransitions.{give_back, at_infant, has_more}
 use Rattle.kw_world.specs.Transition.{Transition, Outcome, at, to, row_linked, row_or_first}
 
@@ -99,6 +101,13 @@ abbrev pub replaced : Option Link → Local → Outcome
 replaced (Some link) l = row_replaced link.row link.marked l
 replaced None l = give_back TryAgain l
 
--- Normalise: the next of the new rows, and after all of them the number of the full row
+-- Normalise: the next of the new rows, and after all of them the number of the first row of the
+-- group
 abbrev pub normalised : Local → Outcome
-normalised l = if has_more l then to (Activity.Rebalance (Rebalance.Replace Replace.Normalise)) (at_infant (l.rebalance.at + 1) l) else to (Activity.Rebalance (Rebalance.Replace Replace.Number)) l
+normalised l = if has_more l then to (Activity.Rebalance (Rebalance.Replace Replace.Normalise)) (at_infant (l.rebalance.at + 1) l) else to (Activity.Rebalance (Rebalance.Replace Replace.Number)) (at_first_row l)
+
+-- Retire: the row at hand is retired; the next row of the group gets a number, and after the last
+-- one the rebalance is over
+abbrev pub retired : Option ℕ → Local → Outcome
+retired (Some r) l = to (Activity.Rebalance (Rebalance.Replace Replace.Number)) (at_last_row r l)
+retired None l = again l

@@ -1,5 +1,5 @@
 -- Sane worlds: all that a world holds is in range, so that every event of it is safe.
-use Rattle.std.specs.Prelude.{ℕ, ◌≡◌, ◌⊎◌, ◌+◌, ◌<◌, ◌≤◌, false, Option, Some, None, length, All, slice_get}
+use Rattle.std.specs.Prelude.{ℕ, ◌≡◌, ◌⊎◌, if◌then◌else◌, ◌+◌, ◌-◌, ◌*◌, ◌<◌, ◌≤◌, false, Option, Some, None, length, All, slice_get}
 use Rattle.kw_words.specs.declared.layout.Name.{Name}
 use Rattle.kw_words.specs.declared.layout.Name.TheVariants as name
 use Rattle.kw_words.specs.declared.pend.Pend.{Pend}
@@ -22,6 +22,7 @@ use Rattle.kw_model.specs.declared.call.Call.TheVariants.{Put, Del, Get, Scan}
 use Rattle.kw_world.specs.declared.answer.Answer.{Answer}
 use Rattle.kw_world.specs.declared.answer.Answer.TheVariants.{Value}
 use Rattle.kw_world.specs.declared.activity.Activity.{Activity}
+use Rattle.kw_world.specs.declared.activity.rebalance.claim.Claim.TheVariants as Claim
 use Rattle.kw_world.specs.declared.activity.rebalance.engage.Engage.TheVariants as Engage
 use Rattle.kw_world.specs.declared.activity.rebalance.freeze.Freeze.TheVariants as Freeze
 use Rattle.kw_world.specs.declared.activity.look.Look.TheVariants as Look
@@ -37,11 +38,13 @@ use Rattle.kw_world.specs.declared.event.Choice.TheVariants.{Begin, Go, Guess, S
 use Rattle.kw_world.specs.declared.operation.Action.{Action}
 use Rattle.kw_world.specs.declared.operation.Action.TheVariants.{Load, Store, Add, Or, Exchange}
 use Rattle.kw_world.specs.declared.limits.TheConstants.{GIVEN_END, MOST_CALLS}
+use Rattle.kw_world.specs.GroupPlaces.{is_second}
 use Rattle.kw_world.specs.Sizes.{Sizes}
 use Rattle.kw_world.specs.WorldView.{WorldView}
 use Rattle.kw_world.specs.declared.part.Part.{Part}
 use Rattle.kw_world.specs.Parts.{part_of}
 use Rattle.kw_world.specs.Step.{word}
+use Rattle.kw_world.specs.WriteTransitions.{new_row_cells}
 
 -- The words.
 
@@ -164,6 +167,7 @@ IsActivity z (Activity.Leave answer) = IsAnswer answer
 IsActivity z (Activity.Rebalance (Rebalance.Engage (Engage.Normal seat))) = seat < z.seats
 IsActivity z (Activity.Rebalance (Rebalance.Engage (Engage.MarkLink count))) = count ≤ MOST_GROUP
 IsActivity z (Activity.Rebalance (Rebalance.Engage (Engage.Decide count))) = count ≤ MOST_GROUP
+IsActivity z (Activity.Rebalance (Rebalance.Claim (Claim.Normal seat))) = seat < z.seats
 IsActivity z (Activity.Rebalance (Rebalance.Freeze (Freeze.Look i))) = i < z.seats
 IsActivity z (Activity.Rebalance (Rebalance.Freeze (Freeze.Entry i))) = i < z.seats
 IsActivity z (Activity.Rebalance (Rebalance.Freeze (Freeze.Scan i))) = i < z.seats
@@ -186,18 +190,22 @@ IsCellBelow cells None = Unit {0}
 abbrev pub IsMark : Sizes → Mark → Type 0
 IsMark z m = (m.cell < z.cells) × IsVersion m.version
 
+-- a remembered cell of a group has a place there, and its version is in range
+abbrev pub IsGroupMark : Sizes → Mark → Type 0
+IsGroupMark z m = (m.cell < MOST_GROUP * z.cells) × IsVersion m.version
+
 -- a gathered cell's key, version and value are in range
 abbrev pub IsCopy : kw_cell.Cell → Type 0
 IsCopy c = (c.key < KEY_END) × IsVersion c.version × IsValue c.value
 
--- a gathered cell stood in its row at a place that a row has
+-- a gathered cell has a place that a group has
 abbrev pub IsPlaced : Sizes → kw_cell.Cell → Type 0
-IsPlaced z c = c.place < z.cells
+IsPlaced z c = c.place < MOST_GROUP * z.cells
 
 -- what a seat knows of its rebalance is in range; rows aside
 pub record IsRebalance (z : Sizes) (b : Rebalancing) : Type 0 where
   pub entry : IsEntry z (Some b.entry)
-  pub marks : All (IsMark z) b.marks
+  pub marks : All (IsGroupMark z) b.marks
   pub waiting : IsVersion b.waiting
   pub drawn : IsVersion b.drawn
   pub needed : All IsVersion b.needed
@@ -205,8 +213,11 @@ pub record IsRebalance (z : Sizes) (b : Rebalancing) : Type 0 where
   pub placed : All (IsPlaced z) b.gathered
   pub kept : All IsCopy b.kept
   pub places : All (IsPlaced z) b.kept
-  pub few : length b.kept ≤ z.cells
-  pub at : b.at ≤ length b.taken
+  pub few : length b.kept ≤ MOST_GROUP * z.cells
+  -- each new row has no more cells than a row; a row is taken for each, and one of those is at hand
+  pub fits : (n : ℕ) → n ≤ length b.starts - 1 → length (new_row_cells b n) ≤ z.cells
+  pub taken : length b.taken ≤ length b.starts
+  pub at : b.at ≤ length b.taken - 1
   pub least : b.least < KEY_END
   pub number : IsNumber b.number
 
@@ -241,6 +252,9 @@ pub record IsLocal (z : Sizes) (l : Local) : Type 0 where
 -- the rows that a seat knows of its rebalance are those of the table
 pub record IsRebalanceBelow (rows : ℕ) (b : Rebalancing) : Type 0 where
   pub after : IsRowBelow rows b.after
+  pub second : IsRowBelow rows b.second
+  pub hand : b.hand < rows
+  pub ahead : IsRowBelow rows b.ahead
   pub taken : All (λ r. r < rows) b.taken
   pub sought : b.sought < rows
   pub asked : b.asked ≤ rows
@@ -259,12 +273,23 @@ marks_by z (Activity.Look (Look.Entry i)) l = i
 marks_by z (Activity.Look _) l = l.looked
 marks_by z _ l = z.seats
 
--- as many cells may be remembered of a full row where a seat does this: one for each entry that it
--- has looked at
+-- so many entries of the row at hand were looked at where a seat does this
 abbrev pub frozen_by : Sizes → Activity → ℕ
 frozen_by z (Activity.Rebalance (Rebalance.Freeze (Freeze.Look i))) = i
 frozen_by z (Activity.Rebalance (Rebalance.Freeze (Freeze.Entry i))) = i
 frozen_by z _ = z.seats
+
+-- so many entries has the row before the one at hand, if there is one
+abbrev pub entries_before : Sizes → Rebalancing → ℕ
+entries_before z b = if is_second b then z.seats else 0
+
+-- as many cells may be remembered of the group where a seat does this: one for each entry that was
+-- looked at
+abbrev pub group_marks_by : Sizes → Activity → Rebalancing → ℕ
+group_marks_by z (Activity.Rebalance (Rebalance.Freeze Freeze.Count)) b = entries_before z b
+group_marks_by z (Activity.Rebalance (Rebalance.Freeze (Freeze.Look i))) b = entries_before z b + i
+group_marks_by z (Activity.Rebalance (Rebalance.Freeze (Freeze.Entry i))) b = entries_before z b + i
+group_marks_by z _ b = MOST_GROUP * z.seats
 
 -- as many versions may be needed where a seat does this: one for each scan that it has looked at
 abbrev pub needed_by : Sizes → Activity → ℕ
@@ -283,11 +308,11 @@ IsTakingRows (Activity.Rebalance (Rebalance.Seek Seek.Take)) = Unit {0}
 IsTakingRows _ = ⊥
 
 -- the lists of a rebalance have room for what its next event adds, and no more cells are gathered
--- than a row has
+-- than a group has
 pub record HasRebalanceRoom (z : Sizes) (a : Activity) (b : Rebalancing) : Type 0 where
-  pub marks : length b.marks ≤ frozen_by z a
+  pub marks : length b.marks ≤ group_marks_by z a b
   pub needed : length b.needed ≤ needed_by z a
-  pub gathered : length b.gathered ≤ z.cells
+  pub gathered : length b.gathered ≤ MOST_GROUP * z.cells
   pub taken : IsTakingRows a → length b.taken < length b.starts
 
 -- a seat's list of remembered cells has room for what its next event adds, and no more cells are

@@ -7,10 +7,12 @@
 -- of its own, in the file of its section: ScanTransitions for the beginning of a call and a scan's
 -- version, WalkTransitions for the walk, ReadTransitions for reading a row, PutTransitions for
 -- putting, ListTransitions for a walk along a row's list, and for inserting the cell of a put
--- there. A rebalance has EngageTransitions for its beginning, FreezeTransitions for the full row's
--- entries and the scans, TakeTransitions for the row's cells, SeekTransitions for free rows,
--- WriteTransitions for new rows, and ReplaceTransitions for the exchange of the one for the others.
--- A put that sees a full row comes to it (`to_rebalance`).
+-- there. A rebalance has EngageTransitions for its beginning, ClaimTransitions for the row that
+-- goes along, LeftTransitions for the way from a follower to its leader, FreezeTransitions for the
+-- entries of its rows and the scans, TakeTransitions for their cells, SeekTransitions for free
+-- rows, WriteTransitions for new rows, and ReplaceTransitions for the exchange of the one for the
+-- others; GroupPlaces has the rows of its group. A put that sees a full row comes to it
+-- (`to_rebalance`).
 --
 -- Three steps of a call have no event, and so no line: the arrival at the row of the wanted key
 -- (`arrive`), the end of a row's cells (`row_read`, which `to_left_over` goes on to after the last
@@ -20,11 +22,11 @@
 -- `transition` is by cases on the activity alone, so that each line computes for every choice and
 -- every local. What a choice decides is given to a definition by cases on the choice (`begun`,
 -- `start_transition`, `walk_transition`, `answer_or_stopped`, `seek_first_transition`,
--- `before_transition`), or on the cell that it guesses (`begins_list`). The sizes come first. The
--- number of rows is not among them: which operation a line makes does not depend on it, since
--- `offered` has taken every guess at a row that does not exist for `Go` before an event comes here.
--- It is given to what follows, where a search along the table ends with its last row (`at_rows`);
--- every other line leaves it out (`at`).
+-- `left_transition`, `before_transition`), or on the cell that it guesses (`begins_list`). The
+-- sizes come first. The number of rows is not among them: which operation a line makes does not
+-- depend on it, since `offered` has taken every guess at a row that does not exist for `Go` before
+-- an event comes here. It is given to what follows, where a search along the table ends with its
+-- last row (`at_rows`); every other line leaves it out (`at`).
 use Rattle.std.specs.Prelude.{ℕ, None}
 use Rattle.kw_words.specs.declared.layout.Name.TheVariants.{Epoch, Pass, Scan}
 use Rattle.kw_words.specs.declared.kind.Kind.TheVariants as kind
@@ -44,7 +46,7 @@ use Rattle.kw_world.specs.EnterLines.{enter_lines, draw_lines}
 use Rattle.kw_world.specs.WalkLines.{walk_lines}
 use Rattle.kw_world.specs.ReadLines.{look_lines, read_lines}
 use Rattle.kw_world.specs.PutLines.{put_lines, insert_lines}
-use Rattle.kw_world.specs.EngageLines.{engage_lines}
+use Rattle.kw_world.specs.EngageLines.{engage_lines, claim_lines, left_lines}
 use Rattle.kw_world.specs.FreezeLines.{freeze_lines}
 use Rattle.kw_world.specs.GatherLines.{gather_lines}
 use Rattle.kw_world.specs.SeekLines.{seek_lines}
@@ -69,6 +71,8 @@ transition z (Activity.Leave answer) s choice l = at kind.ClearPass (Pass s) (St
 -- a put tries again, after a rebalance
 transition z Activity.Retry s choice l = at kind.ClearPass (Pass s) (Store (pass_word None)) (λ _. to (Activity.Enter Enter.LoadEpoch) l)
 transition z (Activity.Rebalance (Rebalance.Engage a)) s choice l = engage_lines z a s choice l
+transition z (Activity.Rebalance (Rebalance.Claim a)) s choice l = claim_lines z a s choice l
+transition z (Activity.Rebalance (Rebalance.Left a)) s choice l = left_lines z a s choice l
 transition z (Activity.Rebalance (Rebalance.Freeze a)) s choice l = freeze_lines z a s choice l
 transition z (Activity.Rebalance (Rebalance.Gather a)) s choice l = gather_lines z a s choice l
 transition z (Activity.Rebalance (Rebalance.Seek a)) s choice l = seek_lines z a s choice l

@@ -14,15 +14,18 @@ use Rattle.kw_world.specs.declared.activity.rebalance.Rebalance.TheVariants as R
 use Rattle.kw_world.specs.declared.activity.rebalance.replace.Replace.TheVariants as Replace
 use Rattle.kw_world.specs.declared.activity.rebalance.write.Write.TheVariants as Write
 use Rattle.kw_world.specs.declared.local.Local.{Local}
+use Rattle.kw_world.specs.declared.rebalance.Rebalancing.{Rebalancing}
 use Rattle.kw_world.specs.Sizes.{Sizes}
 use Rattle.kw_world.specs.SeekTransitions.{at_infant, has_more}
 use Rattle.kw_world.specs.Transition.{Outcome, to}
 
+-- the cells of the new row of this number: the kept ones from its start on, up to the next one
+abbrev pub new_row_cells : Rebalancing → ℕ → List Cell
+new_row_cells b n = take (end_of b.kept b.starts n - slice_index b.starts n) (drop (slice_index b.starts n) b.kept)
+
 -- the cells of the new row at hand
 abbrev pub infant_cells : Local → List Cell
-infant_cells l =
-    take (end_of l.rebalance.kept l.rebalance.starts l.rebalance.at - slice_index l.rebalance.starts l.rebalance.at)
-    (drop (slice_index l.rebalance.starts l.rebalance.at) l.rebalance.kept)
+infant_cells l = new_row_cells l.rebalance l.rebalance.at
 
 -- it has given as many cells, and is not frozen
 abbrev pub infant_count : Local → Count

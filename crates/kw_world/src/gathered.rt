@@ -1,27 +1,26 @@
-//! The cells that a reader has gathered in a row.
+//! The cells that a reader has gathered in a row, or a rebalance in the rows of its group.
 //!
 //! Of each cell of the row whose key is in its range and whose put has a version a reader keeps a
 //! copy. The copies stand in the order of the row's list, so that what a version shows of them is
-//! found in one go. A row has `CELLS` cells, so the list lies in place and takes no memory.
+//! found in one go. A row has a fixed number of cells, so the list lies in place and takes no
+//! memory.
 ghost use Rattle.std.specs.Prelude.{◌≡◌, ◌<◌, [], true, length, nat_lt, if◌then◌else◌, slice_index_or, remove, IfSome, IfNone};
-ghost use Rattle.kw_words.specs.declared.sizes.TheConstants.{CELLS};
 ghost use Rattle.kw_cells.specs.InOrder.{AreInOrder, index_in, stands_before, with_cell};
 
 use arrayvec::ArrayVec;
 use kw_cells::cell::Cell;
 use kw_cells::in_order::{index_in, is_behind};
-use kw_words::sizes::CELLS;
 use std::alloc::AllocError;
 use std::marker::Model;
 
 /// The gathered cells, in the order of the row's list: by key, then by falling version, then by
-/// falling place; at most `CELLS`, of which no two agree in key, version and place.
+/// falling place; at most `MOST`, of which no two agree in key, version and place.
 #[derive(Debug, Drop)]
-pub struct Gathered {
-    cells: ArrayVec<Cell, CELLS>,
+pub struct Gathered<const MOST: usize> {
+    cells: ArrayVec<Cell, MOST>,
 }
 
-impl Model for Gathered {
+impl<const MOST: usize> Model for Gathered<MOST> {
     ghost use Rattle.std.specs.Prelude.{List};
     ghost use Rattle.kw_cells.specs.declared.cell.Cell.{Cell};
     ghost use Rattle.kw_cells.specs.InOrder.{AreInOrder};
@@ -33,21 +32,21 @@ impl Model for Gathered {
     ghost invariant = { λ g. AreInOrder g.cells.items };
 }
 
-impl Clone for Gathered {
+impl<const MOST: usize> Clone for Gathered<MOST> {
     ghost use Rattle.std.specs.Prelude.{◌≡◌};
 
     ghost is_clone = { λ gathered copy. copy ≡ gathered };
 
     // Takes no memory.
-    fn clone(&self) -> Result<Gathered, AllocError> {
+    fn clone(&self) -> Result<Gathered<MOST>, AllocError> {
         let cells = self.cells.clone()?;
         Ok(Gathered { cells })
     }
 }
 
-impl Gathered {
+impl<const MOST: usize> Gathered<MOST> {
     /// No cells.
-    pub fn new() -> Gathered
+    pub fn new() -> Gathered<MOST>
         ensures { result ≡ [] }
     {
         Gathered {
@@ -69,7 +68,7 @@ impl Gathered {
     /// either. A walk along a row's list has the next cell for the end.
     #[inline(always)]
     pub fn gather(&mut self, cell: Cell) -> Option<usize>
-        ensures gathered { self.new ≡ (if nat_lt (length self.old) CELLS
+        ensures gathered { self.new ≡ (if nat_lt (length self.old) MOST
             then with_cell cell self.old else self.old) }
         ensures put { IfSome result (λ at. (at < length self.new) × (remove self.new at ≡ self.old)) }
         ensures kept { IfNone result (self.new ≡ self.old) }
@@ -87,7 +86,7 @@ impl Gathered {
 
     // Puts a cell at its place where others may stand behind it.
     fn put_between(&mut self, cell: Cell) -> Option<usize>
-        requires { length self.old < CELLS }
+        requires { length self.old < MOST }
         ensures gathered { self.new ≡ with_cell cell self.old }
         ensures put { IfSome result (λ at. (at < length self.new) × (remove self.new at ≡ self.old)) }
         ensures kept { IfNone result (self.new ≡ self.old) }

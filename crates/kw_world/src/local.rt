@@ -21,6 +21,7 @@ use crate::part::Part;
 use crate::rebalance::Rebalancing;
 use kw_model::call::Call;
 use kw_model::pair_list::PairList;
+use kw_words::sizes::{CELLS, SEATS};
 use std::alloc::{AllocError, Global};
 
 /// What one seat knows. Between calls it knows the number of its calls alone.
@@ -70,7 +71,7 @@ pub struct Local {
     /// The version with which a reader helps that cell's put, from 1 to below `VERSION_END`.
     pub helping: u64,
     /// The stamped cells that a reader has seen in entries of the row, and not yet in its list.
-    pub remembered: Marks,
+    pub remembered: Marks<SEATS>,
     /// The cell that a walk along the row's list has reached, or that a reader remembered, below
     /// the number of cells.
     pub place: u32,
@@ -79,7 +80,7 @@ pub struct Local {
     /// The key of that cell.
     pub place_key: u32,
     /// The cells that a reader has gathered in the row.
-    pub gathered: Gathered,
+    pub gathered: Gathered<CELLS>,
 
     /// The cell of a put or a delete, below the number of cells.
     pub cell: u32,

@@ -3,32 +3,31 @@
 //! A reader looks at the entry of each seat before it walks along the row's list, and remembers the
 //! cell and the version of each put that has a version in its entry and may not be listed yet. A
 //! cell that it reaches in the list is remembered no more; those that are left it reads by
-//! themselves. There is one entry for each seat, so the list lies in place and takes no memory.
+//! themselves. There is one entry for each seat, so the list lies in place and takes no memory. A
+//! rebalance remembers those of all rows of its group.
 ghost use Rattle.std.specs.Prelude.{◌≡◌, ◌<◌, ◌++◌, ◌∷◌, [], length};
 ghost use Rattle.kw_world.specs.Marks.{unmarked, least_mark, lesser_of};
-ghost use Rattle.kw_words.specs.declared.sizes.TheConstants.{SEATS};
 
 use arrayvec::ArrayVec;
-use kw_words::sizes::SEATS;
 use std::alloc::AllocError;
 use std::marker::Model;
 
 /// A cell, and the version that its put has.
 #[derive(Clone, Copy, Debug, Default, PartialEq, Eq)]
 pub struct Mark {
-    /// The cell.
+    /// The cell; in a rebalance its place in the group.
     pub cell: u32,
     /// The version of its put.
     pub version: u64,
 }
 
-/// The stamped cells that were seen in entries, in the order of these; at most `SEATS`.
+/// The stamped cells that were seen in entries, in the order of these; at most `MOST`.
 #[derive(Debug, Drop)]
-pub struct Marks {
-    items: ArrayVec<Mark, SEATS>,
+pub struct Marks<const MOST: usize> {
+    items: ArrayVec<Mark, MOST>,
 }
 
-impl Model for Marks {
+impl<const MOST: usize> Model for Marks<MOST> {
     ghost use Rattle.std.specs.Prelude.{List};
     ghost use Rattle.kw_world.specs.declared.marks.Mark.{Mark};
 
@@ -37,21 +36,21 @@ impl Model for Marks {
     ghost view = { λ m. m.items.items };
 }
 
-impl Clone for Marks {
+impl<const MOST: usize> Clone for Marks<MOST> {
     ghost use Rattle.std.specs.Prelude.{◌≡◌};
 
     ghost is_clone = { λ marks copy. copy ≡ marks };
 
     // Takes no memory.
-    fn clone(&self) -> Result<Marks, AllocError> {
+    fn clone(&self) -> Result<Marks<MOST>, AllocError> {
         let items = self.items.clone()?;
         Ok(Marks { items })
     }
 }
 
-impl Marks {
+impl<const MOST: usize> Marks<MOST> {
     /// No cells.
-    pub fn new() -> Marks
+    pub fn new() -> Marks<MOST>
         ensures { result ≡ [] }
     {
         Marks {
@@ -68,7 +67,7 @@ impl Marks {
 
     /// Adds a cell at the end. There must be room.
     pub fn push(&mut self, mark: Mark)
-        requires { length self.old < SEATS }
+        requires { length self.old < MOST }
         ensures { self.new ≡ self.old ++ mark ∷ [] }
     {
         self.items.push(mark);

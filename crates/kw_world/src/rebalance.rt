@@ -1,14 +1,17 @@
 //! What one seat knows of the rebalance that it makes.
 //!
-//! A rebalance replaces a full row by new ones. Its row and that row's least key are the row and
-//! the least key of the seat's walk; here is what it knows beside them. As in `Local` every number
+//! A rebalance replaces a full row by new ones, alone or together with the row after it: a group of
+//! rows. Its row and that row's least key are the row and the least key of the seat's walk; here is
+//! what it knows beside them. As in `Local` every number
 //! always has a range that holds, so that code may use it whatever the seat does.
 ghost use Rattle.std.specs.Prelude.{◌≡◌};
 ghost use Rattle.kw_world.specs.Local.{no_rebalance};
 
 use crate::gathered::Gathered;
+use crate::limits::MOST_MARKS;
 use crate::marks::Marks;
 use crate::rebuilt::{KeptCells, Needed, Starts, Taken};
+use kw_cells::limits::MOST_GATHERED;
 use kw_words::pend::Pend;
 use std::alloc::AllocError;
 
@@ -26,21 +29,29 @@ pub enum Afterwards {
 /// What one seat knows of the rebalance that it makes. Of no rebalance it knows nothing.
 #[derive(Debug, Drop)]
 pub struct Rebalancing {
-    /// The row after the full one, to which its marked link leads; none where the full row is the
-    /// last.
+    /// The row after the full one, to which its marked link leads, and from where that goes along
+    /// the row after both; none where the last of them is the last of all.
     pub after: Option<u32>,
+    /// The row that goes along with the full one; none where that goes alone, and as long as it is
+    /// not known.
+    pub second: Option<u32>,
+    /// The row of the group that is frozen, gathered or retired now.
+    pub hand: u32,
+    /// The row of the group that comes after the one at hand; none where that is the last.
+    pub ahead: Option<u32>,
     /// The entry that the seat found, and is about to freeze.
     pub entry: Pend,
-    /// The stamped cells that it has seen in entries of the row, and not yet in its list.
-    pub marks: Marks,
+    /// The stamped cells that it has seen in entries of the group's rows, and not yet in their
+    /// lists, each by its place in the group.
+    pub marks: Marks<MOST_MARKS>,
     /// The clock with which another seat's scan waits, from 1 to below `VERSION_END`.
     pub waiting: u64,
     /// The version that was drawn for that scan, from 1 to below `VERSION_END`.
     pub drawn: u64,
     /// The versions that scans may still ask for.
     pub needed: Needed,
-    /// The cells that it has gathered.
-    pub gathered: Gathered,
+    /// The cells that it has gathered, each with its place in the group.
+    pub gathered: Gathered<MOST_GATHERED>,
     /// Those of them that go into the new rows.
     pub kept: KeptCells,
     /// Where each new row starts among the kept cells.
@@ -54,12 +65,12 @@ pub struct Rebalancing {
     /// How many rows it has asked so, with that one.
     pub asked: u32,
     /// The row at which its walk to the row before the full one is; none where the full row is the
-    /// first.
+    /// first. Where the full row is a follower, its leader as long as no walk has begun.
     pub before: Option<u32>,
     /// The least key that this row may hold.
     pub least: u32,
-    /// The number of the retired row that it asks for, and then that of the full row, once it is
-    /// replaced; from 1 to below `NUMBER_END`.
+    /// The number of the retired row that it asks for, and then that of the row at hand, of those
+    /// that were replaced; from 1 to below `NUMBER_END`.
     pub number: u64,
     /// What follows once the taken rows are given back.
     pub afterwards: Afterwards,
@@ -74,6 +85,9 @@ impl Clone for Rebalancing {
     fn clone(&self) -> Result<Rebalancing, AllocError> {
         Ok(Rebalancing {
             after: self.after,
+            second: self.second,
+            hand: self.hand,
+            ahead: self.ahead,
             entry: self.entry,
             marks: self.marks.clone()?,
             waiting: self.waiting,
@@ -101,6 +115,9 @@ impl Rebalancing {
     {
         Rebalancing {
             after: None,
+            second: None,
+            hand: 0,
+            ahead: None,
             entry: Pend::Idle,
             marks: Marks::new(),
             waiting: 1,
@@ -125,6 +142,9 @@ impl Rebalancing {
         ensures { self.new ≡ no_rebalance }
     {
         self.after = None;
+        self.second = None;
+        self.hand = 0;
+        self.ahead = None;
         self.entry = Pend::Idle;
         self.marks.clear();
         self.waiting = 1;

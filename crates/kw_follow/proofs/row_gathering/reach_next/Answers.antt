@@ -1,5 +1,6 @@
 use Rattle.std.proofs.Common.{refl, sym, ◌∙◌, ap, subst, ◌≤◌, length}
 use Rattle.kw_words.specs.declared.sizes.TheConstants.{CELLS, SEATS}
+use Rattle.kw_cells.specs.declared.limits.TheConstants.{MOST_GATHERED}
 use Rattle.kw_world.specs.declared.activity.rebalance.gather.Gather.TheVariants as Gather
 use Rattle.kw_world.specs.declared.local.Local.{Local}
 use Rattle.kw_follow.specs.BuildsOn.{taking_at}
@@ -10,8 +11,8 @@ use Rattle.kw_follow.proofs.row_gathering.reach_next.Goals as goal
 pub load_after-link-requires : goal.load_after-link-requires
 load_after-link-requires c = asks_taken_link _ _ (taking_at Gather.Link c.args.cursor c.args.local.now) _ c.requires refl c.link_name-name.ensures
 
-pub reach-requires : goal.reach-requires
-reach-requires c = (has_place c.args.local.now c.args.cursor c.requires).walked
+pub reach-requires-clause-walked : goal.reach-requires-clause-walked
+reach-requires-clause-walked c = (has_place c.args.local.now c.args.cursor c.requires).walked
 
 pub returns-in-Some-clause-saw : goal.returns-in-Some-clause-saw
 returns-in-Some-clause-saw c = link_reached c.args.local.now c.args.cursor c.reach.result c.reach.new.local c.in-Some.cell c.reach.ensures.cursor c.reach.ensures.local (sym c.unpack_cell_link.ensures.value ∙ c.in-Some.is) c.requires c.load_after-link.ensures
@@ -23,7 +24,7 @@ pub take_from-requires-clause-walked : goal.take_from-requires-clause-walked
 take_from-requires-clause-walked c = subst (λ (l : Local). l.walked ≤ CELLS) (sym c.write.ensures) (has_place c.args.local.now c.args.cursor c.requires).walked
 
 pub take_from-requires-clause-gathered : goal.take_from-requires-clause-gathered
-take_from-requires-clause-gathered c = subst (λ (l : Local). length l.rebalance.gathered ≤ CELLS) (sym c.write.ensures) (has_place c.args.local.now c.args.cursor c.requires).gathered
+take_from-requires-clause-gathered c = subst (λ (l : Local). length l.rebalance.gathered ≤ MOST_GATHERED) (sym c.write.ensures) (has_place c.args.local.now c.args.cursor c.requires).gathered
 
 pub take_from-requires-clause-needed : goal.take_from-requires-clause-needed
 take_from-requires-clause-needed c = subst (λ (l : Local). length l.rebalance.needed ≤ SEATS) (sym c.write.ensures) (has_place c.args.local.now c.args.cursor c.requires).needed

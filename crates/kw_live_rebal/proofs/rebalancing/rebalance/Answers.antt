@@ -1,4 +1,4 @@
-use Rattle.std.proofs.Common.{rules, ◌∙◌, subst, sym}
+use Rattle.std.proofs.Common.{rules, ◌∙◌, refl, subst, sym}
 use Rattle.kw_world.specs.declared.activity.Activity.{Activity}
 use Rattle.kw_core.specs.Stages.{IsBusy}
 use Rattle.kw_table.specs.Passes.{view}
@@ -23,7 +23,7 @@ loop-preserved g c = record {
     calls = c.go_on.ensures.calls ∙ c.loop.invariant.on.calls;
     held = c.go_on.ensures.held c.choice_at-choice.ensures ∙ c.loop.invariant.on.held;
     untidied = stays_untidied c.args.pass.now c.loop.pass c.loop.local c.go_on.new.local c.choice_at-choice.result (view c.loop.pass).opening.rows _ c.go_on.ensures.line c.loop.invariant.on.saw c.in_default.not-Retry c.in_default.not-Leave c.loop.invariant.on.untidied;
-    saw = keeps_seen _ _ _ _ _ _ _ _ _ c.loop.invariant.on.goes c.go_on.ensures.goes c.go_on.ensures.saw c.go_on.ensures.line c.loop.invariant.on.untidied c.loop.invariant.on.saw (c.has_won.ensures.other (search rules)) c.in_default.not-Retry c.in_default.not-Leave;
+    saw = keeps_seen _ _ _ _ _ _ _ _ _ c.loop.invariant.on.goes c.go_on.ensures.goes c.go_on.ensures.saw c.go_on.ensures.line refl c.loop.invariant.on.untidied c.loop.invariant.on.saw (c.has_won.ensures.other (search rules)) c.in_default.not-Retry c.in_default.not-Leave;
   };
 }
 

@@ -1,4 +1,4 @@
-use Rattle.kw_rows.proofs.Views.{opens, leads, alone, claims, takes_along, leaves, pair, may_mark, may_mark_next, may_freeze}
+use Rattle.kw_rows.proofs.Views.{opens, leads, alone, claims, takes_along, leaves, pair, may_mark, may_mark_next, may_freeze, follows, leader_named, not_first}
 use Rattle.kw_rows.proofs.laws.view_laws.Goals as goal
 
 pub returns : goal.returns
@@ -13,4 +13,7 @@ returns c = record {
   may_mark = may_mark;
   may_mark_next = may_mark_next;
   may_freeze = may_freeze;
+  follows = follows;
+  leader_named = leader_named;
+  not_first = not_first;
 }

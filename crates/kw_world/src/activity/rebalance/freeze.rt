@@ -1,14 +1,14 @@
-//! The full row is frozen.
+//! The full row is frozen, and the row that goes along with it.
 //!
-//! Its count, then each entry; and each scan that waits gets its version, so that what the scans
-//! need is known.
+//! The count of each, then each of its entries; and each scan that waits gets its version, so that
+//! what the scans need is known.
 
-/// The full row is frozen.
+/// The rows at hand are frozen, one after the other.
 #[derive(Clone, Copy, Debug, PartialEq, Eq)]
 pub enum Freeze {
-    /// Freezes the count of the full row.
+    /// Freezes the count of the row at hand.
     Count,
-    /// Loads the entry of this seat in the full row, below the number of seats.
+    /// Loads the entry of this seat in that row, below the number of seats.
     Look(u32),
     /// Exchanges that entry, which was found idle or pending, for a frozen one.
     Entry(u32),

@@ -1,11 +1,12 @@
-//! The cells of the full row are gathered.
+//! The cells of the full row are gathered, and those of the row that goes along with it.
 //!
-//! First along its list, then those that were remembered of the entries and not reached there.
+//! Of each row first along its list, then those that were remembered of the entries and not reached
+//! there.
 
-/// The cells of the full row are gathered.
+/// The cells of the rows at hand are gathered, one row after the other.
 #[derive(Clone, Copy, Debug, PartialEq, Eq)]
 pub enum Gather {
-    /// Loads the link of the full row's list at which the seat stands, to gather all its cells.
+    /// Loads the link of the row's list at which the seat stands, to gather all its cells.
     Link,
     /// Loads the key of the cell that was reached there.
     Key,

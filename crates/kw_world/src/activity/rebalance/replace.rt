@@ -1,7 +1,7 @@
 //! The full row is replaced.
 //!
 //! A walk finds the row before it; one exchange of that row's link puts the new rows in its place;
-//! they become normal, and the full row is retired.
+//! they become normal, and the rows that they replace are retired.
 
 /// The full row is replaced.
 #[derive(Clone, Copy, Debug, PartialEq, Eq)]
@@ -21,8 +21,8 @@ pub enum Replace {
     Exchange,
     /// Exchanges the infant state of the row at hand, of those taken, for the normal one.
     Normalise,
-    /// Adds one to the epoch, to get the number of the full row, which is replaced.
+    /// Adds one to the epoch, to get the number of the row at hand, of those that are replaced.
     Number,
-    /// Stores that the full row is retired, with that number.
+    /// Stores that this row is retired, with that number.
     Retire,
 }

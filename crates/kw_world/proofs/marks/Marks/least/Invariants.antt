@@ -4,7 +4,7 @@ use Rattle.kw_world.specs.Marks.{least_mark}
 use Rattle.kw_world.proofs.marks.Marks.least.Given as goal
 
 abbrev pub decreases-loop-at : goal.decreases-loop-at
-decreases-loop-at l = l.at
+decreases-loop-at g l = l.at
 
 abbrev pub invariant-loop-at : goal.invariant-loop-at
-invariant-loop-at l = (l.at ≤ length l.marks) × (l.least ≡ least_mark (drop l.at l.marks))
+invariant-loop-at g l = (l.at ≤ length l.marks) × (l.least ≡ least_mark (drop l.at l.marks))
