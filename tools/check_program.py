@@ -15,10 +15,11 @@ of the program's words and lines is compared with what the program takes (`usage
 launcher's own answers are checked, for which nothing is built.
 
 Each script of `scripts/given` is run three times: it must print what `scripts/printed` has under
-its name, its record must be that of `scripts/recorded`, and that must be judged good. Its name says
-what it shows. Many of its lines name the kind of the one step that they make, and the positions in
-the record count all steps, so that together they tell how many steps each call makes. What is
-printed comes from that simulator too, and none is in the repository.
+its name, its record must be that of `scripts/recorded`, and that must be judged good; and so those
+of `scripts/neighbour`, in which a full row and the one after it meet. Its name says what it shows.
+Many of its lines name the kind of the one step that they make, and the positions in the record
+count all steps, so that together they tell how many steps each call makes. What is printed comes
+from that simulator too, and none is in the repository.
 
 The last line says how many cases passed; the status is 1 where one did not."""
 
@@ -283,10 +284,10 @@ def text_cases():
 
 def script_cases():
     """The cases of the stored scripts."""
-    for path in sorted((SCRIPTS / "given").iterdir()):
-        name, script = path.name.replace("_", " "), path.read_bytes()
-        record = (SCRIPTS / "recorded" / path.name).read_bytes()
-        yield Case(name, "simulate", script, printed=(SCRIPTS / "printed" / path.name).read_bytes())
+    for path in sorted(SCRIPTS.glob("**/given/*")):
+        name, script, home = path.name.replace("_", " "), path.read_bytes(), path.parent.parent
+        record = (home / "recorded" / path.name).read_bytes()
+        yield Case(name, "simulate", script, printed=(home / "printed" / path.name).read_bytes())
         yield Case(f"{name}: its record", "simulate --record", script, printed=record)
         yield Case(f"{name}: its record is good", "judge", record, printed=b"yes\n")
 
