@@ -1,6 +1,6 @@
 -- The ways that the events of a rebalance may go by which new rows are taken, written, linked in
--- place of the full row and made normal, and the rows of the group are retired, or by which what
--- was taken is given back.
+-- place of the group and made normal, and its rows are retired, or by which what was taken is given
+-- back.
 --
 -- As in `Arrow` there is one constructor for each way, and it carries what the event found: whether
 -- a row was free or retired, which epoch a seat announces, whether a guess served, what a link
@@ -96,7 +96,7 @@ pub data Building (z : Sizes) (v : Words) (choice : Choice) (l : Local) : Activi
   leads_nowhere : (next : Local) → next_in v (row_or_first l.rebalance.before) ≡ None → NextBack TryAgain l next → Building z v choice l (Activity.Rebalance (Rebalance.Replace Replace.Next)) next
   walks_before : least_in v l.candidate < l.lower → Building z v choice l (Activity.Rebalance (Rebalance.Replace Replace.NextLeast)) (record (at_before (Some l.candidate) (least_in v l.candidate) l) { activity = Activity.Rebalance (Rebalance.Replace Replace.Next) })
   walks_past : (next : Local) → l.lower ≤ least_in v l.candidate → NextBack TryAgain l next → Building z v choice l (Activity.Rebalance (Rebalance.Replace Replace.NextLeast)) next
-  -- the new rows are linked in place of the full one, and the rows of the group are retired
+  -- the new rows are linked in place of the group, whose rows are to be retired
   replaces_row : link_of (v (replaced_link l.rebalance.before)) ≡ Some (unmarked_link (Some l.row)) → Building z v choice l (Activity.Rebalance (Rebalance.Replace Replace.Exchange)) (record (at_infant 0 l) { activity = Activity.Rebalance (Rebalance.Replace Replace.Normalise) })
   is_marked_before : (next : Local) → link_of (v (replaced_link l.rebalance.before)) ≡ Some (marked_link (Some l.row)) → NextBack MoveLeft l next → Building z v choice l (Activity.Rebalance (Rebalance.Replace Replace.Exchange)) next
   is_replaced : (next : Local) → row_linked (link_of (v (replaced_link l.rebalance.before))) ≢ Some l.row → NextBack TryAgain l next → Building z v choice l (Activity.Rebalance (Rebalance.Replace Replace.Exchange)) next

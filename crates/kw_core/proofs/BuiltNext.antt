@@ -1,6 +1,6 @@
 -- What each event by which new rows are taken, written, linked and made normal leaves of what its
 -- seat knows: its call, with what readers gather and the pairs of scans, and, as long as it is at
--- such events, its full row with all that is gathered of it.
+-- such events, its group with all that is gathered of it.
 use Rattle.std.proofs.Common.{ℕ, ◌≡◌, ◌⊎◌, inl, inr, Bool, true, false, Option, List, refl, sym, ◌∙◌, ap}
 use Rattle.kw_model.specs.declared.call.Call.{Call}
 use Rattle.kw_cells.specs.declared.cell.Cell.{Cell}

@@ -1,4 +1,4 @@
--- What an event leaves of the words where seats freeze full rows and help scans.
+-- What an event leaves of the words where seats freeze the rows of groups and help scans.
 --
 -- A put writes its own entry, its count and the clock; beside it any seat may freeze an entry,
 -- freeze a count, raise the clock for a scan that it helps, and settle the scan of another seat.

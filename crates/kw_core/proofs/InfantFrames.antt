@@ -1,5 +1,5 @@
 -- What an event leaves of the words of rows, whichever activity it is of: also of those that write
--- new rows, link them, and retire the row that they replace.
+-- new rows, link them, and retire the rows that they replace.
 --
 -- For each family of words a type says of which row, and at which place there, the event of an
 -- activity changes the word; everywhere else the word stays. `row_stays` says so of all words of a

@@ -97,10 +97,10 @@ abbrev pub with_number : kw_rows.Ledger → ℕ → ℕ → kw_rows.Ledger
 with_number g m now = record g { numbered = λ n. if n == m then Some now else g.numbered n }
 
 -- the ledger after the event of an activity, of the seat s that knew l and found this word among
--- these, at the position `now`: a seat that stores its pass word is in it from there on, one that
--- clears it, to leave or to try again, is in none, and a scan that stores that it waits does so
--- from there on. A seat that finds a row free takes it; it gives a row back; where it finds a row
--- retired with the number that it knows, that row is free from then on, and all else that is
+-- these, at the position `now`: a seat that stores its pass word is in a visit from there on, one
+-- that clears it, to leave or to try again, is in none, and a scan that stores that it waits does
+-- so from there on. A seat that finds a row free takes it; it gives a row back; where it finds a
+-- row retired with the number that it knows, that row is free from then on, and all else that is
 -- recorded of it stays until it is taken again; where it finds the unmarked link to its full row,
 -- the rows of its group are unlinked and the taken ones are linked; and the epoch that it finds
 -- where it adds to it is the number that it draws

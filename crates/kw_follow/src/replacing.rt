@@ -1,5 +1,5 @@
-//! The events that find the row before the full one, link the new rows in place of the full one,
-//! make them normal and retire the rows of its group, each by its own step of the table.
+//! The events that find the row before the full one, link the new rows in place of its group, make
+//! them normal and retire the rows of the group, each by its own step of the table.
 //!
 //! What the local does next says which step it is, as in `putting`; up to the exchange of the link
 //! `building` asks for it, and behind that `go_finish`. The walk to the row before begins at a

@@ -96,8 +96,8 @@ impl Trace {
     /// begins nothing. Without memory the trace is as it was.
     ///
     /// Of the trace hold then the laws of all lists: each row at which a seat has arrived was in
-    /// the list since it began its pass, or drew; what a seat has reached in its pass is there for
-    /// it; and no row is given free while a seat is in a pass in which it has come to it.
+    /// the list since it began its visit, or drew; what a seat has reached in its visit is there
+    /// for it; and no row is given free while a seat is in a visit in which it has come to it.
     pub fn push(&mut self, event: Event) -> Result<StepDone, Memory>
         requires seat { event.seat < self.old.opening.seats }
         requires begin { CanStep (world_of self.old) event }

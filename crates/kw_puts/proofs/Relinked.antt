@@ -1,4 +1,4 @@
--- Where the full row is replaced: what holds from then on of each new row, whose cells are copies,
+-- Where a group is replaced: what holds from then on of each new row, whose cells are copies,
 -- all listed.
 --
 -- Of a row that is or was linked each lemma says what `Places` and `Lists` say of every one. What

@@ -3,7 +3,7 @@
 -- gathered.
 --
 -- A cell of a row stands for the attempt that is its origin: as the attempt's own cell, or as a
--- copy, where the row has taken the place of a full one. Of what is due to a reader each is named
+-- copy, where the row has taken the place of a group. Of what is due to a reader each is named
 -- by the cell and the attempt.
 --
 -- A row may be frozen while it is read, and then an attempt that was announced there may be lost:
@@ -177,7 +177,7 @@ pub record HasSeen (h : History) (o : Origins) (a : Activity) (l : Local) (g : S
 
 -- a row that counts as read: the call is a get or a scan, its visit is on, and the seat may name
 -- the row. So the row is not used again while what was gathered of it is there. A put has read no
--- row: it ends its pass to try again, and would keep the row beyond that
+-- row: it ends its visit to try again, and would keep the row beyond that
 pub record IsReadRow (g : Ledger) (t : ℕ) (a : Activity) (l : Local) (q : ℕ) : Type 0 where
   pub call : IsReadCall l.call
   pub visiting : IsVisiting a

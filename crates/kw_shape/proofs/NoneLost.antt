@@ -3,7 +3,7 @@
 --
 -- A row becomes an infant of a seat where the seat takes it, and is put behind the others. It is
 -- none any more where it is given back, which is the one that the seat steps past, or where all are
--- linked in place of the full row.
+-- linked in place of the group.
 use Rattle.std.proofs.Common.{ℕ, ◌≡◌, ◌≢◌, ◌⊎◌, inl, inr, ◌+◌, ◌<◌, ◌++◌, List, [], ◌∷◌, Some, arith, refl, sym, ◌∙◌, ap, subst, length, length-append, slice_get}
 use Rattle.std.proofs.lemmas.Bool.{cases_eq}
 use Rattle.std.proofs.lemmas.List.{get_or_append_left}

@@ -165,7 +165,7 @@ pub record Kinds (a : Activity) (l : Local) : Type 0 where
 pub record Shape (z : Sizes) (r : Run) : Type 0 where
   pub sane : IsSane z r.world
   -- of one key a row that is built has room for more cells than scans may need at once, so the new
-  -- rows of one full row differ in their least keys
+  -- rows of one group differ in their least keys
   pub built : z.seats < z.built
   -- and a new row is no longer than a row
   pub fits : z.built ≤ z.cells

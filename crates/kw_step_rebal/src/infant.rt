@@ -100,7 +100,7 @@ pub fn infant_least(local: &Local) -> u32
 }
 
 /// The row after that row: the next new row, and after the last one the row that stood after the
-/// full one.
+/// group.
 pub fn infant_next(local: &Local) -> Option<u32>
     requires { local.now.rebalance.at ≤ length local.now.rebalance.taken }
     ensures { result ≡ row_or (slice_get local.now.rebalance.taken (local.now.rebalance.at + 1))

@@ -273,8 +273,8 @@ fn build_operation(seat: u32, local: &Local, choice: Choice) -> Operation
     }
 }
 
-// The operation of an event by which the new rows are linked in place of the full one, and the rows
-// of the group are retired.
+// The operation of an event by which the new rows are linked in place of the group, and its rows
+// are retired.
 #[tactic(auto, unfolding(kw_world::specs::Step::transition_of))]
 fn link_operation(seat: u32, local: &Local, choice: Choice) -> Operation
     requires ranges { IsLocal product local.now }

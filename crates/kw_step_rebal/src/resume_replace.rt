@@ -1,5 +1,5 @@
 //! What a seat knows after the events that find the row before the full one, and link the new rows
-//! in place of the full one.
+//! in place of the group.
 ghost use Rattle.std.specs.Prelude.{◌≡◌, ◌≤◌, Some, length, ℕ};
 ghost use Rattle.kw_words.specs.Link.{link_of};
 ghost use Rattle.kw_words.specs.Plain.{key_of_word};

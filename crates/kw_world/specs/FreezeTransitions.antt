@@ -3,7 +3,7 @@
 --
 -- A frozen row gives no cell, and no put of it gets a version any more: each entry is frozen, or is
 -- stamped and remembered. A scan that waits is helped to a version, so that every scan has one that
--- is needed, or begins later than all that the row holds.
+-- is needed, or begins later than all that the rows hold.
 use Rattle.std.specs.Prelude.{ℕ, ◌+◌, Bool, true, false, nat_lt, ◌==◌, if◌then◌else◌, Option, Some, None, [], ◌∷◌, ◌++◌}
 use Rattle.kw_words.specs.declared.pend.Pend.{Pend}
 use Rattle.kw_words.specs.declared.pend.Pend.TheVariants.{Idle, Pending, Stamped, Frozen}

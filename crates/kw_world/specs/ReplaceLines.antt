@@ -1,5 +1,4 @@
--- The lines by which the new rows are linked in place of the full one, and the rows of the group
--- are retired.
+-- The lines by which the new rows are linked in place of the group, and its rows are retired.
 use Rattle.std.specs.Prelude.{ℕ, Some}
 use Rattle.kw_words.specs.declared.layout.Name.TheVariants.{Epoch, State, Least, Next}
 use Rattle.kw_words.specs.declared.kind.Kind.TheVariants as kind

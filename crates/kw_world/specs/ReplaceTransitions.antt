@@ -1,5 +1,5 @@
 -- What follows from the events that find the row before the full one, link the new rows in place of
--- the full row, and retire the rows of the group.
+-- the group, and retire its rows.
 --
 -- The walk to the row before goes from the first row, or from a guessed one, and ends at the link
 -- to the full row. Where it sees a row whose least key is not below that of the full row, or no

@@ -50,7 +50,7 @@ row_or None other = other
 abbrev pub unmarked_link : Option ℕ → Link
 unmarked_link r = record { row = r; marked = false }
 
--- after it stands the next new row, and after the last one the row that stood after the full one
+-- after it stands the next new row, and after the last one the row that stood after the group
 abbrev pub infant_link : Local → Link
 infant_link l = unmarked_link (row_or (slice_get l.rebalance.taken (l.rebalance.at + 1)) l.rebalance.after)
 

@@ -11,10 +11,9 @@
 //! `world` has the worlds, `local`, `activity` and `answer` what a seat knows and what it is about
 //! to do and to answer, `marks` and `gathered` the lists that it keeps without taking memory,
 //! `rebalance` and `rebuilt` what it knows of the rebalance that it makes, `group` the rows and
-//! places of the group that it replaces, `event` the events,
-//! `operation` the operations on a word, `opening` the numbers that a run begins with, `part` the
-//! parts of the table, `limits` the numbers that no encoding names, and `laws` what every line of
-//! the table keeps to.
+//! places of the group that it replaces, `event` the events, `operation` the operations on a word,
+//! `opening` the numbers that a run begins with, `part` the parts of the table, `limits` the
+//! numbers that no encoding names, and `laws` what every line of the table keeps to.
 #![tactic(auto)]
 
 pub mod activity;

@@ -2,8 +2,8 @@
 //!
 //! A rebalance replaces a full row by new ones, alone or together with the row after it: a group of
 //! rows. Its row and that row's least key are the row and the least key of the seat's walk; here is
-//! what it knows beside them. As in `Local` every number
-//! always has a range that holds, so that code may use it whatever the seat does.
+//! what it knows beside them. As in `Local` every number always has a range that holds, so that
+//! code may use it whatever the seat does.
 ghost use Rattle.std.specs.Prelude.{◌≡◌};
 ghost use Rattle.kw_world.specs.Local.{no_rebalance};
 

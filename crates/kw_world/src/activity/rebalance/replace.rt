@@ -1,9 +1,9 @@
-//! The full row is replaced.
+//! The rows of a group are replaced.
 //!
-//! A walk finds the row before it; one exchange of that row's link puts the new rows in its place;
-//! they become normal, and the rows that they replace are retired.
+//! A walk finds the row before the full one; one exchange of that row's link puts the new rows in
+//! the place of the group; they become normal, and the rows that they replace are retired.
 
-/// The full row is replaced.
+/// The rows of the group are replaced.
 #[derive(Clone, Copy, Debug, PartialEq, Eq)]
 pub enum Replace {
     /// Begins the walk to the row before the full one: loads the link to the first row, or the
