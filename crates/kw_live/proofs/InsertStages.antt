@@ -16,7 +16,7 @@ use Rattle.kw_world.specs.ListTransitions.{insert_from, insert_key, insert_past}
 use Rattle.kw_world.specs.Sizes.{product}
 use Rattle.kw_world.specs.Step.{next_of}
 use Rattle.kw_world.specs.Transition.{Outcome, outcome, to}
-use Rattle.kw_core.specs.Stages.{IsAtInsertLink, IsInserting, is_putting}
+use Rattle.kw_core.specs.Stages.{IsAtInsertLink, IsInserting}
 use Rattle.kw_table.specs.declared.pass.Pass.{Pass}
 use Rattle.kw_table.specs.declared.shared.Shared.{Shared}
 use Rattle.kw_table.specs.Passes.{view, Makes}
@@ -33,8 +33,8 @@ use Rattle.kw_follow.proofs.PutEvents.{next_at, put_within}
 use Rattle.kw_follow.proofs.Reaching.{reaches_by, reaches_none, went_by}
 use Rattle.kw_follow.proofs.Resting.{stands}
 use Rattle.kw_live.specs.Beginning.{BeginsInsert}
-use Rattle.kw_live.specs.Putting.{InsertsFurther, put_ahead}
-use Rattle.kw_live.proofs.PutStages.{put_goes}
+use Rattle.kw_live.specs.Putting.{InsertsFurther, is_trying, put_ahead}
+use Rattle.kw_live.proofs.PutStages.{put_goes, trying_puts}
 use Rattle.kw_live.proofs.ReadEvent.{laws_in}
 
 -- a put that stands at a link has reached fewer cells than there are
@@ -44,8 +44,8 @@ put_counts s p l w a at f =
     subst (λ (x : Local). x.walked < CELLS) (sym f.carries)
     ((laws_in p).walked (view p).number k (stands p) (subst IsAtInsertLink (ap (λ (x : Local). x.activity) f.carries) at))
 
--- it is in its row
-link_puts : (a : Activity) → IsAtInsertLink a → is_putting a ≡ true
+-- it is in its row, and not done
+link_puts : (a : Activity) → IsAtInsertLink a → is_trying a ≡ true
 link_puts (Activity.Insert _) at = refl
 link_puts _ at = absurd at
 
@@ -62,14 +62,14 @@ insert_any a None l = refl
 
 -- One event of a pass, and of code that follows it.
 
-module _ {s : Shared} {p q : Pass} {told : ℕ} (l m : Local) (done : StepDone) (f : Follows s p l) (makes : Makes s p Go told q) (put : is_putting l.activity ≡ true) (line : outcome m done ≡ next_of product s.opening.rows Go l told) where
+module _ {s : Shared} {p q : Pass} {told : ℕ} (l m : Local) (done : StepDone) (f : Follows s p l) (makes : Makes s p Go told q) (put : is_trying l.activity ≡ true) (line : outcome m done ≡ next_of product s.opening.rows Go l told) where
   -- code goes on by the table
   went_on : Went s p q Go l m done told
   went_on = went_by l m done f makes line
 
   -- it is in the middle of its call
   within : IsWithinCall l.activity
-  within = put_within l.activity put
+  within = put_within l.activity (trying_puts l.activity put)
 
   going : IsGoingOn l.activity
   going = within_goes l.activity within

@@ -10,12 +10,12 @@ use Rattle.kw_words.specs.declared.sizes.TheConstants.{CELLS}
 use Rattle.kw_words.specs.Count.{count_of}
 use Rattle.kw_words.specs.Pend.{pend_of, pend_word}
 use Rattle.kw_words.proofs.PendWords.{pend_word_of}
-use Rattle.kw_world.specs.declared.answer.Answer.{Answer}
-use Rattle.kw_world.specs.declared.answer.Answer.TheVariants.{Done}
+use Rattle.kw_world.specs.declared.answer.Answer.TheVariants as answer
 use Rattle.kw_world.specs.declared.activity.Activity.{Activity}
 use Rattle.kw_world.specs.declared.activity.rebalance.engage.Engage.TheVariants as Engage
 use Rattle.kw_world.specs.declared.activity.insert.Insert.TheVariants as Insert
 use Rattle.kw_world.specs.declared.activity.put.Put.TheVariants as Put
+use Rattle.kw_world.specs.declared.activity.rebalance.Rebalance.{Rebalance}
 use Rattle.kw_world.specs.declared.activity.rebalance.Rebalance.TheVariants as Rebalance
 use Rattle.kw_world.specs.declared.activity.draw.Draw.TheVariants as Draw
 use Rattle.kw_world.specs.declared.activity.enter.Enter.TheVariants as Enter
@@ -27,16 +27,17 @@ use Rattle.kw_world.specs.declared.activity.rebalance.replace.Replace.TheVariant
 use Rattle.kw_world.specs.declared.activity.rebalance.seek.Seek.TheVariants as Seek
 use Rattle.kw_world.specs.declared.activity.walk.Walk.TheVariants as Walk
 use Rattle.kw_world.specs.declared.activity.rebalance.write.Write.TheVariants as Write
+use Rattle.kw_world.specs.declared.event.Choice.{Choice}
 use Rattle.kw_world.specs.declared.event.Choice.TheVariants.{Go}
 use Rattle.kw_world.specs.declared.event.StepDone.TheVariants.{Moved}
 use Rattle.kw_world.specs.declared.local.Local.{Local}
-use Rattle.kw_world.specs.Transition.{Outcome, outcome, to}
+use Rattle.kw_world.specs.Transition.{Outcome, leave, outcome, to}
 use Rattle.kw_words.specs.Plain.{key_of_word, version_of_word, cell_of_link_word, cell_link_word}
 use Rattle.kw_world.specs.Calls.{first_key}
 use Rattle.kw_world.specs.ListTransitions.{insert_from, insert_past, insert_tried, is_newer}
 use Rattle.kw_core.specs.Stages.{IsBalancing, IsDone, IsInserting}
 use Rattle.kw_world.specs.EngageTransitions.{to_rebalance}
-use Rattle.kw_world.specs.PutTransitions.{has_room, given_of, stamp_seen}
+use Rattle.kw_world.specs.PutTransitions.{has_room, given_of, stamp_seen, tidies_row}
 use Rattle.kw_world.specs.Sane.{IsGiven}
 use Rattle.kw_world.specs.Sizes.{product}
 use Rattle.kw_world.specs.Step.{word, next_of, transition_of}
@@ -51,20 +52,28 @@ use Rattle.kw_follow.specs.Calling.{KeepsCalls}
 use Rattle.kw_follow.specs.Following.{Follows, GoesTo, held}
 use Rattle.kw_follow.specs.Moving.{WentOn}
 use Rattle.kw_follow.specs.OwnEvents.{Saw, SawAs}
+use Rattle.kw_follow.specs.Reaching.{Advances}
 use Rattle.kw_live.specs.Sights.{IsFullCount, SawFull, TellsFull}
-use Rattle.kw_live.specs.Putting.{InsertsFurther, put_ahead}
+use Rattle.kw_world.specs.WalkTransitions.{offered}
+use Rattle.kw_live.specs.declared.putting.TryPut.TheVariants.{Done, Tidies}
+use Rattle.kw_live.specs.Putting.{InsertsFurther, is_trying, put_ahead, stands_after}
 use Rattle.kw_core.specs.Stages.{IsAtInsertLink, is_putting}
 use Rattle.kw_follow.proofs.OwnEvents.{goes_trans, saw_earlier}
 use Rattle.kw_follow.proofs.Reaching.{reaches_none}
 use Rattle.kw_follow.proofs.Untidied.{keeps, untidied}
 use Rattle.kw_follow.proofs.Fronts.{saw_laws, saw_local, saw_told, saw_row_below, local_at}
 
+-- a put that is not done is at its row
+pub trying_puts : (a : Activity) → is_trying a ≡ true → is_putting a ≡ true
+trying_puts (Activity.Put _) t = refl
+trying_puts (Activity.Insert _) t = refl
+trying_puts _ t = true_false t refl
+
 -- What a put has found.
 
 -- what it has found where it stands: that its row is full, if it is about to rebalance it. Else it
--- is done, or still at its row
+-- is still at its row
 abbrev pub HasFound : Pass → Pass → Activity → Type 0
-HasFound p q (Activity.Leave Done) = Unit {0}
 HasFound p q (Activity.Rebalance (Rebalance.Engage Engage.Clock)) = SawFull p q
 HasFound p q a = is_putting a ≡ true
 
@@ -186,8 +195,8 @@ module _ (s : Shared) (o p q : Pass) (l m : Local) (rows told : ℕ) (was : Goes
   from_exchange true is e = goes_on o q m (Activity.Put Put.Clear) _ (ap (λ (x : Local). x.activity) e) refl (omega arith)
   from_exchange false is e = goes_on o q m (Activity.Insert Insert.Start) _ (ap (λ (x : Local). x.activity) e) refl (omega (arith, has_lost is, ap (λ (x : Local). x.walked) e, ap (λ (x : Local). x.lost) e))
 
-  -- an event of a put takes it on
-  event : (a : Activity) → l.activity ≡ a → is_putting a ≡ true → GoesOn o q m (put_ahead a l.walked l.lost)
+  -- an event of a put that is not done takes it on
+  event : (a : Activity) → l.activity ≡ a → is_trying a ≡ true → GoesOn o q m (put_ahead a l.walked l.lost)
   unfolding here
   event (Activity.Put Put.Count) is put = asks (has_room product (count_of told)) refl is (next_is rows (Activity.Put Put.Count) l m told is line)
   event (Activity.Put Put.Add) is put = adds (has_room product (count_of told)) refl is (next_is rows (Activity.Put Put.Add) l m told is line)
@@ -204,11 +213,10 @@ module _ (s : Shared) (o p q : Pass) (l m : Local) (rows told : ℕ) (was : Goes
   event (Activity.Insert Insert.Version) is put = from_version (is_newer (unwrap_or (version_of_word told) 0) l.place l) (local_is rows (Activity.Insert Insert.Version) l m told is line)
   event (Activity.Insert Insert.Set) is put = goes_on o q m (Activity.Insert Insert.Exchange) _ (next_is rows (Activity.Insert Insert.Set) l m told is line) refl (omega (arith, ap (λ (x : Local). x.lost) (local_is rows (Activity.Insert Insert.Set) l m told is line)))
   event (Activity.Insert Insert.Exchange) is put = from_exchange (told == cell_link_word l.held) is (local_is rows (Activity.Insert Insert.Exchange) l m told is line)
-  event (Activity.Put Put.Clear) is put = goes_on o q m (Activity.Leave Done) _ (next_is rows (Activity.Put Put.Clear) l m told is line) tt (omega arith)
   event _ is put = true_false put refl
 
   -- nor does the put tidy by it
-  work : (a : Activity) → is_putting a ≡ true → ((transition product a 0 Go l).next rows told).local.tidies ≡ l.tidies
+  work : (a : Activity) → is_trying a ≡ true → ((transition product a 0 Go l).next rows told).local.tidies ≡ l.tidies
   work (Activity.Put Put.Count) put = keeps product (Activity.Put Put.Count) 0 Go l rows told tt
   work (Activity.Put Put.Add) put = keeps product (Activity.Put Put.Add) 0 Go l rows told tt
   work (Activity.Put Put.Announce) put = keeps product (Activity.Put Put.Announce) 0 Go l rows told tt
@@ -233,25 +241,57 @@ module _ (s : Shared) (o p q : Pass) (l m : Local) (rows told : ℕ) (was : Goes
   work (Activity.Rebalance (Rebalance.Replace Replace.First)) put = true_false put refl
   work _ put = true_false put refl
 
-  pub put_tidies : is_putting l.activity ≡ true → m.tidies ≡ l.tidies
+  pub put_tidies : is_trying l.activity ≡ true → m.tidies ≡ l.tidies
   put_tidies put = ap (λ (k : Local). k.tidies) (local_is rows l.activity l m told refl line) ∙ work l.activity put
 
   -- the same, at the activity where it is
-  pub put_goes : is_putting l.activity ≡ true → GoesOn o q m (put_ahead l.activity l.walked l.lost)
+  pub put_goes : is_trying l.activity ≡ true → GoesOn o q m (put_ahead l.activity l.walked l.lost)
   put_goes = event l.activity refl
 
--- Where a put stands that has ended at its row.
+-- Where a put stands that tries no more.
 
--- one that leaves is done
-pub leaves_done : (p q : Pass) (x : Answer) → HasFound p q (Activity.Leave x) → x ≡ Done
-leaves_done p q Done h = refl
-leaves_done p q _ h = true_false h refl
+-- at its row, and done
+pub is_cleared : (p q : Pass) (a : Activity) → HasFound p q a → is_trying a ≡ false → ((x : Rebalance) → a ≡ Activity.Rebalance x → ⊥) → a ≡ Activity.Put Put.Clear
+is_cleared p q (Activity.Put Put.Clear) h over stays = refl
+is_cleared p q (Activity.Put _) h over stays = true_false refl over
+is_cleared p q (Activity.Insert _) h over stays = true_false refl over
+is_cleared p q (Activity.Rebalance x) h over stays = absurd (stays x refl)
+is_cleared p q _ h over stays = true_false h refl
 
--- one that does not is about to rebalance its row, and has found it full
-pub stands_full : (p q : Pass) (a : Activity) → HasFound p q a → is_putting a ≡ false → ((x : Answer) → a ≡ Activity.Leave x → ⊥) → (a ≡ Activity.Rebalance (Rebalance.Engage Engage.Clock)) × SawFull p q
-stands_full p q (Activity.Leave x) h over stays = absurd (stays x refl)
-stands_full p q (Activity.Rebalance (Rebalance.Engage Engage.Clock)) h over stays = (refl, h)
-stands_full p q _ h over stays = true_false h over
+-- or about to rebalance it, and it has found it full
+pub stands_full : (p q : Pass) (a : Activity) (x : Rebalance) → HasFound p q a → a ≡ Activity.Rebalance x → (a ≡ Activity.Rebalance (Rebalance.Engage Engage.Clock)) × SawFull p q
+stands_full p q a x h is = (is ∙ ap Activity.Rebalance (at x g), saw x g)
+  where
+    g : HasFound p q (Activity.Rebalance x)
+    g = subst (HasFound p q) is h
+
+    at : (x : Rebalance) → HasFound p q (Activity.Rebalance x) → x ≡ Rebalance.Engage Engage.Clock
+    at (Rebalance.Engage Engage.Clock) h = refl
+    at _ h = true_false h refl
+
+    saw : (x : Rebalance) → HasFound p q (Activity.Rebalance x) → SawFull p q
+    saw (Rebalance.Engage Engage.Clock) h = h
+    saw _ h = true_false h refl
+
+-- By its last event at its row it leaves, or tidies its row.
+
+-- a put that is to clear its entry does not tidy
+pub clears_untidied : (s : Shared) (p : Pass) (l : Local) → Follows s p l → l.activity ≡ Activity.Put Put.Clear → l.tidies ≡ false
+clears_untidied s p l f is = untidied s p l f puts
+  where
+    puts : IsBalancing l.activity ⊎ IsDone l.activity → ⊥
+    puts (inl b) = subst IsBalancing is b
+    puts (inr d) = subst IsDone is d
+
+pub clears : {s : Shared} {p q : Pass} {l m : Local} {c : Choice} → Follows s p l → l.activity ≡ Activity.Put Put.Clear → WentOn s p l c q m → m.activity ≡ stands_after (if m.tidies then Tidies else Done)
+unfolding transition_of
+clears {s} {p} {q} {l} {m} {c} f is w =
+    by (tidies_row (view p).opening.rows (offered (view p).opening.rows c) l)
+    (ap (λ (x : Outcome). x.local) (w.line ∙ ap (λ b. (transition product b 0 (offered (view p).opening.rows c) l).next (view p).opening.rows w.told) is))
+  where
+    by : (b : Bool) → m ≡ (let x : Outcome = if b then to_rebalance (record l { tidies = true }) else leave answer.Done l in x).local → m.activity ≡ stands_after (if m.tidies then Tidies else Done)
+    by true e = ap (λ (k : Local). k.activity) e ∙ sym (ap (λ (k : Local). stands_after (if k.tidies then Tidies else Done)) e)
+    by false e = ap (λ (k : Local). k.activity) e ∙ sym (ap (λ (k : Local). stands_after (if k.tidies then Tidies else Done)) e ∙ ap (λ b. stands_after (if b then Tidies else Done)) (clears_untidied s p l f is))
 
 -- What stays through all events of a put.
 pub record IsTrying (s : Shared) (o p : Pass) (l : Local) : Type 0 where
@@ -282,7 +322,7 @@ pub record Tries (s : Shared) (o q : Pass) (m : Local) (ahead : ℕ) : Type 0 wh
   pub trying : IsTrying s o q m
   pub fewer : put_ahead m.activity m.walked m.lost < ahead
 
-pub tries_on : {s : Shared} {o p q : Pass} {l m : Local} → IsTrying s o p l → is_putting l.activity ≡ true → WentOn s p l Go q m → Tries s o q m (put_ahead l.activity l.walked l.lost)
+pub tries_on : {s : Shared} {o p q : Pass} {l m : Local} → IsTrying s o p l → is_trying l.activity ≡ true → WentOn s p l Go q m → Tries s o q m (put_ahead l.activity l.walked l.lost)
 tries_on {s} {o} {p} {q} {l} {m} t put w =
     let on = put_goes s o p q l m (view p).opening.rows w.told t.goes w.goes w.saw w.line put in
     record {
@@ -321,3 +361,7 @@ tries_further s o p q l m t more = record {
   };
   fewer = more.fewer;
 }
+
+-- an event behind the last of them goes on from its beginning
+pub tried_on : {s : Shared} {o p q : Pass} {l m : Local} → IsTrying s o p l → Advances s p q m → Advances s o q m
+tried_on {s} {o} {p} {q} t on = record { goes = goes_trans s o p q t.goes on.goes; follows = on.follows; calls = on.calls ∙ t.calls; held = on.held ∙ t.held }

@@ -1,5 +1,5 @@
 -- How a put or a delete goes through its row, and how it ends there.
-use Rattle.std.specs.Prelude.{◌≡◌, ℕ, ◌+◌, ◌*◌, ◌-◌, ◌<◌}
+use Rattle.std.specs.Prelude.{◌≡◌, Bool, true, false, ℕ, ◌+◌, ◌*◌, ◌-◌, ◌<◌}
 use Rattle.kw_words.specs.declared.sizes.TheConstants.{CELLS}
 use Rattle.kw_world.specs.declared.answer.Answer.TheVariants as answer
 use Rattle.kw_world.specs.declared.activity.Activity.{Activity}
@@ -12,19 +12,34 @@ use Rattle.kw_core.specs.Stages.{IsInserting}
 use Rattle.kw_follow.specs.Calling.{KeepsCalls}
 use Rattle.kw_follow.specs.Following.{Follows, GoesTo, held}
 use Rattle.kw_live.specs.declared.putting.TryPut.{TryPut}
-use Rattle.kw_live.specs.declared.putting.TryPut.TheVariants.{Done, RowFull}
+use Rattle.kw_live.specs.declared.putting.TryPut.TheVariants.{Done, Tidies, RowFull}
 use Rattle.kw_table.specs.declared.pass.Pass.{Pass}
 use Rattle.kw_table.specs.declared.shared.Shared.{Shared}
 use Rattle.kw_live.specs.Sights.{SawFull}
 
+-- the put is at its row, and not done
+abbrev pub is_trying : Activity → Bool
+is_trying (Activity.Put Put.Clear) = false
+is_trying (Activity.Put _) = true
+is_trying (Activity.Insert _) = true
+is_trying _ = false
+
 -- where a put or a delete stands that ended so at its row
 abbrev pub stands_after : TryPut → Activity
 stands_after Done = Activity.Leave answer.Done
+stands_after Tidies = Activity.Rebalance (Rebalance.Engage Engage.Clock)
 stands_after (RowFull row) = Activity.Rebalance (Rebalance.Engage Engage.Clock)
+
+-- whether it tidies its row
+abbrev pub tidies_after : TryPut → Bool
+tidies_after Done = false
+tidies_after Tidies = true
+tidies_after (RowFull row) = false
 
 -- the put found its row full
 abbrev pub Tried : Pass → Pass → ℕ → TryPut → Type 0
 Tried p q row Done = Unit {0}
+Tried p q row Tidies = Unit {0}
 Tried p q row (RowFull full) = (full ≡ row) × SawFull p q
 
 -- how many events a put makes at most from one exchange that it loses to the next, but for the one

@@ -1,6 +1,6 @@
 -- A rebalance that gathers the full row, seeks free ones or writes a new one goes on by each
 -- stretch of such events.
-use Rattle.std.proofs.Common.{◌≡◌, ℕ, ◌∙◌, ap, refl, subst, sym}
+use Rattle.std.proofs.Common.{◌≡◌, ℕ, false, ◌∙◌, ap, refl, subst, sym}
 use Rattle.kw_world.specs.declared.activity.Activity.{Activity}
 use Rattle.kw_world.specs.declared.activity.rebalance.Rebalance.TheVariants as Rebalance
 use Rattle.kw_world.specs.declared.activity.rebalance.replace.Replace.TheVariants as Replace
@@ -16,15 +16,15 @@ use Rattle.kw_table.specs.declared.shared.Shared.{Shared}
 use Rattle.kw_table.specs.Passes.{view, Makes}
 use Rattle.kw_follow.specs.declared.seeking.Search.{Search}
 use Rattle.kw_follow.specs.BuildsOn.{IsBuildingOn}
-use Rattle.kw_follow.specs.Following.{Follows}
 use Rattle.kw_follow.specs.Moving.{WentOn}
 use Rattle.kw_follow.specs.Searches.{seeking_at}
 use Rattle.kw_follow.specs.Reaching.{Advances}
 use Rattle.kw_follow.proofs.Moving.{moves, went_on}
 use Rattle.kw_follow.proofs.OwnEvents.{goes_trans}
+use Rattle.kw_follow.proofs.Reaching.{advances_on, advances_trans}
 use Rattle.kw_live_rebal.specs.Standing.{GoesOn, HasSeenCause, Rebalances}
 use Rattle.kw_live_rebal.proofs.Sightings.{search_on}
-use Rattle.kw_live_rebal.proofs.Stages.{keeps_seen, stays_untidied}
+use Rattle.kw_live_rebal.proofs.Stages.{keeps_seen, work_on}
 
 -- nothing was to be reached where it stands after a stretch
 built_met : (o q : Pass) (a : Activity) (m : Local) → IsBuildingOn a → HasSeenCause o q a m
@@ -35,14 +35,13 @@ built_met o q (Activity.Rebalance (Rebalance.Replace Replace.Start)) m h = tt
 built_met o q _ m h = absurd h
 
 -- the full row was gathered, or a new one written
-pub stretch_goes_on : {s : Shared} {p q : Pass} {l m : Local} → Advances s p q m → m.tidies ≡ l.tidies → IsBuildingOn m.activity → GoesOn s p l q m
-stretch_goes_on {s} {p} {q} {l} {m} b tidies stands o r = record {
+pub stretch_goes_on : {s : Shared} {p q : Pass} {l m : Local} → Advances s p q m → IsBuildingOn m.activity → GoesOn s p l q m
+stretch_goes_on {s} {p} {q} {l} {m} b stands o r = record {
   goes = goes_trans _ _ _ _ r.goes b.goes;
   follows = b.follows;
   calls = b.calls ∙ r.calls;
   held = b.held ∙ r.held;
-  saw = built_met o q m.activity m stands;
-  untidied = tidies ∙ r.untidied;
+  saw = λ undone. built_met o q m.activity m stands;
 }
 
 -- rows in use were gone by
@@ -52,19 +51,10 @@ search_goes_on {s} {p} {q} {l} x is b o r = record {
   follows = b.follows;
   calls = b.calls ∙ r.calls;
   held = b.held ∙ r.held;
-  saw = search_on o b.goes (subst (λ a. HasSeenCause o p a l) is r.saw);
-  untidied = r.untidied;
+  saw = λ undone. search_on o b.goes (subst (λ a. HasSeenCause o p a l) is (r.saw undone));
 }
 
 -- The row with which a stretch ends.
-
--- it asks for a state, and does nothing else
-abbrev IsElsewhere : Activity → Type 0
-IsElsewhere (Activity.Rebalance (Rebalance.Seek Seek.Next)) = ⊥
-IsElsewhere _ = Unit {0}
-
-seeks_no_more : (a : Activity) → Activity.Rebalance (Rebalance.Seek Seek.Next) ≡ a → IsElsewhere a → ⊥
-seeks_no_more a e h = subst IsElsewhere (sym e) h
 
 module _ {s : Shared} {p q r : Pass} {told : ℕ} (x : Search) (l k m : Local) (done : StepDone) (rows : ℕ) (is : l.activity ≡ Activity.Rebalance (Rebalance.Seek Seek.Next)) (same : k ≡ l) (counts : rows ≡ s.opening.rows) (b : Advances s p q (seeking_at x k)) (makes : Makes s q Go told r) (line : outcome m done ≡ next_of product rows Go (seeking_at x k) told) where
   before : Advances s p q (seeking_at x l)
@@ -73,8 +63,11 @@ module _ {s : Shared} {p q r : Pass} {told : ℕ} (x : Search) (l k m : Local) (
   row_went : WentOn s q (seeking_at x l) Go r m
   row_went = went_on before.follows tt (moves makes (line ∙ (ap (λ (n : Local). next_of product rows Go (seeking_at x n) told) same ∙ ap (λ n. next_of product n Go (seeking_at x l) told) counts)))
 
-  pub row_follows : Follows s r m
-  row_follows = row_went.follows
+  pub row_advances : Advances s p r m
+  row_advances = advances_trans before (advances_on row_went refl)
+
+  pub row_tidies : m.tidies ≡ l.tidies
+  row_tidies = work_on (seeking_at x l) m Go (view q).opening.rows row_went.told row_went.line tt
 
   pub row_goes_on : GoesOn s p l r m
   row_goes_on o u =
@@ -85,6 +78,7 @@ module _ {s : Shared} {p q r : Pass} {told : ℕ} (x : Search) (l k m : Local) (
         follows = w.follows;
         calls = w.calls ∙ v.calls;
         held = w.held refl ∙ v.held;
-        saw = keeps_seen s o q r (seeking_at x l) m Go (view q).opening.rows w.told v.goes w.goes w.saw w.line refl v.untidied v.saw (λ e. seeks_no_more (Activity.Rebalance (Rebalance.Replace Replace.Normalise)) e tt) (λ e. seeks_no_more Activity.Retry e tt) (λ y e. seeks_no_more (Activity.Leave y) e tt);
-        untidied = stays_untidied o q (seeking_at x l) m Go (view q).opening.rows w.told w.line v.saw (λ e. seeks_no_more Activity.Retry e tt) (λ y e. seeks_no_more (Activity.Leave y) e tt) v.untidied;
+        saw = λ undone.
+            let put : l.tidies ≡ false = sym row_tidies ∙ undone in
+            keeps_seen s o q r (seeking_at x l) m Go (view q).opening.rows w.told v.goes w.goes w.saw w.line refl put (v.saw put) refl;
       }

@@ -20,21 +20,12 @@ use Rattle.kw_table.specs.Views.{local_in}
 use Rattle.kw_table.proofs.Prefixes.{prefix_trans}
 use Rattle.kw_follow.specs.Calling.{now_in}
 use Rattle.kw_follow.specs.Following.{Follows, GoesTo}
-use Rattle.kw_follow.specs.Within.{IsWithinCall}
 use Rattle.kw_follow.proofs.Fronts.{acts_of_saw, seat_within}
 use Rattle.kw_follow.proofs.OneEvent.{same_activity}
 use Rattle.kw_live_rebal.specs.declared.rebalancing.Rebalanced.{Rebalanced}
 use Rattle.kw_live_rebal.specs.declared.rebalancing.Rebalanced.TheVariants.{NoRows, Spent}
 use Rattle.kw_live_rebal.specs.Rebalancing.{HasEnded, SawNoRows, SawReplaced, SawSpent, SawWon, stands_after}
 use Rattle.kw_live_rebal.specs.Standing.{HasSeenCause, SawSearch}
-
--- an event of a rebalance that is not over is one in the middle of a call
-pub within : (o p : Pass) (l : Local) (a : Activity) → HasSeenCause o p a l → ((x : Answer) → a ≡ Activity.Leave x → ⊥) → IsWithinCall a
-within o p l (Activity.Leave x) h n = absurd (n x refl)
-within o p l Activity.Idle h n = absurd h
-within o p l (Activity.Read _) h n = absurd h
-within o p l (Activity.EndScan answer) h n = absurd h
-within o p l _ h n = tt
 
 -- What was seen earlier is seen.
 

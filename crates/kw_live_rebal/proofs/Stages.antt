@@ -30,7 +30,6 @@ use Rattle.kw_world.specs.declared.activity.rebalance.replace.Replace.TheVariant
 use Rattle.kw_world.specs.declared.activity.rebalance.seek.Seek.TheVariants as Seek
 use Rattle.kw_world.specs.declared.activity.rebalance.write.Write.TheVariants as Write
 use Rattle.kw_world.specs.declared.activity.look.Look.TheVariants as Look
-use Rattle.kw_world.specs.declared.activity.put.Put.TheVariants as Put
 use Rattle.kw_world.specs.declared.event.Choice.{Choice}
 use Rattle.kw_world.specs.declared.event.Choice.TheVariants.{Begin, Go, Guess, Stop}
 use Rattle.kw_world.specs.declared.event.Event.{Event}
@@ -74,8 +73,8 @@ use Rattle.kw_follow.specs.Following.{GoesTo}
 use Rattle.kw_follow.specs.OwnEvents.{Saw, SawAs, knew, transition_after}
 use Rattle.kw_follow.proofs.Fronts.{local_at, saw_laws, saw_local, saw_told}
 use Rattle.kw_live_rebal.specs.Rebalancing.{IsRetired, IsWalkEnd, SawReplaced, SawSpent, SawWon, TellsReplaced}
-use Rattle.kw_live_rebal.specs.Standing.{HasSeenCause, SawSearch}
-use Rattle.kw_follow.proofs.Untidied.{IsAtWork, balancing_works, keeps}
+use Rattle.kw_live_rebal.specs.Standing.{HasSeenCause, SawSearch, ends_rebuild}
+use Rattle.kw_follow.proofs.Untidied.{IsAtWork, keeps}
 use Rattle.kw_live_rebal.proofs.Sightings.{replaced_on, search_on}
 
 -- what an event is told by the line of this table, for this seat and this choice, after these
@@ -465,91 +464,72 @@ module _ (s : Shared) (o p q : Pass) (l m : Local) (c : Choice) (rows told : ℕ
 
   -- Each event.
 
-  event_at : (a : Activity) → l.activity ≡ a → HasSeenCause o p a l → (a ≡ Activity.Rebalance (Rebalance.Replace Replace.Normalise) → ⊥) → (a ≡ Activity.Retry → ⊥) → ((x : Answer) → a ≡ Activity.Leave x → ⊥) → HasSeenCause o q m.activity m
+  event_at : (a : Activity) → l.activity ≡ a → HasSeenCause o p a l → ends_rebuild a ≡ false → HasSeenCause o q m.activity m
   unfolding here
-  event_at (Activity.Rebalance (Rebalance.Engage Engage.Clock)) is h n g e = so _ (next_is (Activity.Rebalance (Rebalance.Engage Engage.Clock)) is) (both (nat_le SPENT told) _ _ (λ f. is_refused Spent l undone (spent_here (Activity.Rebalance (Rebalance.Engage Engage.Clock)) is (inl refl) (let full : nat_le SPENT told ≡ true = f in grind (arith, nat_tests)))) (λ f. record { saw = tt }))
-  event_at (Activity.Rebalance (Rebalance.Engage Engage.Epoch)) is h n g e = so _ (next_is (Activity.Rebalance (Rebalance.Engage Engage.Epoch)) is) (both (nat_le SPENT told) _ _ (λ f. is_refused Spent l undone (spent_here (Activity.Rebalance (Rebalance.Engage Engage.Epoch)) is (inr refl) (let full : nat_le SPENT told ≡ true = f in grind (arith, nat_tests)))) (λ f. record { saw = tt }))
-  event_at (Activity.Rebalance (Rebalance.Engage Engage.State)) is h n g e = so _ (next_is (Activity.Rebalance (Rebalance.Engage Engage.State)) is) (states (state_of told) refl is (stated_here (Activity.Rebalance (Rebalance.Engage Engage.State)) is tt (reads_here (Activity.Rebalance (Rebalance.Engage Engage.State)) is _ refl)))
-  event_at (Activity.Rebalance (Rebalance.Engage (Engage.Normal seat))) is h n g e = so _ (next_is (Activity.Rebalance (Rebalance.Engage (Engage.Normal seat))) is) record { saw = tt }
-  event_at (Activity.Rebalance (Rebalance.Engage Engage.Lead)) is h n g e = so _ (next_is (Activity.Rebalance (Rebalance.Engage Engage.Lead)) is) (engages (told == state_word Normal))
-  event_at (Activity.Rebalance (Rebalance.Engage (Engage.MarkLink count))) is h n g e = so _ (next_is (Activity.Rebalance (Rebalance.Engage (Engage.MarkLink count))) is) (marks_link count (row_linked (link_of told)))
-  event_at (Activity.Rebalance (Rebalance.Engage (Engage.Decide count))) is h n g e = so _ (next_is (Activity.Rebalance (Rebalance.Engage (Engage.Decide count))) is) (decides count (state_of told) refl is (stated_here (Activity.Rebalance (Rebalance.Engage (Engage.Decide count))) is tt (reads_here (Activity.Rebalance (Rebalance.Engage (Engage.Decide count))) is _ refl)))
-  event_at (Activity.Rebalance (Rebalance.Claim Claim.Count)) is h n g e = so _ (next_is (Activity.Rebalance (Rebalance.Claim Claim.Count)) is) (record { saw = tt })
-  event_at (Activity.Rebalance (Rebalance.Claim Claim.Exchange)) is h n g e = so _ (next_is (Activity.Rebalance (Rebalance.Claim Claim.Exchange)) is) (claims_row (state_of told) refl is (stated_here (Activity.Rebalance (Rebalance.Claim Claim.Exchange)) is tt (reads_here (Activity.Rebalance (Rebalance.Claim Claim.Exchange)) is _ refl)))
-  event_at (Activity.Rebalance (Rebalance.Claim (Claim.Normal seat))) is h n g e = so _ (next_is (Activity.Rebalance (Rebalance.Claim (Claim.Normal seat))) is) (record { saw = tt })
-  event_at (Activity.Rebalance (Rebalance.Claim Claim.MarkLink)) is h n g e = so _ (next_is (Activity.Rebalance (Rebalance.Claim Claim.MarkLink)) is) (record { saw = tt })
-  event_at (Activity.Rebalance (Rebalance.Left Left.Start)) is h n g e = so _ (next_is (Activity.Rebalance (Rebalance.Left Left.Start)) is) (goes_left (offered rows c) refl is)
-  event_at (Activity.Rebalance (Rebalance.Left Left.Next)) is h n g e = so _ (next_is (Activity.Rebalance (Rebalance.Left Left.Next)) is) (links_left (row_linked (link_of told)) refl is (walk_ends_here (Activity.Rebalance (Rebalance.Left Left.Next)) is tt (reads_here (Activity.Rebalance (Rebalance.Left Left.Next)) is _ refl)))
-  event_at (Activity.Rebalance (Rebalance.Left Left.NextLeast)) is h n g e = so _ (next_is (Activity.Rebalance (Rebalance.Left Left.NextLeast)) is) (leasts_left is (walk_goes_by_here (Activity.Rebalance (Rebalance.Left Left.NextLeast)) is tt (reads_here (Activity.Rebalance (Rebalance.Left Left.NextLeast)) is _ refl)))
-  event_at (Activity.Rebalance (Rebalance.Freeze Freeze.Count)) is h n g e = so _ (next_is (Activity.Rebalance (Rebalance.Freeze Freeze.Count)) is) record { saw = tt }
-  event_at (Activity.Rebalance (Rebalance.Freeze (Freeze.Look i))) is h n g e = so _ (next_is (Activity.Rebalance (Rebalance.Freeze (Freeze.Look i))) is) (freezes i (pend_of told))
-  event_at (Activity.Rebalance (Rebalance.Freeze (Freeze.Entry i))) is h n g e = so _ (next_is (Activity.Rebalance (Rebalance.Freeze (Freeze.Entry i))) is) (tries_entry i (told == pend_word l.rebalance.entry))
-  event_at (Activity.Rebalance (Rebalance.Freeze (Freeze.Scan i))) is h n g e = so _ (next_is (Activity.Rebalance (Rebalance.Freeze (Freeze.Scan i))) is) (scans i (scan_of told))
-  event_at (Activity.Rebalance (Rebalance.Freeze (Freeze.Draw i))) is h n g e = so _ (next_is (Activity.Rebalance (Rebalance.Freeze (Freeze.Draw i))) is) record { saw = tt }
-  event_at (Activity.Rebalance (Rebalance.Freeze (Freeze.Settle i))) is h n g e = so _ (next_is (Activity.Rebalance (Rebalance.Freeze (Freeze.Settle i))) is) (helps i (scan_of told))
-  event_at (Activity.Rebalance (Rebalance.Gather Gather.Link)) is h n g e = so _ (next_is (Activity.Rebalance (Rebalance.Gather Gather.Link)) is) (takes_cell (cell_of_link_word told))
-  event_at (Activity.Rebalance (Rebalance.Gather Gather.Key)) is h n g e = so _ (next_is (Activity.Rebalance (Rebalance.Gather Gather.Key)) is) record { saw = tt }
-  event_at (Activity.Rebalance (Rebalance.Gather Gather.Version)) is h n g e = so _ (next_is (Activity.Rebalance (Rebalance.Gather Gather.Version)) is) record { saw = tt }
-  event_at (Activity.Rebalance (Rebalance.Gather Gather.Value)) is h n g e = so _ (next_is (Activity.Rebalance (Rebalance.Gather Gather.Value)) is) record { saw = tt }
-  event_at (Activity.Rebalance (Rebalance.Gather Gather.LeftOverKey)) is h n g e = so _ (next_is (Activity.Rebalance (Rebalance.Gather Gather.LeftOverKey)) is) record { saw = tt }
-  event_at (Activity.Rebalance (Rebalance.Gather Gather.LeftOverValue)) is h n g e = so _ (next_is (Activity.Rebalance (Rebalance.Gather Gather.LeftOverValue)) is) (left (least_mark l.rebalance.marks) (keeping product (value_of_word told) l))
-  event_at (Activity.Rebalance (Rebalance.Seek Seek.First)) is h n g e = so _ (next_is (Activity.Rebalance (Rebalance.Seek Seek.First)) is) (first_seeks (offered rows c) (searches_here is))
-  event_at (Activity.Rebalance (Rebalance.Seek Seek.Next)) is h n g e = so _ (next_is (Activity.Rebalance (Rebalance.Seek Seek.Next)) is) (seeks (state_of told) (seeking l.rebalance.sought l) undone (search_on o goes h))
-  event_at (Activity.Rebalance (Rebalance.Seek (Seek.Pass i))) is h n g e = so _ (next_is (Activity.Rebalance (Rebalance.Seek (Seek.Pass i))) is) (passes i (pass_of_word told) (search_on o goes h))
-  event_at (Activity.Rebalance (Rebalance.Seek Seek.Reclaim)) is h n g e = so _ (next_is (Activity.Rebalance (Rebalance.Seek Seek.Reclaim)) is) (record { saw = search_on o goes h })
-  event_at (Activity.Rebalance (Rebalance.Seek Seek.Take)) is h n g e = so _ (next_is (Activity.Rebalance (Rebalance.Seek Seek.Take)) is) (takes (told == state_word Free) (search_on o goes h))
-  event_at (Activity.Rebalance (Rebalance.Seek Seek.GiveBack)) is h n g e =
+  event_at (Activity.Rebalance (Rebalance.Engage Engage.Clock)) is h u = so _ (next_is (Activity.Rebalance (Rebalance.Engage Engage.Clock)) is) (both (nat_le SPENT told) _ _ (λ f. is_refused Spent l undone (spent_here (Activity.Rebalance (Rebalance.Engage Engage.Clock)) is (inl refl) (let full : nat_le SPENT told ≡ true = f in grind (arith, nat_tests)))) (λ f. record { saw = tt }))
+  event_at (Activity.Rebalance (Rebalance.Engage Engage.Epoch)) is h u = so _ (next_is (Activity.Rebalance (Rebalance.Engage Engage.Epoch)) is) (both (nat_le SPENT told) _ _ (λ f. is_refused Spent l undone (spent_here (Activity.Rebalance (Rebalance.Engage Engage.Epoch)) is (inr refl) (let full : nat_le SPENT told ≡ true = f in grind (arith, nat_tests)))) (λ f. record { saw = tt }))
+  event_at (Activity.Rebalance (Rebalance.Engage Engage.State)) is h u = so _ (next_is (Activity.Rebalance (Rebalance.Engage Engage.State)) is) (states (state_of told) refl is (stated_here (Activity.Rebalance (Rebalance.Engage Engage.State)) is tt (reads_here (Activity.Rebalance (Rebalance.Engage Engage.State)) is _ refl)))
+  event_at (Activity.Rebalance (Rebalance.Engage (Engage.Normal seat))) is h u = so _ (next_is (Activity.Rebalance (Rebalance.Engage (Engage.Normal seat))) is) record { saw = tt }
+  event_at (Activity.Rebalance (Rebalance.Engage Engage.Lead)) is h u = so _ (next_is (Activity.Rebalance (Rebalance.Engage Engage.Lead)) is) (engages (told == state_word Normal))
+  event_at (Activity.Rebalance (Rebalance.Engage (Engage.MarkLink count))) is h u = so _ (next_is (Activity.Rebalance (Rebalance.Engage (Engage.MarkLink count))) is) (marks_link count (row_linked (link_of told)))
+  event_at (Activity.Rebalance (Rebalance.Engage (Engage.Decide count))) is h u = so _ (next_is (Activity.Rebalance (Rebalance.Engage (Engage.Decide count))) is) (decides count (state_of told) refl is (stated_here (Activity.Rebalance (Rebalance.Engage (Engage.Decide count))) is tt (reads_here (Activity.Rebalance (Rebalance.Engage (Engage.Decide count))) is _ refl)))
+  event_at (Activity.Rebalance (Rebalance.Claim Claim.Count)) is h u = so _ (next_is (Activity.Rebalance (Rebalance.Claim Claim.Count)) is) (record { saw = tt })
+  event_at (Activity.Rebalance (Rebalance.Claim Claim.Exchange)) is h u = so _ (next_is (Activity.Rebalance (Rebalance.Claim Claim.Exchange)) is) (claims_row (state_of told) refl is (stated_here (Activity.Rebalance (Rebalance.Claim Claim.Exchange)) is tt (reads_here (Activity.Rebalance (Rebalance.Claim Claim.Exchange)) is _ refl)))
+  event_at (Activity.Rebalance (Rebalance.Claim (Claim.Normal seat))) is h u = so _ (next_is (Activity.Rebalance (Rebalance.Claim (Claim.Normal seat))) is) (record { saw = tt })
+  event_at (Activity.Rebalance (Rebalance.Claim Claim.MarkLink)) is h u = so _ (next_is (Activity.Rebalance (Rebalance.Claim Claim.MarkLink)) is) (record { saw = tt })
+  event_at (Activity.Rebalance (Rebalance.Left Left.Start)) is h u = so _ (next_is (Activity.Rebalance (Rebalance.Left Left.Start)) is) (goes_left (offered rows c) refl is)
+  event_at (Activity.Rebalance (Rebalance.Left Left.Next)) is h u = so _ (next_is (Activity.Rebalance (Rebalance.Left Left.Next)) is) (links_left (row_linked (link_of told)) refl is (walk_ends_here (Activity.Rebalance (Rebalance.Left Left.Next)) is tt (reads_here (Activity.Rebalance (Rebalance.Left Left.Next)) is _ refl)))
+  event_at (Activity.Rebalance (Rebalance.Left Left.NextLeast)) is h u = so _ (next_is (Activity.Rebalance (Rebalance.Left Left.NextLeast)) is) (leasts_left is (walk_goes_by_here (Activity.Rebalance (Rebalance.Left Left.NextLeast)) is tt (reads_here (Activity.Rebalance (Rebalance.Left Left.NextLeast)) is _ refl)))
+  event_at (Activity.Rebalance (Rebalance.Freeze Freeze.Count)) is h u = so _ (next_is (Activity.Rebalance (Rebalance.Freeze Freeze.Count)) is) record { saw = tt }
+  event_at (Activity.Rebalance (Rebalance.Freeze (Freeze.Look i))) is h u = so _ (next_is (Activity.Rebalance (Rebalance.Freeze (Freeze.Look i))) is) (freezes i (pend_of told))
+  event_at (Activity.Rebalance (Rebalance.Freeze (Freeze.Entry i))) is h u = so _ (next_is (Activity.Rebalance (Rebalance.Freeze (Freeze.Entry i))) is) (tries_entry i (told == pend_word l.rebalance.entry))
+  event_at (Activity.Rebalance (Rebalance.Freeze (Freeze.Scan i))) is h u = so _ (next_is (Activity.Rebalance (Rebalance.Freeze (Freeze.Scan i))) is) (scans i (scan_of told))
+  event_at (Activity.Rebalance (Rebalance.Freeze (Freeze.Draw i))) is h u = so _ (next_is (Activity.Rebalance (Rebalance.Freeze (Freeze.Draw i))) is) record { saw = tt }
+  event_at (Activity.Rebalance (Rebalance.Freeze (Freeze.Settle i))) is h u = so _ (next_is (Activity.Rebalance (Rebalance.Freeze (Freeze.Settle i))) is) (helps i (scan_of told))
+  event_at (Activity.Rebalance (Rebalance.Gather Gather.Link)) is h u = so _ (next_is (Activity.Rebalance (Rebalance.Gather Gather.Link)) is) (takes_cell (cell_of_link_word told))
+  event_at (Activity.Rebalance (Rebalance.Gather Gather.Key)) is h u = so _ (next_is (Activity.Rebalance (Rebalance.Gather Gather.Key)) is) record { saw = tt }
+  event_at (Activity.Rebalance (Rebalance.Gather Gather.Version)) is h u = so _ (next_is (Activity.Rebalance (Rebalance.Gather Gather.Version)) is) record { saw = tt }
+  event_at (Activity.Rebalance (Rebalance.Gather Gather.Value)) is h u = so _ (next_is (Activity.Rebalance (Rebalance.Gather Gather.Value)) is) record { saw = tt }
+  event_at (Activity.Rebalance (Rebalance.Gather Gather.LeftOverKey)) is h u = so _ (next_is (Activity.Rebalance (Rebalance.Gather Gather.LeftOverKey)) is) record { saw = tt }
+  event_at (Activity.Rebalance (Rebalance.Gather Gather.LeftOverValue)) is h u = so _ (next_is (Activity.Rebalance (Rebalance.Gather Gather.LeftOverValue)) is) (left (least_mark l.rebalance.marks) (keeping product (value_of_word told) l))
+  event_at (Activity.Rebalance (Rebalance.Seek Seek.First)) is h u = so _ (next_is (Activity.Rebalance (Rebalance.Seek Seek.First)) is) (first_seeks (offered rows c) (searches_here is))
+  event_at (Activity.Rebalance (Rebalance.Seek Seek.Next)) is h u = so _ (next_is (Activity.Rebalance (Rebalance.Seek Seek.Next)) is) (seeks (state_of told) (seeking l.rebalance.sought l) undone (search_on o goes h))
+  event_at (Activity.Rebalance (Rebalance.Seek (Seek.Pass i))) is h u = so _ (next_is (Activity.Rebalance (Rebalance.Seek (Seek.Pass i))) is) (passes i (pass_of_word told) (search_on o goes h))
+  event_at (Activity.Rebalance (Rebalance.Seek Seek.Reclaim)) is h u = so _ (next_is (Activity.Rebalance (Rebalance.Seek Seek.Reclaim)) is) (record { saw = search_on o goes h })
+  event_at (Activity.Rebalance (Rebalance.Seek Seek.Take)) is h u = so _ (next_is (Activity.Rebalance (Rebalance.Seek Seek.Take)) is) (takes (told == state_word Free) (search_on o goes h))
+  event_at (Activity.Rebalance (Rebalance.Seek Seek.GiveBack)) is h u =
       let kept : (l.rebalance.afterwards ≡ Refuse → SawSearch o q) × (l.rebalance.afterwards ≡ TryAgain → SawReplaced o q) = (λ f. search_on o goes (h.0 f), λ f. replaced_on o goes (h.1 f)) in
       so _ (next_is (Activity.Rebalance (Rebalance.Seek Seek.GiveBack)) is) (both (has_more l) _ _ (λ f. record { saw = kept }) (λ f. gives_on l.rebalance.afterwards kept))
-  event_at (Activity.Rebalance (Rebalance.Write Write.Count)) is h n g e = so _ (next_is (Activity.Rebalance (Rebalance.Write Write.Count)) is) record { saw = tt }
-  event_at (Activity.Rebalance (Rebalance.Write Write.Least)) is h n g e = so _ (next_is (Activity.Rebalance (Rebalance.Write Write.Least)) is) record { saw = tt }
-  event_at (Activity.Rebalance (Rebalance.Write Write.Next)) is h n g e = so _ (next_is (Activity.Rebalance (Rebalance.Write Write.Next)) is) record { saw = tt }
-  event_at (Activity.Rebalance (Rebalance.Write Write.First)) is h n g e = so _ (next_is (Activity.Rebalance (Rebalance.Write Write.First)) is) (writes_entry 0 l)
-  event_at (Activity.Rebalance (Rebalance.Write (Write.Entry i))) is h n g e = so _ (next_is (Activity.Rebalance (Rebalance.Write (Write.Entry i))) is) (writes_entry (i + 1) l)
-  event_at (Activity.Rebalance (Rebalance.Write (Write.Key j))) is h n g e = so _ (next_is (Activity.Rebalance (Rebalance.Write (Write.Key j))) is) record { saw = tt }
-  event_at (Activity.Rebalance (Rebalance.Write (Write.Value j))) is h n g e = so _ (next_is (Activity.Rebalance (Rebalance.Write (Write.Value j))) is) record { saw = tt }
-  event_at (Activity.Rebalance (Rebalance.Write (Write.Version j))) is h n g e = so _ (next_is (Activity.Rebalance (Rebalance.Write (Write.Version j))) is) (writes_after j l)
-  event_at (Activity.Rebalance (Rebalance.Write (Write.After j))) is h n g e = so _ (next_is (Activity.Rebalance (Rebalance.Write (Write.After j))) is) (writes_cell (j + 1) l)
-  event_at (Activity.Rebalance (Rebalance.Replace Replace.Start)) is h n g e = so _ (next_is (Activity.Rebalance (Rebalance.Replace Replace.Start)) is) (befores (offered rows c))
-  event_at (Activity.Rebalance (Rebalance.Replace Replace.GuessedLeast)) is h n g e = so _ (next_is (Activity.Rebalance (Rebalance.Replace Replace.GuessedLeast)) is) (both (nat_lt (key_of_word told) l.lower) _ _ (λ f. record { saw = tt }) (λ f. record { saw = tt }))
-  event_at (Activity.Rebalance (Rebalance.Replace Replace.First)) is h n g e = so _ (next_is (Activity.Rebalance (Rebalance.Replace Replace.First)) is) (firsts (row_or_first (row_linked (link_of told))))
-  event_at (Activity.Rebalance (Rebalance.Replace Replace.Next)) is h n g e = so _ (next_is (Activity.Rebalance (Rebalance.Replace Replace.Next)) is) (link (link_of told) refl is)
-  event_at (Activity.Rebalance (Rebalance.Replace Replace.NextLeast)) is h n g e = so _ (next_is (Activity.Rebalance (Rebalance.Replace Replace.NextLeast)) is)
+  event_at (Activity.Rebalance (Rebalance.Write Write.Count)) is h u = so _ (next_is (Activity.Rebalance (Rebalance.Write Write.Count)) is) record { saw = tt }
+  event_at (Activity.Rebalance (Rebalance.Write Write.Least)) is h u = so _ (next_is (Activity.Rebalance (Rebalance.Write Write.Least)) is) record { saw = tt }
+  event_at (Activity.Rebalance (Rebalance.Write Write.Next)) is h u = so _ (next_is (Activity.Rebalance (Rebalance.Write Write.Next)) is) record { saw = tt }
+  event_at (Activity.Rebalance (Rebalance.Write Write.First)) is h u = so _ (next_is (Activity.Rebalance (Rebalance.Write Write.First)) is) (writes_entry 0 l)
+  event_at (Activity.Rebalance (Rebalance.Write (Write.Entry i))) is h u = so _ (next_is (Activity.Rebalance (Rebalance.Write (Write.Entry i))) is) (writes_entry (i + 1) l)
+  event_at (Activity.Rebalance (Rebalance.Write (Write.Key j))) is h u = so _ (next_is (Activity.Rebalance (Rebalance.Write (Write.Key j))) is) record { saw = tt }
+  event_at (Activity.Rebalance (Rebalance.Write (Write.Value j))) is h u = so _ (next_is (Activity.Rebalance (Rebalance.Write (Write.Value j))) is) record { saw = tt }
+  event_at (Activity.Rebalance (Rebalance.Write (Write.Version j))) is h u = so _ (next_is (Activity.Rebalance (Rebalance.Write (Write.Version j))) is) (writes_after j l)
+  event_at (Activity.Rebalance (Rebalance.Write (Write.After j))) is h u = so _ (next_is (Activity.Rebalance (Rebalance.Write (Write.After j))) is) (writes_cell (j + 1) l)
+  event_at (Activity.Rebalance (Rebalance.Replace Replace.Start)) is h u = so _ (next_is (Activity.Rebalance (Rebalance.Replace Replace.Start)) is) (befores (offered rows c))
+  event_at (Activity.Rebalance (Rebalance.Replace Replace.GuessedLeast)) is h u = so _ (next_is (Activity.Rebalance (Rebalance.Replace Replace.GuessedLeast)) is) (both (nat_lt (key_of_word told) l.lower) _ _ (λ f. record { saw = tt }) (λ f. record { saw = tt }))
+  event_at (Activity.Rebalance (Rebalance.Replace Replace.First)) is h u = so _ (next_is (Activity.Rebalance (Rebalance.Replace Replace.First)) is) (firsts (row_or_first (row_linked (link_of told))))
+  event_at (Activity.Rebalance (Rebalance.Replace Replace.Next)) is h u = so _ (next_is (Activity.Rebalance (Rebalance.Replace Replace.Next)) is) (link (link_of told) refl is)
+  event_at (Activity.Rebalance (Rebalance.Replace Replace.NextLeast)) is h u = so _ (next_is (Activity.Rebalance (Rebalance.Replace Replace.NextLeast)) is)
       (both (nat_lt (key_of_word told) l.lower) _ _ (λ f. record { saw = tt }) (λ f.
       let past : nat_lt (key_of_word told) l.lower ≡ false = f in
       let more : l.lower ≤ key_of_word told = grind (arith, nat_tests) in
       tries_again (replaced_here (Activity.Rebalance (Rebalance.Replace Replace.NextLeast)) is (subst (λ n. n ≤ key_of_word told) (sym knew_lower) more) (walk_goes_by_here (Activity.Rebalance (Rebalance.Replace Replace.NextLeast)) is tt (reads_here (Activity.Rebalance (Rebalance.Replace Replace.NextLeast)) is _ refl) more))))
-  event_at (Activity.Rebalance (Rebalance.Replace Replace.Exchange)) is h n g e = so _ (next_is (Activity.Rebalance (Rebalance.Replace Replace.Exchange)) is) (replaces (link_of told) refl is)
-  event_at (Activity.Rebalance (Rebalance.Replace Replace.Normalise)) is h n g e = absurd (n refl)
-  event_at Activity.Retry is h n g e = absurd (g refl)
-  event_at (Activity.Leave x) is h n g e = absurd (e x refl)
-  event_at (Activity.Look Look.Key) is h n g e = absurd h
-  event_at _ is h n g e = absurd h
+  event_at (Activity.Rebalance (Rebalance.Replace Replace.Exchange)) is h u = so _ (next_is (Activity.Rebalance (Rebalance.Replace Replace.Exchange)) is) (replaces (link_of told) refl is)
+  event_at (Activity.Rebalance (Rebalance.Replace Replace.Normalise)) is h u = let x : true ≡ false = u in absurd (cc)
+  event_at Activity.Retry is h u = let x : true ≡ false = u in absurd (cc)
+  event_at (Activity.Leave y) is h u = let x : true ≡ false = u in absurd (cc)
+  event_at (Activity.Look Look.Key) is h u = absurd h
+  event_at _ is h u = absurd h
 
   -- an event of a rebalance that is not over, and has not won, keeps what it has seen
-  pub keeps_seen : HasSeenCause o p l.activity l → (l.activity ≡ Activity.Rebalance (Rebalance.Replace Replace.Normalise) → ⊥) → (l.activity ≡ Activity.Retry → ⊥) → ((x : Answer) → l.activity ≡ Activity.Leave x → ⊥) → HasSeenCause o q m.activity m
+  pub keeps_seen : HasSeenCause o p l.activity l → ends_rebuild l.activity ≡ false → HasSeenCause o q m.activity m
   keeps_seen = event_at l.activity refl
-
--- it is at work there
-works : (o p : Pass) (l : Local) (a : Activity) → HasSeenCause o p a l → (a ≡ Activity.Retry → ⊥) → ((x : Answer) → a ≡ Activity.Leave x → ⊥) → IsAtWork a
-works o p l (Activity.Leave x) h g e = absurd (e x refl)
-works o p l Activity.Retry h g e = absurd (g refl)
-works o p l (Activity.Rebalance (Rebalance.Seek Seek.Next)) h g e = tt
-works o p l (Activity.Rebalance (Rebalance.Seek (Seek.Pass i))) h g e = tt
-works o p l (Activity.Rebalance (Rebalance.Seek Seek.Reclaim)) h g e = tt
-works o p l (Activity.Rebalance (Rebalance.Seek Seek.Take)) h g e = tt
-works o p l (Activity.Rebalance (Rebalance.Seek Seek.GiveBack)) h g e = tt
-works o p l (Activity.Rebalance (Rebalance.Replace Replace.Normalise)) h g e = tt
-works o p l (Activity.Rebalance (Rebalance.Replace Replace.Number)) h g e = absurd h
-works o p l (Activity.Rebalance (Rebalance.Replace Replace.Retire)) h g e = absurd h
-works o p l (Activity.Look Look.Key) h g e = balancing_works (Activity.Look Look.Key) h
-works o p l (Activity.Put Put.Count) h g e = balancing_works (Activity.Put Put.Count) h
-works o p l a h g e = balancing_works a h
 
 -- the put of a seat that is at work is no more done by the event than before
 pub work_on : (l m : Local) (c : Choice) (rows told : ℕ) → outcome m Moved ≡ next_of product rows (offered rows c) l told → IsAtWork l.activity → m.tidies ≡ l.tidies
 unfolding transition_of
 work_on l m c rows told line work = ap (λ (x : Outcome). x.local.tidies) line ∙ keeps product l.activity 0 (offered rows c) l rows told work
-
-pub stays_untidied : (o p : Pass) (l m : Local) (c : Choice) (rows told : ℕ) → outcome m Moved ≡ next_of product rows (offered rows c) l told → HasSeenCause o p l.activity l → (l.activity ≡ Activity.Retry → ⊥) → ((x : Answer) → l.activity ≡ Activity.Leave x → ⊥) → l.tidies ≡ false → m.tidies ≡ false
-stays_untidied o p l m c rows told line h g e undone = work_on l m c rows told line (works o p l l.activity h g e) ∙ undone

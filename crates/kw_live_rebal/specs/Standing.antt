@@ -1,5 +1,5 @@
 -- What a rebalance has seen where it stands, and what stays while it goes on.
-use Rattle.std.specs.Prelude.{◌≡◌, ℕ, false}
+use Rattle.std.specs.Prelude.{◌≡◌, ℕ, Bool, true, false}
 use Rattle.kw_world.specs.declared.answer.Answer.TheVariants as answer
 use Rattle.kw_world.specs.declared.activity.Activity.{Activity}
 use Rattle.kw_world.specs.declared.activity.rebalance.Rebalance.TheVariants as Rebalance
@@ -38,14 +38,21 @@ HasSeenCause o p (Activity.Rebalance (Rebalance.Replace Replace.Number)) l = ⊥
 HasSeenCause o p (Activity.Rebalance (Rebalance.Replace Replace.Retire)) l = ⊥
 HasSeenCause o p a l = IsBalancing a
 
--- what stays through all events of a rebalance
+-- the new rows are linked, or the rebalance is over without them
+abbrev pub ends_rebuild : Activity → Bool
+ends_rebuild (Activity.Rebalance (Rebalance.Replace Replace.Normalise)) = true
+ends_rebuild Activity.Retry = true
+ends_rebuild (Activity.Leave answer) = true
+ends_rebuild _ = false
+
+-- what stays through all events of a rebalance. A put that tidies is refused nothing, so it needs
+-- no cause
 pub record Rebalances (s : Shared) (o p : Pass) (l : Local) : Type 0 where
   pub goes : GoesTo s o p
   pub follows : Follows s p l
   pub calls : KeepsCalls o p
   pub held : held p ≡ held o
-  pub saw : HasSeenCause o p l.activity l
-  pub untidied : l.tidies ≡ false
+  pub saw : l.tidies ≡ false → HasSeenCause o p l.activity l
 
 -- since whatever event it is told of, what stayed up to the one pass and local stays up to the
 -- other

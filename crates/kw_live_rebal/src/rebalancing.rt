@@ -3,14 +3,18 @@
 //! The seat agrees with others on the rows of its group, freezes and gathers them, takes free rows,
 //! writes them, links them in place of the group, and retires that: one event after the other, as
 //! the table says. Where an exchange is lost the seat looks once more, so a rebalance may go on as
-//! long as others go on to win.
+//! long as others go on to win. `rebuild` has the events up to the exchange that wins, `finish`
+//! those behind it. A put or a delete that is done goes through both too, as `tidying` says: then
+//! they end otherwise, and no cause is asked for.
 ghost use Rattle.std.specs.Prelude.{◌≡◌, ◌≢◌, true, false};
+ghost use Rattle.kw_world.specs.EngageTransitions.{retrying};
 ghost use Rattle.kw_world.specs.WalkTransitions.{is_stop};
 ghost use Rattle.kw_follow.specs.Following.{Follows};
 ghost use Rattle.kw_follow.specs.Moving.{WentOn};
 ghost use Rattle.kw_follow.specs.Reaching.{Advances};
 ghost use Rattle.kw_follow.specs.Within.{IsWithinCall};
 ghost use Rattle.kw_live_rebal.specs.Rebalancing.{HasEnded, stands_after};
+ghost use Rattle.kw_live_rebal.specs.Standing.{HasSeenCause, ends_rebuild};
 
 use crate::guessing::guess;
 use crate::publishing::tell_index;
@@ -77,34 +81,69 @@ pub fn rebalance<R: Wait>(
     ensures call { local.new.call ≡ local.old.call }
     ensures cause { HasEnded pass.old pass.new result }
 {
+    rebuild(rt, shared, index, hints, pass, local);
+    match local.activity {
+        Activity::Retry => Rebalanced::Again,
+        Activity::Leave(answer) => refused(answer),
+        _ => {
+            finish(rt, shared, index, hints, pass, local);
+            Rebalanced::Done
+        }
+    }
+}
+
+// Makes the events of a rebalance, up to the exchange by which it wins, or to its end. A put that
+// is done sees no cause of its end, and needs none.
+pub(crate) fn rebuild<R: Wait>(
+    rt: &R,
+    shared: &Shared,
+    index: &Index,
+    hints: &mut Hints,
+    pass: &mut Pass,
+    local: &mut Local,
+)
+    requires follows { Follows shared.now pass.old local.old }
+    requires activity { local.old.activity ≡ Activity.Rebalance (Rebalance.Engage Engage.Clock) }
+    ensures on { Advances shared.now pass.old pass.new local.new }
+    ensures tidies { local.new.tidies ≡ local.old.tidies }
+    ensures ends { ends_rebuild local.new.activity ≡ true }
+    ensures saw { local.old.tidies ≡ false →
+        HasSeenCause pass.old pass.new local.new.activity local.new }
+{
     for _ in rt.forever() {
-        match local.activity {
-            Activity::Retry => return Rebalanced::Again,
-            Activity::Leave(answer) => return refused(answer),
-            _ => {
-                if has_won(&local.activity) {
-                    finish(rt, shared, index, hints, pass, local);
-                    return Rebalanced::Done;
-                }
-                if begins_gathering(&local.activity) {
-                    gather_row(rt, shared, pass, local);
-                } else if begins_row(&local.activity) {
-                    write_new_row(shared, pass, local);
-                } else if asks_on(&local.activity) {
-                    seek_row(shared, pass, local);
-                } else {
-                    let choice = choice_at(shared, local, index, hints);
-                    go_on(shared, pass, local, choice);
-                }
-            }
+        if ends_rebuild(&local.activity) {
+            return;
+        }
+        if begins_gathering(&local.activity) {
+            gather_row(rt, shared, pass, local);
+        } else if begins_row(&local.activity) {
+            write_new_row(shared, pass, local);
+        } else if asks_on(&local.activity) {
+            seek_row(shared, pass, local);
+        } else {
+            let choice = choice_at(shared, local, index, hints);
+            go_on(shared, pass, local, choice);
         }
     }
     unreachable!()
 }
 
+// Whether the new rows are linked, or the rebalance is over without them.
+#[inline(always)]
+fn ends_rebuild(activity: &Activity) -> bool
+    ensures { result ≡ ends_rebuild activity.now }
+{
+    match activity {
+        Activity::Rebalance(Rebalance::Replace(Replace::Normalise)) => true,
+        Activity::Retry => true,
+        Activity::Leave(_) => true,
+        _ => false,
+    }
+}
+
 // Whether the new rows are linked, and are made normal next.
 #[inline(always)]
-fn has_won(activity: &Activity) -> bool
+pub(crate) fn has_won(activity: &Activity) -> bool
     ensures won { result ≡ true → activity.now ≡ Activity.Rebalance (Rebalance.Replace Replace.Normalise) }
     ensures other { result ≡ false → activity.now ≢ Activity.Rebalance (Rebalance.Replace Replace.Normalise) }
 {
@@ -174,8 +213,8 @@ fn refused(answer: Answer) -> Rebalanced
 }
 
 // The new rows are linked: they are made normal, the index is told of them, and the rows of the
-// group are retired.
-fn finish<R: Wait>(
+// group are retired. Then the call tries again, or leaves where it was done before.
+pub(crate) fn finish<R: Wait>(
     rt: &R,
     shared: &Shared,
     index: &Index,
@@ -185,16 +224,18 @@ fn finish<R: Wait>(
 )
     requires follows { Follows shared.now pass.old local.old }
     requires won { local.old.activity ≡ Activity.Rebalance (Rebalance.Replace Replace.Normalise) }
-    requires untidied { local.old.tidies ≡ false }
     ensures on { Advances shared.now pass.old pass.new local.new }
-    ensures again { local.new.activity ≡ Activity.Retry }
+    ensures ends { local.new.activity ≡ retrying local.old }
 {
     for _ in rt.forever() {
-        if let Activity::Retry = local.activity {
-            return;
+        match local.activity {
+            Activity::Retry => return,
+            Activity::Leave(_) => return,
+            _ => {
+                tell_index(index, hints, local);
+                go_finish(shared, pass, local);
+            }
         }
-        tell_index(index, hints, local);
-        go_finish(shared, pass, local);
     }
     unreachable!()
 }

@@ -8,6 +8,7 @@
 ghost use Rattle.std.specs.Prelude.{◌≡◌};
 ghost use Rattle.kw_follow.specs.BuildsOn.{past_row};
 ghost use Rattle.kw_follow.specs.Following.{Follows};
+ghost use Rattle.kw_follow.specs.Reaching.{Advances};
 ghost use Rattle.kw_live_rebal.specs.Standing.{GoesOn};
 ghost use Rattle.kw_live_rebal.specs.Stretches.{HasLeftList, HasLeftSearch};
 
@@ -26,9 +27,10 @@ use std::sync::Wait;
 pub(crate) fn gather_row<R: Wait>(rt: &R, shared: &Shared, pass: &mut Pass, local: &mut Local)
     requires follows { Follows shared.now pass.old local.old }
     requires activity { local.old.activity ≡ Activity.Rebalance (Rebalance.Gather Gather.Link) }
-    ensures follows { Follows shared.now pass.new local.new }
+    ensures on { Advances shared.now pass.old pass.new local.new }
+    ensures tidies { local.new.tidies ≡ local.old.tidies }
     ensures left { HasLeftList local.new }
-    ensures on { GoesOn shared.now pass.old local.old pass.new local.new }
+    ensures goes_on { GoesOn shared.now pass.old local.old pass.new local.new }
 {
     let mut cursor = Cursor::of(local);
     for _ in rt.forever() {
@@ -45,9 +47,10 @@ pub(crate) fn gather_row<R: Wait>(rt: &R, shared: &Shared, pass: &mut Pass, loca
 pub(crate) fn seek_row(shared: &Shared, pass: &mut Pass, local: &mut Local)
     requires follows { Follows shared.now pass.old local.old }
     requires activity { local.old.activity ≡ Activity.Rebalance (Rebalance.Seek Seek.Next) }
-    ensures follows { Follows shared.now pass.new local.new }
+    ensures on { Advances shared.now pass.old pass.new local.new }
+    ensures tidies { local.new.tidies ≡ local.old.tidies }
     ensures left { HasLeftSearch shared.now.opening.rows local.old local.new }
-    ensures on { GoesOn shared.now pass.old local.old pass.new local.new }
+    ensures goes_on { GoesOn shared.now pass.old local.old pass.new local.new }
 {
     let rows = shared.rows();
     let mut search = Search::of(local);
@@ -67,9 +70,10 @@ pub(crate) fn seek_row(shared: &Shared, pass: &mut Pass, local: &mut Local)
 pub(crate) fn write_new_row(shared: &Shared, pass: &mut Pass, local: &mut Local)
     requires follows { Follows shared.now pass.old local.old }
     requires activity { local.old.activity ≡ Activity.Rebalance (Rebalance.Write Write.Count) }
-    ensures follows { Follows shared.now pass.new local.new }
+    ensures on { Advances shared.now pass.old pass.new local.new }
+    ensures tidies { local.new.tidies ≡ local.old.tidies }
     ensures written { local.new ≡ past_row local.old }
-    ensures on { GoesOn shared.now pass.old local.old pass.new local.new }
+    ensures goes_on { GoesOn shared.now pass.old local.old pass.new local.new }
 {
     warm_new_row(shared, local);
     write_row(shared, pass, local);

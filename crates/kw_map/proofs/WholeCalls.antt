@@ -4,8 +4,6 @@ use Rattle.std.proofs.Common.{ℕ, ◌≡◌, true, false, Option, Some, None, E
 use Rattle.kw_model.specs.declared.call.Call.{Call}
 use Rattle.kw_model.specs.declared.call.Call.TheVariants.{Put, Del, Get, Scan}
 use Rattle.kw_world.specs.declared.activity.Activity.{Activity}
-use Rattle.kw_world.specs.declared.activity.rebalance.engage.Engage.TheVariants as Engage
-use Rattle.kw_world.specs.declared.activity.rebalance.Rebalance.TheVariants as Rebalance
 use Rattle.kw_world.specs.declared.activity.walk.Walk.TheVariants as Walk
 use Rattle.kw_world.specs.Answers.{reply_of}
 use Rattle.kw_world.specs.declared.answer.Answer.{Answer}
@@ -20,10 +18,7 @@ use Rattle.kw_map.specs.declared.kiwi.PutEnd.{PutEnd}
 use Rattle.kw_map.specs.declared.kiwi.PutEnd.TheVariants.{NoRows, Spent}
 use Rattle.kw_map.specs.Kiwi.{IsIdle, put_reply, stands_after}
 use Rattle.kw_follow.specs.Following.{GoesTo}
-use Rattle.kw_live.specs.declared.putting.TryPut.{TryPut}
-use Rattle.kw_live.specs.declared.putting.TryPut.TheVariants as try_put
 use Rattle.kw_live.specs.Sights.{SawClock}
-use Rattle.kw_live.specs.Putting.{stands_after as put_stands}
 use Rattle.kw_live.specs.Stages.{HasEntered}
 use Rattle.kw_follow.proofs.OwnEvents.{saw_later}
 
@@ -43,11 +38,6 @@ put_starts (Del key) (Activity.Walk Walk.Start) is entered = refl
 put_starts (Del key) _ is entered = absurd entered
 put_starts (Get key) a is entered = let x : false ≡ true = is in absurd (cc)
 put_starts (Scan from upto) a is entered = let x : false ≡ true = is in absurd (cc)
-
--- where a put or a delete is not done at its row, it is about to rebalance that
-pub is_full : (tried : TryPut) (a : Activity) → (tried ≡ try_put.Done → ⊥) → a ≡ put_stands tried → a ≡ Activity.Rebalance (Rebalance.Engage Engage.Clock)
-is_full try_put.Done a none e = absurd (none refl)
-is_full (try_put.RowFull row) a none e = e
 
 -- where it made room and was not refused, it is to begin its walk
 pub begins_anew : (made : Option PutEnd) (a : Activity) → ((end : PutEnd) → made ≡ Some end → ⊥) → a ≡ stands_after made → a ≡ Activity.Walk Walk.Start

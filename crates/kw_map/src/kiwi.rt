@@ -3,10 +3,11 @@
 //! A `Kiwi` is the shared table and an index of its rows; a caller asks it with a pass. Each call
 //! here is put together from `kw_live`'s functions, on what the pass has: enter, find the row, put
 //! into it or read it, leave; a get is whole there. A put or a delete that finds its row full has
-//! the row rebalanced (`kw_live_rebal`) and tries again. These two take the runtime, since they may
-//! come to wait for others; a get and a scan never do. So all events are the core's, and the
-//! clauses say what follows: the call is the pass's next one, it has ended, its answer is the
-//! recorded reply, and the order of all calls that the pass has seen is legal.
+//! the row rebalanced (`kw_live_rebal`) and tries again; one that is done may have it rebalanced
+//! before it leaves. These two take the runtime, since they may come to wait for others; a get and
+//! a scan never do. So all events are the core's, and the clauses say what follows: the call is the
+//! pass's next one, it has ended, its answer is the recorded reply, and the order of all calls that
+//! the pass has seen is legal.
 ghost use Rattle.std.specs.Prelude.{◌≡◌, ℕ, ◌<◌, true, false, Some, IfOk, vec_len, slice_index_or, All};
 ghost use Rattle.kw_words.specs.declared.sizes.TheConstants.{VALUE_END};
 ghost use Rattle.kw_core.specs.Events.{is_call_in_range};
@@ -31,7 +32,7 @@ use crate::scanning::gather_rows;
 use kw_index::hints::Hints;
 use kw_index::index::Index;
 use kw_live::{TryPut, enter, enter_anew, get, leave, locate, try_put};
-use kw_live_rebal::{Rebalanced, guess, rebalance};
+use kw_live_rebal::{Rebalanced, guess, rebalance, tidy};
 use kw_model::call::Call;
 use kw_model::memory::Memory;
 use kw_table::{Pass as Seat, Shared};
@@ -162,6 +163,9 @@ impl Kiwi {
     }
 
     /// Takes a key away, whether it has a value or not. Otherwise it is as `put`.
+    ///
+    /// A delete that is done may rebalance its row before it returns, so that rows of deleted keys
+    /// come back; its answer is the same, whatever becomes of the row.
     pub fn delete<R: Wait>(&self, rt: &R, pass: &mut Pass, key: u32) -> Result<(), PutEnd>
         requires { IsIdle self.now pass.old }
         ensures idle { IsIdle self.now pass.new }
@@ -218,6 +222,13 @@ impl Kiwi {
         }
     }
 
+    /// How many rows are in use just now: those that have the pairs, and those of rebalances that
+    /// are on. It looks at each row of the map while others go on, so it is for figures alone. No
+    /// event is made, and no memory taken.
+    pub fn rows_in_use(&self) -> u32 {
+        self.shared.rows_in_use()
+    }
+
     /// Both passes have then seen one list of events, which both old ones begin. No event is made,
     /// and no memory taken; a pass that was idle is idle.
     pub fn meet(&self, a: &mut Pass, b: &mut Pass)
@@ -244,7 +255,8 @@ impl Kiwi {
 // A put or a delete.
 impl Kiwi {
     // It tries at its row until it is done or refused: where the row is full it makes room, and
-    // tries again at the row that then has the key.
+    // tries again at the row that then has the key. Where it is done it may tidy the row, and it
+    // never tries again after that.
     #[tactic(auto, using(crate::proofs::WholeCalls::put_starts))]
     fn update<R: Wait>(&self, rt: &R, pass: &mut Pass, call: Call) -> Result<(), PutEnd>
         requires idle { IsIdle self.now pass.old }
@@ -260,9 +272,17 @@ impl Kiwi {
         for _ in rt.forever() {
             let row = guess(&self.shared, &self.index, hints, local.want);
             locate(&self.shared, seat, local, row);
-            if let TryPut::Done = try_put(&self.shared, seat, local) {
-                leave(&self.shared, seat, local);
-                return Ok(());
+            match try_put(&self.shared, seat, local, hints.window.start()) {
+                TryPut::Done => {
+                    leave(&self.shared, seat, local);
+                    return Ok(());
+                }
+                TryPut::Tidies => {
+                    tidy(rt, &self.shared, &self.index, hints, seat, local);
+                    leave(&self.shared, seat, local);
+                    return Ok(());
+                }
+                TryPut::RowFull(_) => {}
             }
             if let Some(end) = make_room(rt, &self.shared, &self.index, hints, seat, local) {
                 leave(&self.shared, seat, local);

@@ -79,9 +79,9 @@ pub(crate) fn update(
     let mut local = Local::idle(alloc);
     enter(shared, pass, &mut local, call);
     locate(shared, pass, &mut local, guess);
-    if let TryPut::RowFull(_) = try_put(shared, pass, &mut local) {
+    let TryPut::Done = try_put(shared, pass, &mut local, 0) else {
         return None;
-    }
+    };
     Some(leave(shared, pass, &mut local))
 }
 

@@ -26,7 +26,8 @@ use std::test::Fail;
 
 // A put up to its row, and to its end where there is room. The row that is full; the put is then to
 // rebalance it.
-fn put_once(
+fn put_once<R: Abort>(
+    rt: &R,
     shared: &Shared,
     pass: &mut Pass,
     local: &mut Local,
@@ -46,12 +47,13 @@ fn put_once(
 {
     enter(shared, pass, local, Call::Put(key, value));
     locate(shared, pass, local, None);
-    match try_put(shared, pass, local) {
+    match try_put(shared, pass, local, 0) {
         TryPut::Done => {
             leave(shared, pass, local);
             None
         }
         TryPut::RowFull(row) => Some(row),
+        TryPut::Tidies => panic!(rt; "a put does not tidy"),
     }
 }
 
@@ -75,7 +77,7 @@ fn put<R: Wait + Abort>(
     ensures idle { activity_in pass.new ≡ Activity.Idle }
     ensures rests { local.new ≡ resting 0 }
 {
-    let Some(full) = put_once(shared, pass, local, key, value) else {
+    let Some(full) = put_once(rt, shared, pass, local, key, value) else {
         return None;
     };
     let Rebalanced::Done = rebalance(rt, shared, index, hints, pass, local) else {
@@ -84,7 +86,7 @@ fn put<R: Wait + Abort>(
     enter_anew(shared, pass, local);
     locate(shared, pass, local, None);
     let row = local.row;
-    let TryPut::Done = try_put(shared, pass, local) else {
+    let TryPut::Done = try_put(shared, pass, local, 0) else {
         panic!(rt; "room in a new row");
     };
     leave(shared, pass, local);
@@ -161,7 +163,7 @@ fn refusal<R: Wait + Abort>(
     ensures idle { activity_in pass.new ≡ Activity.Idle }
     ensures rests { local.new ≡ resting 0 }
 {
-    if put_once(shared, pass, local, key, 1).is_none() {
+    if put_once(rt, shared, pass, local, key, 1).is_none() {
         panic!(rt; "a full row");
     }
     match rebalance(rt, shared, index, hints, pass, local) {
@@ -287,7 +289,7 @@ fn a_put_finds_its_row_replaced(rt: HostRuntime) -> Result<(), Fail> {
     let mut local = Local::idle(rt.alloc());
     let mut other = Local::idle(rt.alloc());
     fill(&rt, &shared, &index, &mut hints, &mut first, &mut local, 0);
-    if put_once(&shared, &mut second, &mut other, 0, 2).is_none() {
+    if put_once(&rt, &shared, &mut second, &mut other, 0, 2).is_none() {
         panic!(rt; "a full row");
     }
     let rows = put(

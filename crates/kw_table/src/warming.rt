@@ -110,7 +110,7 @@ impl Shared {
 
     // The word as it is just now.
     #[inline(always)]
-    fn peek(&self, word: Name) -> u64
+    pub(crate) fn peek(&self, word: Name) -> u64
         requires { IsWithin SEATS CELLS self.now.opening.rows word }
     {
         self.table.shared.peek(self.slot(word))
@@ -124,7 +124,7 @@ impl Shared {
     }
 
     // The row of the table to which a link leads, if it leads to one.
-    fn row_at(&self, link: u64) -> Option<u32>
+    pub(crate) fn row_at(&self, link: u64) -> Option<u32>
         ensures { IfSome result (λ row. row < self.now.opening.rows) }
     {
         let row = Link::unpack(link)?.row?;

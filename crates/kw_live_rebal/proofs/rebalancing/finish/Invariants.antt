@@ -5,5 +5,5 @@ abbrev pub invariant-loop : goal.invariant-loop
 invariant-loop g l = record {
   can_next : (goal.iterator-loop g).can_next l.iterator';
   is_finite : (goal.iterator-loop g).is_finite l.iterator';
-  on : Finishes l.shared l.fn.pass l.pass l.local;
+  on : Finishes l.shared l.fn.pass l.pass l.fn.local l.local;
 }

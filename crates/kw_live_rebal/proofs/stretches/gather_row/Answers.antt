@@ -29,11 +29,14 @@ loop-preserved g c = record {
   tidies = c.gather_cell-cursor.ensures.tidies ∙ (c.in-Some-reach_next.ensures.tidies ∙ c.loop.invariant.tidies);
 }
 
-pub returns-in_default-clause-follows : goal.returns-in_default-clause-follows
-returns-in_default-clause-follows g c = c.in_default.ensures.over.follows
-
 pub returns-in_default-clause-on : goal.returns-in_default-clause-on
-returns-in_default-clause-on g c = stretch_goes_on (advances_trans c.loop.invariant.on c.in_default.ensures.over) (c.in_default.ensures.tidies ∙ c.loop.invariant.tidies) (subst (λ (l : Local). IsBuildingOn l.activity) (sym c.in_default.ensures.left) (past_list_ends c.loop.cursor c.loop.local).stands)
+returns-in_default-clause-on g c = advances_trans c.loop.invariant.on c.in_default.ensures.over
+
+pub returns-in_default-clause-tidies : goal.returns-in_default-clause-tidies
+returns-in_default-clause-tidies g c = c.in_default.ensures.tidies ∙ c.loop.invariant.tidies
+
+pub returns-in_default-clause-goes_on : goal.returns-in_default-clause-goes_on
+returns-in_default-clause-goes_on g c = stretch_goes_on (advances_trans c.loop.invariant.on c.in_default.ensures.over) (subst (λ (l : Local). IsBuildingOn l.activity) (sym c.in_default.ensures.left) (past_list_ends c.loop.cursor c.loop.local).stands)
 
 pub returns-in_default-clause-left : goal.returns-in_default-clause-left
 returns-in_default-clause-left g c = record { cursor = c.loop.cursor; before = c.loop.local; left = c.in_default.ensures.left }

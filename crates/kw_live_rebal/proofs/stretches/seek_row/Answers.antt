@@ -10,7 +10,7 @@ use Rattle.kw_follow.proofs.OneEvent.{follows_ranges, follows_room}
 use Rattle.kw_follow.proofs.SeekEvents.{begins_search, passed}
 use Rattle.kw_follow.proofs.Advancing.{advances_none}
 use Rattle.kw_follow.proofs.Reaching.{advances_trans}
-use Rattle.kw_live_rebal.proofs.Building.{row_follows, row_goes_on}
+use Rattle.kw_live_rebal.proofs.Building.{row_advances, row_goes_on, row_tidies}
 use Rattle.kw_live_rebal.proofs.stretches.seek_row.Goals as goal
 
 pub loop-search-init : goal.loop-search-init
@@ -37,11 +37,14 @@ stop-requires-clause-ranges c = follows_ranges _ _ _ c.loop-search.invariant.on.
 pub stop-requires-clause-room : goal.stop-requires-clause-room
 stop-requires-clause-room c = follows_room _ _ _ c.loop-search.invariant.on.follows
 
-pub returns-else-is_in_use-clause-follows : goal.returns-else-is_in_use-clause-follows
-returns-else-is_in_use-clause-follows c = row_follows c.loop-search.search c.args.local.now c.loop-search.local c.stop.new.local c.stop.result c.rows-rows.result c.requires.activity c.loop-search.invariant.same c.rows-rows.ensures c.loop-search.invariant.on c.load_state-found.ensures c.stop.ensures
-
 pub returns-else-is_in_use-clause-on : goal.returns-else-is_in_use-clause-on
-returns-else-is_in_use-clause-on c = row_goes_on c.loop-search.search c.args.local.now c.loop-search.local c.stop.new.local c.stop.result c.rows-rows.result c.requires.activity c.loop-search.invariant.same c.rows-rows.ensures c.loop-search.invariant.on c.load_state-found.ensures c.stop.ensures
+returns-else-is_in_use-clause-on c = row_advances c.loop-search.search c.args.local.now c.loop-search.local c.stop.new.local c.stop.result c.rows-rows.result c.requires.activity c.loop-search.invariant.same c.rows-rows.ensures c.loop-search.invariant.on c.load_state-found.ensures c.stop.ensures
+
+pub returns-else-is_in_use-clause-tidies : goal.returns-else-is_in_use-clause-tidies
+returns-else-is_in_use-clause-tidies c = row_tidies c.loop-search.search c.args.local.now c.loop-search.local c.stop.new.local c.stop.result c.rows-rows.result c.requires.activity c.loop-search.invariant.same c.rows-rows.ensures c.loop-search.invariant.on c.load_state-found.ensures c.stop.ensures
+
+pub returns-else-is_in_use-clause-goes_on : goal.returns-else-is_in_use-clause-goes_on
+returns-else-is_in_use-clause-goes_on c = row_goes_on c.loop-search.search c.args.local.now c.loop-search.local c.stop.new.local c.stop.result c.rows-rows.result c.requires.activity c.loop-search.invariant.same c.rows-rows.ensures c.loop-search.invariant.on c.load_state-found.ensures c.stop.ensures
 
 pub returns-else-is_in_use-clause-left : goal.returns-else-is_in_use-clause-left
 returns-else-is_in_use-clause-left c = record {

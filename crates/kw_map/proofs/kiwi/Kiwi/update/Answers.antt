@@ -6,7 +6,7 @@ use Rattle.kw_follow.specs.Following.{held}
 use Rattle.kw_follow.proofs.OwnEvents.{goes_trans}
 use Rattle.kw_live.proofs.Gets.{leaves_with, whole}
 use Rattle.kw_follow.proofs.RestingCall.{opens_on}
-use Rattle.kw_map.proofs.WholeCalls.{begins_anew, ends_with, is_full, put_starts}
+use Rattle.kw_map.proofs.WholeCalls.{begins_anew, ends_with, put_starts}
 use Rattle.kw_map.proofs.kiwi.Kiwi.update.Goals as goal
 
 pub enter-requires-clause-table : goal.enter-requires-clause-table
@@ -37,8 +37,30 @@ returns-in-Done-clause-calls g c =
     let leaves = leaves_with Done c.try_put.ensures.on.follows c.in-Done.ensures.stands in
     whole c.loop.invariant.opens (c.try_put.ensures.on.calls ∙ c.locate.ensures.on.calls) (c.leave.ensures.closes Done leaves).0
 
+pub tidy-requires-clause-activity : goal.tidy-requires-clause-activity
+tidy-requires-clause-activity g c = c.in-Tidies.ensures.stands
+
+pub tidy-requires-clause-tidies : goal.tidy-requires-clause-tidies
+tidy-requires-clause-tidies g c = c.in-Tidies.ensures.tidies
+
+pub returns-in-Tidies-clause-idle : goal.returns-in-Tidies-clause-idle
+returns-in-Tidies-clause-idle g c = rw (← c.self.view_is) record { of_map = c.leave-in-Tidies.ensures.goes.of_table; idle = c.leave-in-Tidies.ensures.idle }
+
+pub returns-in-Tidies-clause-goes : goal.returns-in-Tidies-clause-goes
+returns-in-Tidies-clause-goes g c =
+    let before = goes_trans _ _ _ _ (goes_trans _ _ _ _ c.loop.invariant.goes c.locate.ensures.on.goes) c.try_put.ensures.on.goes in
+    rw (← c.self.view_is) (goes_trans _ _ _ _ before (goes_trans _ _ _ _ c.tidy.ensures.on.goes c.leave-in-Tidies.ensures.goes))
+
+pub returns-in-Tidies-clause-calls : goal.returns-in-Tidies-clause-calls
+returns-in-Tidies-clause-calls g c =
+    let leaves = leaves_with Done c.tidy.ensures.on.follows c.tidy.ensures.done in
+    whole c.loop.invariant.opens (c.tidy.ensures.on.calls ∙ (c.try_put.ensures.on.calls ∙ c.locate.ensures.on.calls)) (c.leave-in-Tidies.ensures.closes Done leaves).0
+
 pub make_room-requires-clause-activity : goal.make_room-requires-clause-activity
-make_room-requires-clause-activity g c = is_full c.try_put.result c.try_put.new.local.activity c.in_default.not-Done c.try_put.ensures.stands
+make_room-requires-clause-activity g c = c.in-RowFull.ensures.stands
+
+pub make_room-requires-clause-untidied : goal.make_room-requires-clause-untidied
+make_room-requires-clause-untidied g c = c.in-RowFull.ensures.tidies
 
 pub make_room-requires-clause-update : goal.make_room-requires-clause-update
 make_room-requires-clause-update g c = subst (λ call. is_put call ≡ true) (sym (c.try_put.ensures.call ∙ (c.locate.ensures.walks.call ∙ c.loop.invariant.call))) c.requires.update
@@ -68,7 +90,7 @@ loop-preserved g c =
       is_finite = search rules;
       goes = goes_trans _ _ _ _ before c.make_room.ensures.on.goes;
       follows = c.make_room.ensures.on.follows;
-      activity = begins_anew c.make_room.result c.make_room.new.local.activity c.in_default-make_room.not-Some c.make_room.ensures.stands;
+      activity = begins_anew c.make_room.result c.make_room.new.local.activity c.in_default.not-Some c.make_room.ensures.stands;
       call = c.make_room.ensures.call ∙ (c.try_put.ensures.call ∙ (c.locate.ensures.walks.call ∙ c.loop.invariant.call));
       opens = opens_on c.loop.invariant.opens (c.make_room.ensures.on.calls ∙ (c.try_put.ensures.on.calls ∙ c.locate.ensures.on.calls));
     }

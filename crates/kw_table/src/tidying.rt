@@ -1,0 +1,119 @@
+//! Whether a row whose keys were deleted may well be tidied, and how many rows are in use.
+//!
+//! Who has deleted a key may go on and rebalance its row together with the row after it, so that two
+//! rows that have become small give way to one. That takes as long as a split, so it is asked first
+//! whether it pays. What is asked here is asked of words as they are just now, by loads that have
+//! no seat and make no event: no clause rests on it, and a wrong answer costs time or room, nothing
+//! else.
+ghost use Rattle.std.specs.Prelude.{◌<◌, IfSome};
+ghost use Rattle.kw_words.specs.declared.sizes.TheConstants.{CELLS};
+
+use crate::shared::Shared;
+use kw_words::layout::Name;
+use kw_words::plain::{unpack_cell_link, unpack_key, unpack_value};
+use kw_words::sizes::CELL_COUNT;
+use kw_words::state::State;
+use kw_world::limits::TIDY_SHARE;
+
+/// At each so many-th cell of a row a delete asks whether the row is to be tidied: so many puts and
+/// deletes stand against each tidying of a row.
+pub const TIDY_EACH: u32 = 8;
+
+/// A row with more keys than this that have a value is not tidied.
+pub const TIDY_KEYS: u32 = 8;
+
+/// How many rows are asked for one that a search would take, before a row is tidied.
+pub const TIDY_LOOKS: u32 = 8;
+
+impl Shared {
+    /// Whether a delete that was given this cell of its row, in a visit of this epoch, and is done
+    /// there may well tidy the row. Its search for a free row would begin at the row `free`.
+    #[inline]
+    pub fn pays_to_tidy(&self, row: u32, cell: u32, epoch: u64, free: u32) -> bool {
+        cell % TIDY_EACH == TIDY_EACH - 1
+            && u64::from(self.opening.rows) < u64::from(TIDY_SHARE).saturating_mul(epoch)
+            && self.has_small_pair(row, epoch, free)
+    }
+
+    /// How many rows are in use just now: those of the list, and those that are about to come into
+    /// it or to go. It looks at each row of the table.
+    pub fn rows_in_use(&self) -> u32 {
+        let mut in_use: u32 = 0;
+        for row in 0..self.opening.rows {
+            match State::unpack(self.peek(Name::State(row))) {
+                Some(State::Free) | Some(State::Retired(_)) | None => {}
+                _ => in_use = in_use.saturating_add(1),
+            }
+        }
+        in_use
+    }
+
+    // Whether the row and the one after it are in use, and nobody rebalances either; a search from
+    // this row on soon finds one to build in; and the row has few keys.
+    fn has_small_pair(&self, row: u32, epoch: u64, free: u32) -> bool {
+        row < self.opening.rows
+            && self.is_normal(row)
+            && match self.row_at(self.peek(Name::Next(row))) {
+                Some(next) => self.is_normal(next),
+                None => false,
+            }
+            && self.finds_free(free, epoch)
+            && self.has_few_keys(row)
+    }
+
+    // Whether the row is in use and not rebalanced.
+    fn is_normal(&self, row: u32) -> bool
+        requires { row < self.now.opening.rows }
+    {
+        State::unpack(self.peek(Name::State(row))) == Some(State::Normal)
+    }
+
+    // Whether one of the first rows from this one on is free, or was retired before a visit of this
+    // epoch began. Where a search finds no row, the tidied row and the one after it are left
+    // frozen, and the next put there is refused though it had room. So it is asked before. Others
+    // may take the row meanwhile, or still have a visit on that began before it went: then the
+    // search goes on, and most often finds another.
+    fn finds_free(&self, free: u32, epoch: u64) -> bool {
+        for row in free..free.saturating_add(TIDY_LOOKS).min(self.opening.rows) {
+            match State::unpack(self.peek(Name::State(row))) {
+                Some(State::Free) => return true,
+                Some(State::Retired(number)) if number < epoch => return true,
+                _ => {}
+            }
+        }
+        false
+    }
+
+    // Whether the row's list shows few keys that have a value. It is by rising key, and of each key
+    // by falling version: the first cell of a key tells whether it has one.
+    fn has_few_keys(&self, row: u32) -> bool
+        requires { row < self.now.opening.rows }
+    {
+        let mut link = self.peek(Name::First(row));
+        let mut last = None;
+        let mut keys: u32 = 0;
+        for _ in 0..CELL_COUNT {
+            let Some(cell) = given_cell(link) else {
+                return true;
+            };
+            let key = unpack_key(self.peek(Name::Key(row, cell)));
+            if last != Some(key) && unpack_value(self.peek(Name::Value(row, cell))).is_some() {
+                if keys == TIDY_KEYS {
+                    return false;
+                }
+                keys = keys.saturating_add(1);
+            }
+            last = Some(key);
+            link = self.peek(Name::After(row, cell));
+        }
+        true
+    }
+}
+
+// The cell of a row to which a link leads, if it leads to one.
+fn given_cell(link: u64) -> Option<u32>
+    ensures { IfSome result (λ cell. cell < CELLS) }
+{
+    let cell = unpack_cell_link(link)?;
+    if cell < CELL_COUNT { Some(cell) } else { None }
+}
