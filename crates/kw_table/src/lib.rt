@@ -36,8 +36,8 @@ pub use kinds::{
 pub use meeting::meet;
 pub use pass::{Pass, View};
 pub use rebalance_kinds::{
-    add_epoch, decide, engage, engage_next, freeze_count, freeze_pend, load_next_count, load_pass,
-    load_scan, mark_link, normalise, reclaim, replace, retire, store_infant, take_row,
+    add_epoch, decide, engage, freeze_count, freeze_pend, load_pass, load_scan, mark_link,
+    normalise, reclaim, replace, retire, store_infant, take_row,
 };
 pub use rule::Rules;
 pub use shared::Shared;

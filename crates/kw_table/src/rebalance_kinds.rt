@@ -1,10 +1,10 @@
 //! The kinds of event that come often in a rebalance, each a step of its own.
 //!
 //! They stand by what `kinds` says of its own: what each asks, what it tells, and what the pass has
-//! seen afterwards. First come those by which a full row gets its leader, the row after it goes
-//! along, both are frozen, and scans are looked for, then those that find and write new rows, and
-//! link them in place of the full one. These rows, one or two, are the group of the rebalance.
-//! What most rebalances do not need is made by `make`.
+//! seen afterwards. First come those by which a full row gets its leader, the rows that go are
+//! frozen, and scans are looked for, then those that find and write new rows, and link them in
+//! place of those. The rows that go, one or two, are the group of the rebalance. What most
+//! rebalances do not need, as the claim of the row after the full one, is made by `make`.
 ghost use Rattle.kw_table.specs.Passes.{operation, Asks, Makes};
 
 use crate::kinds::step;
@@ -65,43 +65,6 @@ pub fn decide(shared: &Shared, pass: &mut Pass, word: Name, expected: u64, store
     step!(
         exchange,
         Decide,
-        Action::Exchange(expected, stored),
-        shared,
-        pass,
-        Choice::Go,
-        word,
-        expected,
-        stored
-    )
-}
-
-/// Loads the count of the row after the full one, which says whether it goes along.
-#[inline(always)]
-pub fn load_next_count(shared: &Shared, pass: &mut Pass, word: Name) -> u64
-    requires { Asks shared.now pass.old Choice.Go (operation Kind.LoadNextCount word Action.Load) }
-    ensures { Makes shared.now pass.old Choice.Go result pass.new }
-{
-    step!(
-        load,
-        LoadNextCount,
-        Action::Load,
-        shared,
-        pass,
-        Choice::Go,
-        word
-    )
-}
-
-/// Takes the row after the full one along: makes it a follower.
-#[inline(always)]
-pub fn engage_next(shared: &Shared, pass: &mut Pass, word: Name, expected: u64, stored: u64) -> u64
-    requires { Asks shared.now pass.old Choice.Go
-        (operation Kind.EngageNext word (Action.Exchange expected stored)) }
-    ensures { Makes shared.now pass.old Choice.Go result pass.new }
-{
-    step!(
-        exchange,
-        EngageNext,
         Action::Exchange(expected, stored),
         shared,
         pass,
