@@ -214,7 +214,6 @@ pub fn change_of(
     requires ranges { IsLocal product local.now }
     requires begin { CanBegin happening.choice local.now }
     requires origins { local.now.row * CELLS + CELLS ≤ length origins.now }
-    requires hand { local.now.rebalance.hand * CELLS + CELLS ≤ length origins.now }
     ensures { IfOk result (λ change. change ≡ change_of product local.now.activity happening.seat
         happening.choice local.now happening.found log.now (origin_in product origins.now)) }
 {
@@ -281,8 +280,7 @@ fn helping(local: &Local, found: u64, log: &SeatLog, origins: &[Option<usize>]) 
 
 /// A rebalance freezes an entry: a put whose cell was pending there loses its attempt.
 fn freezing(local: &Local, found: u64, origins: &[Option<usize>]) -> Change
-    requires ranges { IsLocal product local.now }
-    requires origins { local.now.rebalance.hand * CELLS + CELLS ≤ length origins.now }
+    requires { IsLocal product local.now }
     ensures { result ≡ (if found == pend_word local.now.rebalance.entry
         then freezing local.now.rebalance.entry local.now.rebalance.hand (origin_in product origins.now)
         else Change.Nothing) }
@@ -291,7 +289,7 @@ fn freezing(local: &Local, found: u64, origins: &[Option<usize>]) -> Change
         return Change::Nothing;
     }
     match local.rebalance.entry {
-        Pend::Pending(cell) => losing(origin_at(origins, local.rebalance.hand, cell)),
+        Pend::Pending(cell) => losing(origin_or_none(origins, local.rebalance.hand, cell)),
         _ => Change::Nothing,
     }
 }

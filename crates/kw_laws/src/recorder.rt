@@ -96,7 +96,6 @@ impl Recorder {
         requires begin { CanBegin happening.choice local.now }
         requires scans { happening.seat < length self.old.settled }
         requires origins { local.now.row * CELLS + CELLS ≤ length self.old.origins }
-        requires hand { local.now.rebalance.hand * CELLS + CELLS ≤ length self.old.origins }
         ensures entry { IfOk result (λ entry. entry ≡ entry_of product self.old local.now happening) }
         ensures ok { OnOk result (self.new ≡ record self.old {
           history = appended self.old.history

@@ -56,12 +56,6 @@ prepare-requires-clause-origins c =
     let row = ((subst (IsSane product) k.1 k.3.shape.sane).locals _ _ c.local-local.ensures).below.row in
     omega (arith, row, k.2.cells, ap (λ (x : WorldView). x.rows) k.1)
 
-pub prepare-requires-clause-hand : goal.prepare-requires-clause-hand
-prepare-requires-clause-hand c =
-    let k = c.requires.kept in
-    let row = ((subst (IsSane product) k.1 k.3.shape.sane).locals _ _ c.local-local.ensures).below.rebalance.hand in
-    omega (arith, row, k.2.cells, ap (λ (x : WorldView). x.rows) k.1)
-
 pub local-requires : goal.local-requires
 local-requires c =
     let moved = step-moved product c.args.world.now c.args.event c.local-local.result.now c.local-local.ensures (sym c.skips.ensures ∙ c.if-skips.false) in
