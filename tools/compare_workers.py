@@ -17,6 +17,15 @@ empty.
   rows     thousands of keys on a map of 64 rows: rows run out, and puts and deletes are refused
   crowded  16 keys, and 500 updates for each worker, many range lines among them: one row is
            rebuilt all the time
+  neighbours
+           most keys of a part of the map are deleted, some of it put again, and then keys below it:
+           full rows stand beside small ones, and take them along
+  window   rising keys, and with each put the oldest key is deleted
+  series   so several series of minutes, all of a minute after those of the minute before
+  disorder rising keys in disorder, and with each put the least key is deleted
+
+The last four have 64 rows, 6,000 updates and a few hundred keys at a time: rows of deleted keys
+have to come back.
 
 One worker must answer as a map of one thread. With more workers each put, del and get line must
 still, and each range line of a block without put and del lines. Any other range line may come
@@ -29,8 +38,9 @@ right one fails. Range lines stand in blocks of 64 updates at most, or of none, 
 them may have seen takes long to look through.
 
 In the shape `rows` a put or del line may be refused with `no rows`; it is no update then, and
-changes nothing. Nowhere else is a line refused. The status must be 8 exactly where one was, and
-else 0.
+changes nothing. So it is in the last four with several workers, as a row is not used again while
+one of them stands still that had come before it went. Nowhere else is a line refused. The status
+must be 8 exactly where one was, and else 0.
 
 Before the last line stands, for each number of workers, how many runs did not answer as one thread,
 in how many a range line saw a part of another worker's updates in its block, and in how many a line
@@ -39,12 +49,13 @@ line says how many runs passed; the status is 1 where one did not."""
 
 import argparse
 import bisect
+import itertools
 import operator
 import random
 import re
 import shlex
 import sys
-from collections import Counter, namedtuple
+from collections import Counter, deque, namedtuple
 
 from kiwi_map import KEY_MOST, KIWI, NUMBER, RANGES, VALUE_MOST, answered, ended, inside, is_range, items_of, line_of, listed
 
@@ -54,17 +65,81 @@ LIST, SUM, COUNT = b"list", b"sum", b"count"
 REFUSAL = "no rows"
 NARROW = 64  # how many updates a block with range lines has at most
 MANY = 160  # with so many lines for each worker they are at work beside each other, and with few not
+NEVER = 9  # more workers than there are
+PUTS = 3200  # so many puts, and a delete for most of them, are more updates than a shape has
 READERS = ("sum", "count", "least", "greatest", "list", "list")
+
+
+
+def window_updates(rng):
+    """Rising keys, of which so many stay."""
+    kept, step = rng.randrange(2, 160), rng.choice((1, 1, 3, 1000))
+    return windows(((0, number * step) for number in itertools.count()), kept)
+
+
+def series_updates(rng):
+    """Series of minutes, of each of which so many stay."""
+    series, kept = rng.randrange(2, 8), rng.randrange(2, 30)
+    minutes = [[(one, (one << 20) + minute) for one in range(series)] for minute in range(PUTS // series)]
+    for points in minutes if rng.random() < 0.5 else ():
+        rng.shuffle(points)
+    return windows(itertools.chain.from_iterable(minutes), kept)
+
+
+def disorder_updates(rng):
+    """Rising keys in disorder by some distance, of which so many stay that each was put before it
+    goes."""
+    far, more = rng.randrange(2, 60), rng.randrange(2, 100)
+    oldest = itertools.count()
+    for count, key in enumerate(sorted(range(PUTS), key=lambda number: number + rng.random() * far)):
+        yield "put", key
+        if count >= far + more:
+            yield "del", next(oldest)
+
+
+def windows(keys, kept):
+    """Puts each key, and then deletes the oldest of its series, of which so many are to stay."""
+    stay = {}
+    for series, key in keys:
+        yield "put", key
+        mine = stay.setdefault(series, deque())
+        mine.append(key)
+        if len(mine) > kept:
+            yield "del", mine.popleft()
+
+
+def neighbour_updates(rng):
+    """Puts keys until rows are split; then again and again empties a part of them but for a few
+    keys, updates these until their row is rebuilt, and then one or two keys below them, until the
+    row of those is full beside it; at last puts the part again."""
+    keys = sorted(rng.sample(range(rng.choice((400, KEY_MOST + 1))), rng.randrange(60, 300)))
+    yield from (("put", key) for key in rng.choice((keys, keys[::-1], rng.sample(keys, len(keys)))))
+    while True:
+        first = rng.randrange(1, len(keys) - 20)
+        part = keys[first : first + rng.randrange(16, 60)]
+        few = rng.sample(part, rng.randrange(1, 8))
+        below = keys[max(0, first - rng.randrange(1, 20)) : first]
+        yield from (("del", key) for key in part if key not in few)
+        yield from (("put", rng.choice(few)) for _ in range(rng.randrange(64)))
+        yield from (("put", rng.choice(below)) for _ in range(rng.randrange(80)))
+        yield from (("put", key) for key in rng.sample(part, rng.randrange(len(part) + 1)))
+
 
 # How many keys and updates an input has at most; how many puts for each delete; how many range
 # lines a block has at most, and how often a block may have some; whether each such block has as
-# many updates as it may; the options of the command; and whether lines may be refused.
-Shape = namedtuple("Shape", "keys updates puts ranges narrow full options refuses")
+# many updates as it may; the options of the command; from how many workers on a line may be
+# refused; and what gives the updates, where they are not drawn one by one.
+Shape = namedtuple("Shape", "keys updates puts ranges narrow full options refused_from stream", defaults=(None,))
+ROWS = ("--rows", "64")
 SHAPES = {
-    "few": Shape(16, 600, 3, 60, 0.6, False, (), False),
-    "many": Shape(600, 600, 3, 60, 0.6, False, (), False),
-    "rows": Shape(3400, 4000, 12, 6, 0.4, False, ("--rows", "64"), True),
-    "crowded": Shape(16, 500, 3, 40, 1.0, True, (), False),
+    "few": Shape(16, 600, 3, 60, 0.6, False, (), NEVER),
+    "many": Shape(600, 600, 3, 60, 0.6, False, (), NEVER),
+    "rows": Shape(3400, 4000, 12, 6, 0.4, False, ROWS, 1),
+    "crowded": Shape(16, 500, 3, 40, 1.0, True, (), NEVER),
+    "neighbours": Shape(300, 6000, 3, 12, 0.6, False, ROWS, 2, neighbour_updates),
+    "window": Shape(160, 6000, 1, 12, 0.6, False, ROWS, 2, window_updates),
+    "series": Shape(210, 6000, 1, 12, 0.6, False, ROWS, 2, series_updates),
+    "disorder": Shape(160, 6000, 1, 12, 0.6, False, ROWS, 2, disorder_updates),
 }
 
 Line = namedtuple("Line", "number form numbers reply")
@@ -97,7 +172,7 @@ def random_block(rng, shape, left, workers):
 
 def random_forms(rng, shape, workers):
     """The forms of an input's lines. Few updates leave long blocks, and many blocks without any."""
-    left = shape.updates * workers if shape.full else shape.updates if shape.refuses else rng.randrange(shape.updates + 1)
+    left = shape.updates * workers if shape.full else shape.updates if shape.options else rng.randrange(shape.updates + 1)
     forms, blocks = [], rng.choice((1, 3, 10))
     while left or blocks > 0:
         block, updates = random_block(rng, shape, left, workers)
@@ -108,7 +183,7 @@ def random_forms(rng, shape, workers):
 
 def random_keys(rng, shape):
     """The keys of an input: random ones, or neighbours that rise or fall."""
-    if not shape.refuses:
+    if not shape.options:
         return [rng.randrange(rng.choice((2 * shape.keys, KEY_MOST + 1))) for _ in range(rng.choice((shape.keys, rng.randrange(1, shape.keys + 1))))]
     order, first = rng.choice((None, 1, -1)), rng.randrange(KEY_MOST - shape.keys)
     if order is None:
@@ -120,23 +195,41 @@ class Keys:
     """Hands out the keys of an input: each in its turn, or one of those that were handed out."""
 
     def __init__(self, rng, shape):
-        self.rng, self.keys, self.at, self.in_turn = rng, random_keys(rng, shape), 0, shape.refuses
+        self.rng, self.keys, self.at, self.in_turn = rng, random_keys(rng, shape), 0, bool(shape.options)
 
-    def next(self, form):
+    def update(self, form):
         if self.in_turn and form == "put" and self.at < len(self.keys) and self.rng.random() < 0.95:
             self.at += 1
-            return self.keys[self.at - 1]
+            return form, self.keys[self.at - 1]
+        return form, self.asked()
+
+    def asked(self):
         return self.keys[self.rng.randrange(max(1, self.at))] if self.in_turn else self.rng.choice(self.keys)
 
 
+class Stream:
+    """Hands out the updates of an input in their turn, and to other lines the keys of late ones."""
+
+    def __init__(self, rng, shape):
+        self.rng, self.updates, self.last = rng, shape.stream(rng), deque([0], maxlen=2 * shape.keys)
+
+    def update(self, _form):
+        form, key = next(self.updates)
+        self.last.append(key)
+        return form, key
+
+    def asked(self):
+        return self.rng.choice(self.last)
+
+
 def random_input(rng, shape, workers):
-    keys = Keys(rng, shape)
+    keys = Stream(rng, shape) if shape.stream else Keys(rng, shape)
     most = rng.choice((3, 1000, VALUE_MOST))
     lines = []
     for form in random_forms(rng, shape, workers):
         is_whole = is_range(form.encode()) and rng.random() < 0.5
-        key, other = (0, KEY_MOST) if is_whole else (keys.next(form), keys.next("get"))
-        lines.append(line_of(form, key, other, rng.randrange(most + 1)))
+        form, key = keys.update(form) if form.encode() in UPDATES else (form, 0 if is_whole else keys.asked())
+        lines.append(line_of(form, key, KEY_MOST if is_whole else keys.asked(), rng.randrange(most + 1)))
     text = "\n".join(lines)
     return (text + rng.choice(("", "\n")) if text else text).encode()
 
@@ -305,7 +398,7 @@ def check_block(block, pairs, workers):
         is_quiet = not among_updates or not is_range(line.form)
         if is_quiet and line.reply != wanted:
             raise Wrong(f"line {line.number}: got {line.reply!r}, wanted {wanted!r}")
-    return among_updates and check_ranges(block, start, workers)
+    return among_updates and any(is_range(line.form) for line in block) and check_ranges(block, start, workers)
 
 
 def replies_alone(items, replies):
@@ -358,7 +451,7 @@ def main():
         for workers in every:
             output, _, status = ended([*program, "--workers", str(workers)], text)
             try:
-                run = check(text, output, status, workers, shape.refuses)
+                run = check(text, output, status, workers, shape.refused_from <= workers)
             except Wrong as wrong:
                 failed += 1
                 print(f"input {number} with {workers} workers: {wrong}\n  input  {text!r}\n  output {output!r}")
