@@ -120,6 +120,26 @@ POINTS_TABLES = b"1 0 count 2 sum 12 least 5 greatest 7\n" + BUCKETS + b"1 0 cou
 MANY_POINTS = b"".join(b"put 0 %d 1\n" % minute for minute in range(1, 2050)) + b"table\n"
 MANY_TABLE = b"0 0 count 2048 sum 2048 least 1 greatest 1\nend 1\n"
 
+# What the examples print: sums of series of values as some expire, their buckets, and a put that is
+# stamped by a scan whose version is below its own.
+METRICS = 5 * b"ok\n" + b"310\n750\nok\nok\n295\n735\n2002=80\nnone\n4\n815\n"
+EXPIRING = 6 * b"ok\n" + b"750\n245\n" + 4 * b"ok\n" + b"705\n230\n" + 4 * b"ok\n" + (
+    b"690\n220\n10482=190 10483=205 10484=295\nnone\n" + 5 * b"ok\n" + b"0\nempty\n215\n3\n"
+)
+SERIES = b"7 480 count 3 sum 750 least 190 greatest 310\n7 540 count 1 sum 205 least 205 greatest 205\n"
+SERIES += b"12 480 count 2 sum 155 least 75 greatest 80\nend 0\n7 480 count 3 sum 735 least 190 greatest 295\n"
+SERIES += b"7 540 count 1 sum 205 least 205 greatest 205\n12 480 count 1 sum 80 least 80 greatest 80\n"
+SERIES += b"12 540 count 1 sum 90 least 90 greatest 90\nend 0\n"
+MEETING = b"1.1 scan 0 9: empty\n1.2 scan 0 9: 5=10\n0.1 put 5 10: ok\norder 1.1 0.1 1.2\n"
+EXAMPLES = (
+    ("replay", "metrics.txt", METRICS),
+    ("replay --workers 4", "metrics.txt", METRICS),
+    ("replay", "expiring.txt", EXPIRING),
+    ("replay --workers 4", "expiring.txt", EXPIRING),
+    ("rollup --bucket 60", "points.txt", SERIES),
+    ("simulate", "meeting.txt", MEETING),
+)
+
 # What is said where a line was refused.
 SOME = b"some calls were refused\n"
 
@@ -282,6 +302,13 @@ def text_cases():
             yield Case(f"{name}: `{words}`", words, text, said=b"bad line %d\n" % line, status=3)
 
 
+def example_cases():
+    """The cases of the examples."""
+    for words, name, printed in EXAMPLES:
+        given = (Path(__file__).resolve().parent.parent / "examples" / name).read_bytes()
+        yield Case(f"the example {name}: `{words}`", words, given, printed=printed)
+
+
 def script_cases():
     """The cases of the stored scripts."""
     for path in sorted(SCRIPTS.glob("**/given/*")):
@@ -335,7 +362,7 @@ def main():
     program = shlex.split(options.program) if options.program else [KIWI]
     subprocess.run([*program, "replay"], input=b"", check=False)  # proves and builds the program, which the first run says on standard error
     failed = 0
-    cases = (*CASES, mixed_case(), updated_case(), *text_cases(), *script_cases())
+    cases = (*CASES, mixed_case(), updated_case(), *example_cases(), *text_cases(), *script_cases())
     for case in cases:
         got, wanted = ended(program, case), (case.printed, case.said, case.status)
         if got != wanted:
