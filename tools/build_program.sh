@@ -54,7 +54,7 @@ crates_in_order() {
 # it stands on, and proves nothing: the build of the program looks at all of them by their sums.
 is_built() {
   local crate=$top/crates/$1
-  local stamp=$crate/out/rlib/$1.rlib/stamp
+  local stamp=$crate/out/rlib/stamp
   [ -f "$stamp" ] && [ -z "$(find "$crate"/{src,specs,proofs} -newer "$stamp" -print -quit 2>/dev/null)" ]
 }
 

@@ -43,9 +43,9 @@ Tried p q row Tidies = Unit {0}
 Tried p q row (RowFull full) = (full ≡ row) × SawFull p q
 
 -- how many events a put makes at most from one exchange that it loses to the next, but for the one
--- by which its walk may begin behind a cell: to load a link,
--- and the key and the version of the cell that it reaches there, for each cell; then to load the
--- last link, to store its own, and to exchange
+-- by which its walk may begin behind a cell: to load a link, and the key and the version of the
+-- cell that it reaches there, for each cell; then to load the last link, to store its own, and to
+-- exchange
 abbrev pub each_walk : ℕ
 each_walk = 3 * CELLS + 4
 

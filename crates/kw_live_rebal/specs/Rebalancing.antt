@@ -50,8 +50,8 @@ pub record SawSpent (p q : Pass) : Type 0 where
   pub saw : Saw p q activity choice told
   pub spent : SPENT ≤ told
 
--- the seat linked new rows in place of a full one: its exchange saw a link that led to that row and
--- was not marked
+-- the seat linked new rows in place of a group: its exchange saw a link that led to the full row
+-- and was not marked
 pub record WonIn (o : Opening) (n : ℕ) (old new : List Event) : Type 0 where
   pub choice : Choice
   pub told : ℕ

@@ -53,12 +53,11 @@ pub enum Rebalanced {
 ///
 /// After `Done` and `Again` the call is to try again from its beginning, and after `NoRows` and
 /// `Spent` it is about to leave with that. `Done` comes only where an exchange of this call linked
-/// new rows in place of the row; `Again` only where an event of this call found the row retired, or
-/// the one that was to go along, or the row in the list no more, or the link to it led elsewhere;
-/// `NoRows` only where the last search of
-/// this call asked for each row of the table; `Spent` only where a load of this call found the
-/// clock or the epoch at `SPENT` or above. The row is the one that the call works on at that event:
-/// its own, or one before it.
+/// new rows in place of its group; `Again` only where an event of this call found the row retired,
+/// or the one that was to go along, or the row in the list no more, or the link to it led
+/// elsewhere; `NoRows` only where the last search of this call asked for each row of the table;
+/// `Spent` only where a load of this call found the clock or the epoch at `SPENT` or above. The row
+/// is the one that the call works on at that event: its own, or one before it.
 ///
 /// The search for free rows begins at the row that the hints name, and so does the walk to the row
 /// before the full one; from a row that follows another the seat goes to its leader at once, by the

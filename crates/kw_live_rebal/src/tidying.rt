@@ -1,8 +1,9 @@
 //! The rebalance of a row by a put or a delete that is done.
 //!
-//! A row whose keys are deleted is full for nobody, so no put would ever replace it. So who put into
-//! it may rebalance it before it leaves, by the events of every rebalance. What differs is the end:
-//! whatever becomes of the row, the call does not try again, and is refused nothing.
+//! A row whose keys are deleted is full for nobody, so no put would ever replace it. So a call that
+//! is done there may rebalance the row before it leaves, by the events of every rebalance. What
+//! differs is the end: whatever becomes of the row, the call does not try again, and is refused
+//! nothing.
 ghost use Rattle.std.specs.Prelude.{◌≡◌, true};
 ghost use Rattle.kw_follow.specs.Following.{Follows};
 ghost use Rattle.kw_follow.specs.Reaching.{Advances};

@@ -14,7 +14,7 @@
 //! What a call says of the pass that made it stands in `specs/Kiwi.antt`, why a call was refused in
 //! `specs/Refusals.antt`, what passes know that met in `specs/Meetings.antt`, what it is to take a
 //! list of pairs in `specs/Gather.antt`, and for which lists a gatherer of a number stands in
-//! `specs/GatherNumbers.antt`. `get`, `scan` and the meetings take no handle, so their types say
+//! `specs/GatherNumbers.antt`. `get`, `scan` and the meetings take no runtime, so their types say
 //! that they return whatever others do; `put` and `delete` take the runtime with `Wait`. Only
 //! `open` and the gatherer of all pairs take memory.
 //!

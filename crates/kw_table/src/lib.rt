@@ -10,8 +10,9 @@
 //! of event that comes often and `steps` the one that takes any, and `meeting` lets passes see what
 //! others have seen. `pass` and `shared` hold the two types, `numbers` what a caller may ask of
 //! them, and `rule` the rule and what a step tells its caller. `warming` loads rows ahead of walks,
-//! for speed alone, and `tidying` says whether a row may well be tidied. Each step is one atomic operation on one word. Whoever stands above needs the
-//! contracts of these calls alone, and goes on by the laws over valid lists of events.
+//! for speed alone, and `tidying` says whether a row may well be tidied. Each step is one atomic
+//! operation on one word. Whoever stands above needs the contracts of these calls alone, and goes
+//! on by the laws over valid lists of events.
 #![tactic(auto)]
 
 mod kinds;

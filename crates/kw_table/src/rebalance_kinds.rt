@@ -193,9 +193,9 @@ pub fn store_infant(shared: &Shared, pass: &mut Pass, word: Name, stored: u64) -
     )
 }
 
-// The new rows are linked, and the full one goes.
+// The new rows are linked, and those of the group go.
 
-/// Links the new rows in place of the full one.
+/// Links the new rows in place of the group.
 #[inline(always)]
 pub fn replace(shared: &Shared, pass: &mut Pass, word: Name, expected: u64, stored: u64) -> u64
     requires { Asks shared.now pass.old Choice.Go

@@ -1,10 +1,10 @@
 //! Whether a row whose keys were deleted may well be tidied, and how many rows are in use.
 //!
-//! Who has deleted a key may go on and rebalance its row together with the row after it, so that two
-//! rows that have become small give way to one. That takes as long as a split, so it is asked first
-//! whether it pays. What is asked here is asked of words as they are just now, by loads that have
-//! no seat and make no event: no clause rests on it, and a wrong answer costs time or room, nothing
-//! else.
+//! Who has deleted a key may go on and rebalance its row together with the row after it, so that
+//! two rows that have become small give way to one. That takes as long as a split, so it is asked
+//! first whether it pays. What is asked here is asked of words as they are just now, by loads that
+//! have no seat and make no event: no clause rests on it, and a wrong answer costs time or room,
+//! nothing else.
 ghost use Rattle.std.specs.Prelude.{◌<◌, IfSome};
 ghost use Rattle.kw_words.specs.declared.sizes.TheConstants.{CELLS};
 
