@@ -16,7 +16,6 @@ use Rattle.kw_world.specs.declared.activity.rebalance.engage.Engage.TheVariants 
 use Rattle.kw_world.specs.declared.activity.insert.Insert.TheVariants as Insert
 use Rattle.kw_world.specs.declared.activity.put.Put.TheVariants as Put
 use Rattle.kw_world.specs.declared.activity.rebalance.Rebalance.{Rebalance}
-use Rattle.kw_world.specs.declared.activity.rebalance.Rebalance.TheVariants as Rebalance
 use Rattle.kw_world.specs.declared.activity.draw.Draw.TheVariants as Draw
 use Rattle.kw_world.specs.declared.activity.enter.Enter.TheVariants as Enter
 use Rattle.kw_world.specs.declared.activity.rebalance.freeze.Freeze.TheVariants as Freeze
