@@ -27,7 +27,7 @@ import tempfile
 from collections import Counter, namedtuple
 from pathlib import Path
 
-from check_program import BLOCK, RECORD, SCRIPTS, THREE
+from check_program import BLOCK, KEYS, POINTS, POINTS_TABLES, RECORD, SCRIPTS, THREE
 from kiwi_map import KIWI
 
 PROGRAM = KIWI.parent / "crates" / "kw_program" / "out" / "kw_program"
@@ -45,11 +45,14 @@ Run = namedtuple("Run", "words given printed step", defaults=(128 * KILOBYTE,))
 # A script in which a put finds its row full and replaces it.
 FULL = "a_put_that_finds_its_row_full_replaces_it"
 
-# The lines of `replay` are those of four workers, who are refused at other places from run to run,
-# and then a list, whose pairs take memory while they are gathered.
+# The first lines of `replay` are few, which one thread answers for all workers, and then a list,
+# whose pairs take memory while they are gathered. The others are many: threads read, answer and
+# print them beside each other, so another one is refused from run to run.
 RUNS = (
     Run("replay --workers 4", BLOCK, 24 * b"ok\n" + b"516\n24\n100=10 101=11\n", 2 * MEGABYTE),
+    Run("replay --workers 8", KEYS, 20000 * b"ok\n" + b"200010000\n20000\n1\n", 8 * MEGABYTE),
     Run("gen 1 3", b"", THREE, 2 * MEGABYTE),
+    Run("rollup --bucket 10 --workers 2", POINTS, POINTS_TABLES, 2 * MEGABYTE),
     Run("simulate", (SCRIPTS / "given" / FULL).read_bytes(), (SCRIPTS / "printed" / FULL).read_bytes()),
     Run("simulate --record", (SCRIPTS / "given" / FULL).read_bytes(), (SCRIPTS / "recorded" / FULL).read_bytes()),
     Run("judge", RECORD, b"yes\n"),
