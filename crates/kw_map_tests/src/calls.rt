@@ -73,6 +73,23 @@ fn put_again<R: Wait>(
     Ok(())
 }
 
+/// Deletes each key from `from` to below `end`, up to the first refusal.
+fn delete_each<R: Wait>(
+    rt: &R,
+    kiwi: &Kiwi,
+    pass: &mut Pass,
+    from: u32,
+    end: u32,
+) -> Result<(), PutEnd>
+    requires { IsIdle kiwi.now pass.old }
+    ensures { IsIdle kiwi.now pass.new }
+{
+    for key in from..end {
+        kiwi.delete(rt, pass, key)?;
+    }
+    Ok(())
+}
+
 /// The sum of the values of a range.
 pub(crate) fn sum_of(kiwi: &Kiwi, pass: &mut Pass, from: u32, upto: u32) -> Result<u128, ScanEnd>
     requires { IsIdle kiwi.now pass.old }
@@ -153,6 +170,40 @@ fn no_rows_are_left(rt: HostRuntime) -> Result<(), Fail> {
     ];
     let found = kiwi.get(&mut pass, 5);
     assert_eq!(rt; (deleted, found), ([Err(PutEnd::NoRows), Ok(())], None));
+    Ok(())
+}
+
+// In a table of three rows the keys from 0 to 31 stand in one row, and those from 32 to 64 in the
+// next. With 31 deletes that one is full, and the put of 33 replaces it by one of three cells, of
+// 32 and 33. With 31 deletes and a put the first one is full, and the next put of 0 takes its small
+// neighbour along: one row has the three keys, in four cells. So 60 more keys fit in it, and the
+// 61st splits it. That needs two rows, and both others are free by then: had the full row gone
+// alone, one would be, and the last put would be refused.
+#[test]
+fn a_full_row_takes_its_small_neighbour_along(rt: HostRuntime) -> Result<(), Fail> {
+    let (kiwi, mut pass) = open_one(rt.alloc(), 3, 1, 1)?;
+    let made = [
+        put_each(&rt, &kiwi, &mut pass, 0, ROW + 1, 1),
+        delete_each(&rt, &kiwi, &mut pass, 34, ROW + 1),
+        kiwi.put(&rt, &mut pass, 33, 2),
+        delete_each(&rt, &kiwi, &mut pass, 1, 32),
+        put_again(&rt, &kiwi, &mut pass, 0, 2, 4),
+    ];
+    let together = (
+        sum_of(&kiwi, &mut pass, 0, 4294967295),
+        count_of(&kiwi, &mut pass, 0, 4294967295),
+    );
+    let more = put_each(&rt, &kiwi, &mut pass, 100, 161, 10);
+    let all = sum_of(&kiwi, &mut pass, 0, 4294967295);
+    assert_eq!(rt;
+        (made, together, (more, all)),
+        ([Ok(()); 5], (Ok(6), Ok(3)), (Ok(()), Ok(616)))
+    );
+    let mut found = [None; 5];
+    for (key, value) in [0, 31, 32, 33, 34].into_iter().zip(found.iter_mut()) {
+        *value = kiwi.get(&mut pass, key);
+    }
+    assert_eq!(rt; found, [Some(3), None, Some(1), Some(2), None]);
     Ok(())
 }
 
