@@ -1,3 +1,1 @@
-mod AskedOperations
-mod Knowing
 mod Starting

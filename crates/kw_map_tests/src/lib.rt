@@ -1,6 +1,5 @@
 //! Tests of the map (`kw_map`), and of what its calls are put together from: the stretches of
-//! events (`kw_live`, `kw_live_rebal`), the events on the table that threads share (`kw_table`),
-//! and the index (`kw_index`).
+//! events (`kw_live`, `kw_live_rebal`) and the index (`kw_index`).
 //!
 //! They make public calls alone, and what they expect was worked out by hand. They are a crate of
 //! their own since a crate with tests is proved twice, with them and without.
@@ -10,12 +9,9 @@
 //! `live`, `live_get` and `live_guess` put whole calls together from the functions of `kw_live`,
 //! and `rebalance` those whose row is full.
 //!
-//! Of the table `table_slots` has where its words lie, `table_calls` whole calls of passes that
-//! make one event after the other, `table_kinds` the events by the calls of their kinds, and
-//! `table_rebalance_kinds` those of a rebalance. Of the index `index_edits` has what edits leave of
-//! entries, `index_logs` what a log makes of entries that lag behind, `index_callers` what
-//! callers publish and guess, `index_threads` two threads on one index, and `index_window` where
-//! free rows are searched for.
+//! Of the index `index_edits` has what edits leave of entries, `index_logs` what a log makes of
+//! entries that lag behind, `index_callers` what callers publish and guess, `index_threads` two
+//! threads on one index, and `index_window` where free rows are searched for.
 #![tactic(auto)]
 
 #[cfg(test)]
@@ -42,13 +38,5 @@ mod live_get;
 mod live_guess;
 #[cfg(test)]
 mod rebalance;
-#[cfg(test)]
-mod table_calls;
-#[cfg(test)]
-mod table_kinds;
-#[cfg(test)]
-mod table_rebalance_kinds;
-#[cfg(test)]
-mod table_slots;
 #[cfg(test)]
 mod threads;

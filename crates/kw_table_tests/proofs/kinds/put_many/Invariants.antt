@@ -1,7 +1,7 @@
 use Rattle.std.proofs.Common.{◌≡◌}
 use Rattle.kw_table.specs.Passes.{view, IsPassOf}
 use Rattle.kw_table.specs.Views.{local_in}
-use Rattle.kw_map_tests.proofs.table_kinds.put_many.Given as goal
+use Rattle.kw_table_tests.proofs.kinds.put_many.Given as goal
 
 abbrev pub invariant-loop-i : goal.invariant-loop-i
 invariant-loop-i l = IsPassOf l.shared l.player.pass × (l.player.local ≡ local_in (view l.player.pass))

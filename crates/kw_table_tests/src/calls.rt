@@ -10,7 +10,7 @@ ghost use Rattle.kw_core.specs.Events.{is_call_in_range, may_begin};
 ghost use Rattle.kw_table.specs.Passes.{view, IsPassOf};
 ghost use Rattle.kw_table.specs.Views.{local_in};
 
-use crate::table_kinds::{Player, open_two};
+use crate::kinds::{Player, open_two};
 use kw_core::step::{operation, resume};
 use kw_model::call::{Call, Reply};
 use kw_model::memory::Memory;

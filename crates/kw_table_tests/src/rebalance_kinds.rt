@@ -4,7 +4,7 @@
 //! is 2 as a word where it is normal, 3 where it is a leader that has not decided, 11 where it
 //! leads alone, 0 where it is free, 1 where seat 0 writes it, and 13 where it is retired with
 //! number 1.
-use crate::table_kinds::{ALL, Turn, Who, expect_told};
+use crate::kinds::{ALL, Turn, Who, expect_told};
 use kw_words::kind::Kind;
 use std::test::Fail;
 

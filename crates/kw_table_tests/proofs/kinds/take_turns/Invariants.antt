@@ -1,7 +1,7 @@
 use Rattle.std.proofs.Common.{◌≡◌}
 use Rattle.kw_table.specs.Passes.{view, IsPassOf}
 use Rattle.kw_table.specs.Views.{local_in}
-use Rattle.kw_map_tests.proofs.table_kinds.take_turns.Given as goal
+use Rattle.kw_table_tests.proofs.kinds.take_turns.Given as goal
 
 abbrev pub invariant-loop-turn : goal.invariant-loop-turn
 invariant-loop-turn l =

@@ -1,0 +1,2 @@
+mod AskedOperations
+mod Knowing
