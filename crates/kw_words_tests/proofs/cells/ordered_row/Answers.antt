@@ -2,7 +2,7 @@
 use Rattle.std.proofs.Common.{List, [], ◌∷◌, Some, None, refl}
 use Rattle.kw_cells.specs.declared.cell.Cell.{Cell}
 use Rattle.kw_cells.proofs.InOrder.{in_order-yes}
-use Rattle.kw_core_tests.proofs.cells.ordered_row.Goals as goal
+use Rattle.kw_words_tests.proofs.cells.ordered_row.Goals as goal
 
 -- the row of the tests
 cells : List Cell
