@@ -5,7 +5,8 @@
 //! their own since a crate with tests is proved twice, with them and without.
 //!
 //! `gatherers` has what the gatherers are handed, `calls` what the calls of one pass answer,
-//! `index` what the index spares them, and `threads` what passes in several threads put and see.
+//! `index` what the index spares them, `tidying` that the rows of deleted keys come back, and
+//! `threads` what passes in several threads put and see.
 //! `live`, `live_get` and `live_guess` put whole calls together from the functions of `kw_live`,
 //! and `rebalance` those whose row is full.
 //!
@@ -40,3 +41,5 @@ mod live_guess;
 mod rebalance;
 #[cfg(test)]
 mod threads;
+#[cfg(test)]
+mod tidying;
