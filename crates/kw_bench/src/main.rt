@@ -11,6 +11,8 @@
 //! gets, and N of both in turn, which threads share; and a tenth as many sums of a thousand keys,
 //! alone and while three other threads put. It fills such a map by rising, falling and random keys,
 //! N at most, until a put is refused, and prints what a put took as more and more rows were in use.
+//! And it puts N rising keys, each followed by the delete of the one that is a thousand below, and
+//! prints what a call took, and how many rows were in use after a tenth of them and at the end.
 //!
 //! Then it reads an input of N lines, or of as many as an input may have, and prints an answer to
 //! each, with no map. At last it asks an index of few entries, one of some and one of many for N
@@ -34,6 +36,7 @@ mod map_load;
 mod map_timing;
 mod sum_timing;
 mod timing;
+mod window_timing;
 
 use crate::asking::{Reading, Task};
 use crate::figures::{
@@ -43,11 +46,12 @@ use crate::fill_timing::time_fill;
 use crate::index_timing::time_guesses;
 use crate::lines::time_lines;
 use crate::load::{Keys, Load};
-use crate::map_figures::{print_fill, print_fill_heads, print_map, print_sums};
+use crate::map_figures::{print_fill, print_fill_heads, print_map, print_sums, print_window};
 use crate::map_load::{Order, PUTS_A_SUM};
 use crate::map_timing::time_map;
 use crate::sum_timing::time_sums;
 use crate::timing::{time_puts, time_reads};
+use crate::window_timing::time_window;
 use kw_words::sizes::CELL_COUNT;
 use std::io;
 use std::process::ExitCode;
@@ -124,5 +128,6 @@ fn time_many_rows<T: Threads + Wait + Sync>(
     print_fill_heads(rt)?;
     print_fill(rt, time_fill(rt, threads, Order::Rising, calls)?)?;
     print_fill(rt, time_fill(rt, threads, Order::Falling, calls)?)?;
-    print_fill(rt, time_fill(rt, threads, Order::Random, calls)?)
+    print_fill(rt, time_fill(rt, threads, Order::Random, calls)?)?;
+    print_window(rt, time_window(rt, threads, calls)?)
 }

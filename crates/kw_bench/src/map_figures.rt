@@ -5,6 +5,7 @@ use crate::fill_timing::{FillFigure, Stretch};
 use crate::map_load::{KEYS, ROWS, SUMMED};
 use crate::map_timing::MapFigure;
 use crate::sum_timing::{PUTTING, SumFigure};
+use crate::window_timing::{WINDOW, WINDOW_ROWS, WindowFigure};
 use kw_words::layout::Layout;
 use kw_words::sizes::{CELLS, SEATS};
 use std::io;
@@ -86,4 +87,17 @@ fn print_stretch(rt: &HostRuntime, stretch: Stretch) -> io::Result<()> {
         return print!(rt; " {:>6}", "-");
     }
     print!(rt; " {:>6}", stretch.took / u128::from(stretch.puts))
+}
+
+/// Prints what puts and deletes took while a window moved on, and how many rows were in use.
+pub fn print_window(rt: &HostRuntime, figure: WindowFigure) -> io::Result<()> {
+    let calls = u128::from(figure.puts).saturating_mul(2).max(1);
+    println!(rt;
+        "a window of {WINDOW} rising keys in {WINDOW_ROWS} rows: {} ns a call, {} rows in use after a tenth of {} puts and {} at the end, {} refused",
+        figure.took / calls,
+        figure.early,
+        figure.puts,
+        figure.late,
+        figure.refused
+    )
 }
