@@ -30,7 +30,8 @@ pub struct WindowFigure {
     pub refused: u32,
 }
 
-/// Times so many puts of rising keys, each followed by the delete of the key that leaves the window.
+/// Times so many puts of rising keys, each followed by the delete of the key that leaves the
+/// window.
 pub fn time_window<R: Wait>(clock: &HostRuntime, rt: &R, puts: u32) -> io::Result<WindowFigure> {
     let (kiwi, _, mut pass) = opened(clock.alloc(), WINDOW_ROWS, 0)?;
     let start = Instant::now(clock)?;

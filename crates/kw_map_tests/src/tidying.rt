@@ -14,8 +14,8 @@ const WINDOW: u32 = 100;
 /// asks.
 const FEW_ROWS: u32 = 8;
 
-/// The window moves on by a key at a time: so many keys above each of these one is put, with this as
-/// its value, and this one is deleted; up to the first refusal.
+/// The window moves on by a key at a time: so many keys above each of these one is put, with this
+/// as its value, and this one is deleted; up to the first refusal.
 fn move_window<R: Wait>(
     rt: &R,
     kiwi: &Kiwi,
