@@ -66,7 +66,7 @@ REFUSAL = "no rows"
 NARROW = 64  # how many updates a block with range lines has at most
 MANY = 160  # with so many lines for each worker they are at work beside each other, and with few not
 NEVER = 9  # more workers than there are
-PUTS = 3200  # so many puts, and a delete for most of them, are more updates than a shape has
+PUTS = 3300  # so many puts, and a delete for most of them, are more updates than a shape has
 READERS = ("sum", "count", "least", "greatest", "list", "list")
 
 
@@ -79,7 +79,7 @@ def window_updates(rng):
 
 def series_updates(rng):
     """Series of minutes, of each of which so many stay."""
-    series, kept = rng.randrange(2, 8), rng.randrange(2, 30)
+    series, kept = rng.randrange(2, 8), rng.randrange(20, 61)
     minutes = [[(one, (one << 20) + minute) for one in range(series)] for minute in range(PUTS // series)]
     for points in minutes if rng.random() < 0.5 else ():
         rng.shuffle(points)
@@ -138,7 +138,7 @@ SHAPES = {
     "crowded": Shape(16, 500, 3, 40, 1.0, True, (), NEVER),
     "neighbours": Shape(300, 6000, 3, 12, 0.6, False, ROWS, 2, neighbour_updates),
     "window": Shape(160, 6000, 1, 12, 0.6, False, ROWS, 2, window_updates),
-    "series": Shape(210, 6000, 1, 12, 0.6, False, ROWS, 2, series_updates),
+    "series": Shape(420, 6000, 1, 12, 0.6, False, ROWS, 2, series_updates),
     "disorder": Shape(160, 6000, 1, 12, 0.6, False, ROWS, 2, disorder_updates),
 }
 
