@@ -38,8 +38,8 @@ ASKED = 20  # after so many minutes something is asked
 # How many clients a server has, how many minutes each sends at once, and for how many lines it
 # keeps a connection: fewer than may come by one.
 CLIENTS, AT_ONCE, LINES = 4, 40, 900_000
-# How many connections the server serves by each seat: enough for some days.
-SESSIONS = 2_000
+# How many connections the server serves by each seat: enough for a day.
+SESSIONS = 1_000
 FORMS = ("sum", "count", "least", "greatest", "list", "get")
 
 
