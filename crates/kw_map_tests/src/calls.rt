@@ -199,10 +199,13 @@ fn a_full_row_takes_its_small_neighbour_along(rt: HostRuntime) -> Result<(), Fai
         (made, together, (more, all)),
         ([Ok(()); 5], (Ok(6), Ok(3)), (Ok(()), Ok(616)))
     );
-    let mut found = [None; 5];
-    for (key, value) in [0, 31, 32, 33, 34].into_iter().zip(found.iter_mut()) {
-        *value = kiwi.get(&mut pass, key);
-    }
+    let found = [
+        kiwi.get(&mut pass, 0),
+        kiwi.get(&mut pass, 31),
+        kiwi.get(&mut pass, 32),
+        kiwi.get(&mut pass, 33),
+        kiwi.get(&mut pass, 34),
+    ];
     assert_eq!(rt; found, [Some(3), None, Some(1), Some(2), None]);
     Ok(())
 }
