@@ -27,7 +27,7 @@ import time
 from collections import Counter
 
 from kiwi_map import KIWI, answered, ended, expected, items_of, line_of
-from soak_kiwid import KIWID, PATIENCE, Sizes, Wrong, free_port, started, use_up
+from soak_kiwid import KIWID, PATIENCE, Sizes, Wrong, free_port, started, use_up, watch
 
 SERIES, KEPT, ROWS = 50, 60, 512
 # The keys of a series begin here behind those of the one before. It leaves 1 when it is divided by
@@ -141,15 +141,7 @@ def soak_server(program, until, seed, wrong, counts):
     allowed = Sizes(server)
     clients = [Client(port, number, seed) for number in range(CLIENTS)]
     threads = [threading.Thread(target=client.soak, args=(until, wrong)) for client in clients]
-    for thread in threads:
-        thread.start()
-    while time.monotonic() < until and not wrong and server.poll() is None:
-        time.sleep(min(60, max(0.1, until - time.monotonic())))
-        fault = allowed.fault() if server.poll() is None else "the server ended too early"
-        if fault:
-            wrong.append(fault)
-    for thread in threads:
-        thread.join()
+    watch(server, allowed, threads, until, wrong)
     use_up(server, port, wrong)
     counts["points"] += sum(client.points for client in clients)
     print(f"a server, {min(client.window.minute for client in clients)} minutes", flush=True)

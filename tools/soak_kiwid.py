@@ -229,6 +229,19 @@ def started(program, port, sessions):
     sys.exit("soak_kiwid: the server does not listen")
 
 
+def watch(server, allowed, threads, until, wrong):
+    """Has the clients go on until the time is up, and looks at the server once a minute."""
+    for thread in threads:
+        thread.start()
+    while time.monotonic() < until and not wrong and server.poll() is None:
+        time.sleep(min(60, max(0.1, until - time.monotonic())))
+        fault = allowed.fault() if server.poll() is None else "the server ended too early"
+        if fault:
+            wrong.append(fault)
+    for thread in threads:
+        thread.join()
+
+
 def use_up(server, port, wrong):
     """Connects until the server has served all that it was to serve."""
     until = time.monotonic() + USING_UP
@@ -258,15 +271,7 @@ def main():
     wrong, until = [], time.monotonic() + 60 * options.minutes
     clients = [Client(port, number, options.seed) for number in range(options.clients)]
     threads = [threading.Thread(target=soak, args=(client, until, wrong)) for client in clients]
-    for thread in threads:
-        thread.start()
-    while time.monotonic() < until and not wrong and server.poll() is None:
-        time.sleep(min(60, max(0.1, until - time.monotonic())))
-        fault = allowed.fault() if server.poll() is None else "the server ended too early"
-        if fault:
-            wrong.append(fault)
-    for thread in threads:
-        thread.join()
+    watch(server, allowed, threads, until, wrong)
     use_up(server, port, wrong)
     counts = sum((client.counts for client in clients), Counter())
     for fault in wrong:
