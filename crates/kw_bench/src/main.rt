@@ -11,8 +11,10 @@
 //! gets, and N of both in turn, which threads share; and a tenth as many sums of a thousand keys,
 //! alone and while three other threads put. It fills such a map by rising, falling and random keys,
 //! N at most, until a put is refused, and prints what a put took as more and more rows were in use.
-//! And it puts N rising keys, each followed by the delete of the one that is a thousand below, and
-//! prints what a call took, and how many rows were in use after a tenth of them and at the end.
+//! And it lets keys come and go, by one thread and by four: a window of rising keys, series of
+//! minutes, keys in disorder, and random keys that are all put and all deleted. It puts N of the
+//! first, and prints what a call took, how many of the rows were in use after a tenth of the puts
+//! and at the end, and how many calls were refused.
 //!
 //! Then it reads an input of N lines, or of as many as an input may have, and prints an answer to
 //! each, with no map. At last it asks an index of few entries, one of some and one of many for N
@@ -34,9 +36,10 @@ mod map_calls;
 mod map_figures;
 mod map_load;
 mod map_timing;
+mod moving;
+mod moving_timing;
 mod sum_timing;
 mod timing;
-mod window_timing;
 
 use crate::asking::{Reading, Task};
 use crate::figures::{
@@ -46,12 +49,15 @@ use crate::fill_timing::time_fill;
 use crate::index_timing::time_guesses;
 use crate::lines::time_lines;
 use crate::load::{Keys, Load};
-use crate::map_figures::{print_fill, print_fill_heads, print_map, print_sums, print_window};
+use crate::map_figures::{
+    print_fill, print_fill_heads, print_map, print_moving, print_moving_heads, print_sums,
+};
 use crate::map_load::{Order, PUTS_A_SUM};
 use crate::map_timing::time_map;
+use crate::moving::Moving;
+use crate::moving_timing::time_moving;
 use crate::sum_timing::time_sums;
 use crate::timing::{time_puts, time_reads};
-use crate::window_timing::time_window;
 use kw_words::sizes::CELL_COUNT;
 use std::io;
 use std::process::ExitCode;
@@ -129,5 +135,21 @@ fn time_many_rows<T: Threads + Wait + Sync>(
     print_fill(rt, time_fill(rt, threads, Order::Rising, calls)?)?;
     print_fill(rt, time_fill(rt, threads, Order::Falling, calls)?)?;
     print_fill(rt, time_fill(rt, threads, Order::Random, calls)?)?;
-    print_window(rt, time_window(rt, threads, calls)?)
+    print_moving_heads(rt)?;
+    time_both(rt, threads, Moving::Window, calls)?;
+    time_both(rt, threads, Moving::Series, calls / 20)?;
+    time_both(rt, threads, Moving::Disorder, calls)?;
+    time_both(rt, threads, Moving::Random, calls / 20)
+}
+
+// Takes the figures of so many puts of keys that come and go, by one thread and by four, and prints
+// a line for each.
+fn time_both<T: Threads + Wait + Sync>(
+    rt: &HostRuntime,
+    threads: &T,
+    moving: Moving,
+    puts: u32,
+) -> io::Result<()> {
+    print_moving(rt, time_moving(rt, threads, moving, 1, puts)?)?;
+    print_moving(rt, time_moving(rt, threads, moving, 4, puts)?)
 }

@@ -4,8 +4,8 @@ ghost use Rattle.std.specs.Prelude.{◌≤◌};
 use crate::fill_timing::{FillFigure, Stretch};
 use crate::map_load::{KEYS, ROWS, SUMMED};
 use crate::map_timing::MapFigure;
+use crate::moving_timing::MovingFigure;
 use crate::sum_timing::{PUTTING, SumFigure};
-use crate::window_timing::{WINDOW, WINDOW_ROWS, WindowFigure};
 use kw_words::layout::Layout;
 use kw_words::sizes::{CELLS, SEATS};
 use std::io;
@@ -89,14 +89,29 @@ fn print_stretch(rt: &HostRuntime, stretch: Stretch) -> io::Result<()> {
     print!(rt; " {:>6}", stretch.took / u128::from(stretch.puts))
 }
 
-/// Prints what puts and deletes took while a window moved on, and how many rows were in use.
-pub fn print_window(rt: &HostRuntime, figure: WindowFigure) -> io::Result<()> {
+/// Prints the heads of the columns for what puts and deletes took while keys came and went.
+pub fn print_moving_heads(rt: &HostRuntime) -> io::Result<()> {
+    println!(rt;
+        "nanoseconds a call of each thread while keys come and go, and rows in use after a tenth of the puts and at the end"
+    )?;
+    println!(rt;
+        "{:<8} {:>7} {:>8} {:>6} {:>6} {:>6} {:>6} {:>7}",
+        "keys", "threads", "puts", "ns", "of", "early", "late", "refused"
+    )
+}
+
+/// Prints what puts and deletes took while keys came and went, and how many rows were in use: a
+/// line below the heads.
+pub fn print_moving(rt: &HostRuntime, figure: MovingFigure) -> io::Result<()> {
     let calls = u128::from(figure.puts).saturating_mul(2).max(1);
     println!(rt;
-        "a window of {WINDOW} rising keys in {WINDOW_ROWS} rows: {} ns a call, {} rows in use after a tenth of {} puts and {} at the end, {} refused",
-        figure.took / calls,
-        figure.early,
+        "{:<8} {:>7} {:>8} {:>6} {:>6} {:>6} {:>6} {:>7}",
+        figure.moving.words(),
+        figure.threads,
         figure.puts,
+        figure.took.saturating_mul(u128::from(figure.threads)) / calls,
+        figure.moving.rows(),
+        figure.early,
         figure.late,
         figure.refused
     )

@@ -59,8 +59,8 @@ impl Order {
     }
 }
 
-// A key for each number, different for different numbers: each of its steps can be undone.
-fn mixed(number: u32) -> u32 {
+/// A key for each number, different for different numbers: each of its steps can be undone.
+pub fn mixed(number: u32) -> u32 {
     let a = (number ^ (number >> 16)).wrapping_mul(2_246_822_507);
     let b = (a ^ (a >> 13)).wrapping_mul(3_266_489_909);
     b ^ (b >> 16)
