@@ -31,6 +31,8 @@ use Rattle.kiwid.specs.Lines.{StaysIdle}
 use Rattle.kiwid.specs.Links.{ListenerState}
 use Rattle.kiwid.specs.Seats.{AreParted, passes_of, rests_of}
 use Rattle.kiwid.specs.Serving.{HaveMet, IsSeatServed, Serves, Sessions}
+use Rattle.kiwid.specs.Session.{AreCaused}
+use Rattle.kiwid.proofs.Passes.{pass_caused}
 
 -- a pass's calls are the same after a meeting
 calls_met : (q r : Pass) → Meets (view q) (view r) → calls_in r ≡ calls_in q
@@ -92,6 +94,9 @@ have_met m ps qs same met = record {
   calls = λ i d lt.
       let q : Pass = slice_index_or qs i d in
       ap (λ (o : Opening). calls_seen product o (view q).number (view q).seen) (at i d lt).of_table.1 ∙ ap (calls_seen product m.opening (view q).number) (at i d lt).seen;
+  causes = λ i d lt.
+      let q : Pass = slice_index_or qs i d in
+      subst (λ (es : List Event). AreCaused m.opening es q) (at i d lt).seen (subst (λ (o : Opening). AreCaused o (view q).seen q) (at i d lt).of_table.1 (pass_caused q));
   ordered = λ i d lt. pass_ordered (slice_index_or qs i d);
 }
   where

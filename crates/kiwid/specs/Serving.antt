@@ -17,7 +17,7 @@ use Rattle.kw_map.specs.Meetings.{front_seen}
 use Rattle.kiwid.specs.Lines.{StaysIdle}
 use Rattle.kiwid.specs.Links.{LinkState, ListenerState, Loses, Gains}
 use Rattle.kiwid.specs.Requests.{IsGood}
-use Rattle.kiwid.specs.Session.{IfReadFault, IfWriteFault, IsServedWhole, ReadsOn, Session}
+use Rattle.kiwid.specs.Session.{AreCaused, IfReadFault, IfWriteFault, IsServedWhole, ReadsOn, Session}
 use Rattle.kiwid.specs.declared.request.TheConstants.{MOST_LINES}
 use Rattle.kiwid.specs.declared.session.SessionEnd.{SessionEnd}
 use Rattle.kiwid.specs.declared.session.SessionEnd.TheVariants.{Ended}
@@ -83,8 +83,10 @@ pub record IsSeatServed (kiwi : Kiwi) (sessions : ℕ) (p q : Pass) (old new : L
   pub fewer : length ends < sessions → CountRose old.faults new.faults
 
 -- All passes have seen one list of events. The calls of each pass's seat in it are those of the
--- pass; and all calls in it, by whichever seat, have one legal order that keeps precedence.
+-- pass, and each that was refused has its cause in it; and all calls in it, by whichever seat, have
+-- one legal order that keeps precedence.
 pub record HaveMet (o : Opening) (passes : List Pass) : Type 0 where
   pub seen : All (λ (p : Pass). (view p).seen ≡ front_seen passes) passes
   pub calls : All (λ (p : Pass). calls_in p ≡ calls_seen product o (view p).number (front_seen passes)) passes
+  pub causes : All (AreCaused o (front_seen passes)) passes
   pub ordered : All (λ (p : Pass). IsOrdered (view p)) passes

@@ -1,12 +1,18 @@
 -- What a session does, however its bytes come.
-use Rattle.std.specs.Prelude.{ℕ, ◌≡◌, ◌<◌, ◌≤◌, ◌⊎◌, ◌+◌, List, [], ◌∷◌, ◌++◌, map, length, take, Option, Some}
+use Rattle.std.specs.Prelude.{ℕ, ◌≡◌, ◌<◌, ◌≤◌, ◌⊎◌, ◌+◌, List, [], ◌∷◌, ◌++◌, map, length, take, All, Option, Some}
 use Rattle.std.specs.List.{flat_map, AllByRecursion}
 use Rattle.std.specs.Io.KnownBytes.{Appends, Consumes}
 use Rattle.kw_model.specs.declared.call.Reply.TheVariants.{Stopped}
 use Rattle.kw_io.specs.declared.reading.TheConstants.{PIECE}
+use Rattle.kw_world.specs.declared.event.Event.{Event}
+use Rattle.kw_world.specs.declared.opening.Opening.{Opening}
 use Rattle.kw_laws.specs.SeatCalls.{CallSeen}
 use Rattle.kw_line.specs.Answered.{IsReplyOf}
 use Rattle.kw_line.specs.Cut.{lines}
+use Rattle.kw_table.specs.declared.pass.Pass.{Pass}
+use Rattle.kw_table.specs.Passes.{view}
+use Rattle.kw_follow.specs.Calling.{calls_in}
+use Rattle.kw_map.specs.Refusals.{HasReason}
 use Rattle.kiwid.specs.Requests.{IsGood, IsMade, IsServed, Served, bad_text, form_of, line_of, said}
 use Rattle.kiwid.specs.declared.request.TheConstants.{MOST_BYTES, MOST_LINES}
 use Rattle.kiwid.specs.declared.session.SessionEnd.{SessionEnd}
@@ -90,3 +96,8 @@ IfReadFault _ Rose = Unit {0}
 abbrev pub IfWriteFault : SessionEnd → Type 0 → Type 0
 IfWriteFault WriteFault Rose = Rose
 IfWriteFault _ Rose = Unit {0}
+
+-- each call of the pass that was refused was so only for what its seat found while it made it, in
+-- this list of events: the versions or the epochs spent, or too few rows left
+abbrev pub AreCaused : Opening → List Event → Pass → Type 0
+AreCaused o es p = All (HasReason o es (view p).number) (calls_in p)

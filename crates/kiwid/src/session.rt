@@ -11,8 +11,9 @@ ghost use Rattle.kw_line.specs.Cut.{lines};
 ghost use Rattle.kw_line.specs.declared.words.TheConstants.{LINE_FEED};
 ghost use Rattle.kw_follow.specs.Calling.{calls_in};
 ghost use Rattle.kw_map.specs.Kiwi.{IsIdle};
+ghost use Rattle.kw_table.specs.Passes.{view};
 ghost use Rattle.kiwid.specs.Requests.{IsGood, IsRequestIn};
-ghost use Rattle.kiwid.specs.Session.{Ends, IfReadFault, IfWriteFault, IsServedWhole, ReadsOn, Session};
+ghost use Rattle.kiwid.specs.Session.{AreCaused, Ends, IfReadFault, IfWriteFault, IsServedWhole, ReadsOn, Session};
 ghost use Rattle.kiwid.specs.Lines.{AnswersUpTo, IsEndAtLine, IsEndOfLines, LineDone, LineStops, StaysIdle};
 ghost use Rattle.kiwid.specs.declared.request.TheConstants.{MOST_BYTES, MOST_LINES};
 
@@ -51,7 +52,8 @@ pub enum SessionEnd {
 /// [`MOST_LINES`] lines are served. The first line that is none of a session is answered by `bad
 /// line` and its number, and ends it. At a read or write fault, and where memory is wanted, the
 /// lines before have been served whole; of the line at hand the call may have been made, and of its
-/// reply a first part written. Memory is the one end without a cause.
+/// reply a first part written. Memory is the one end without a cause. A line is told `no rows` or
+/// `spent` only where its call found so.
 pub fn session<R: Wait, S: Source, K: Sink>(
     rt: &R,
     alloc: Global,
@@ -66,6 +68,9 @@ pub fn session<R: Wait, S: Source, K: Sink>(
         (K.written sink.old) (K.written sink.new) }
     ensures reads_on { ReadsOn (S.left source.old) (S.left source.new)
         (calls_in pass.old) (calls_in pass.new) }
+
+    // Why a line was refused: its call is among those of the pass, and its seat found this in it.
+    ensures causes { AreCaused (view pass.new).opening (view pass.new).seen pass.new }
 
     // Why it ended so.
     ensures ended { result ≡ SessionEnd.Ended → IsAtEnd (S.left source.new) }
