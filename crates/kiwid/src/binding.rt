@@ -1,7 +1,7 @@
 //! What binds a port, and gives each seat a listener of its own on it.
 //!
 //! [`Binder`] is the trait, and [`MemBinder`] has its listeners in memory, for tests.
-ghost use Rattle.std.specs.Prelude.{◌≡◌, ◌≢◌, ◌≤◌, ◌<◌, ◌^◌, length, All, IfOk, IsErrOf, OnErr, is_err, vec_len};
+ghost use Rattle.std.specs.Prelude.{◌≡◌, ◌≢◌, ◌≤◌, ◌<◌, ◌^◌, [], length, All, IfOk, IsErrOf, OnErr, OnOk, is_err, vec_len};
 ghost use Rattle.kw_io.specs.Counts.{counted};
 ghost use Rattle.kw_model.specs.Counts.{CountRose};
 ghost use Rattle.kiwid.specs.Links.{IsNew};
@@ -88,8 +88,8 @@ impl<I: Source + Send + Drop, O: Sink + Send + Drop> Binder for MemBinder<I, O> 
 
     ghost faults = { λ s. s.faults };
 
-    /// Fails exactly where there are not just as many listeners as are asked for, and is then
-    /// counted.
+    /// Fails exactly where there are not just as many listeners as are asked for; that is then
+    /// counted, and all stay. Otherwise none is left.
     fn bind(&mut self, _port: u16, seats: u32) -> Result<Vec<MemListener<I, O>>, BindEnd>
         ensures len { IfOk result (λ bound. vec_len bound ≡ seats) }
         ensures new { IfOk result (λ bound. All (λ listener.
@@ -99,9 +99,11 @@ impl<I: Source + Send + Drop, O: Sink + Send + Drop> Binder for MemBinder<I, O> 
         ensures never_falls { self.old.faults ≤ self.new.faults }
         ensures count_fits { self.new.faults < 2 ^ 64 }
 
-        // Which listeners it gives, when it fails, and what is counted.
+        // Which listeners it gives, when it fails, which are left, and what is counted.
         ensures given { IfOk result (λ bound. bound.items ≡ self.old.listeners) }
         ensures other_many { OnErr result (length self.old.listeners ≢ seats) }
+        ensures none_left { OnOk result (self.new.listeners ≡ []) }
+        ensures kept { OnErr result (self.new.listeners ≡ self.old.listeners) }
         ensures faults { self.new.faults ≡ counted (is_err result) self.old.faults }
     {
         let before = self.faults;
