@@ -1,0 +1,5 @@
+"""Random scripts, for comparisons."""
+
+
+def random_script(seed):
+    return ""
