@@ -16,7 +16,7 @@ difference is a fault of one of both, or of the pages. How it is made is told in
 import argparse
 import sys
 
-from simulator.random_scripts import random_script
+from simulator.random_scripts import random_lines, random_script
 from simulator.records import verdict_on
 from simulator.scripts import output_of, record_of
 from simulator.texts import BadLine
@@ -49,8 +49,7 @@ def perform(options):
         return simulated(options)
     if options.command == "judge":
         return [verdict_on(read_input())]
-    script = random_script(options.seed)
-    return record_of(script.encode(), 64) if options.command == "record" else script.splitlines()
+    return record_of("\n".join(random_lines(options.seed)).encode(), 64)
 
 
 def words():
@@ -69,8 +68,12 @@ def words():
 
 
 def main():
+    options = words()
+    if options.command == "script":
+        sys.stdout.buffer.write(random_script(options.seed))
+        return 0
     try:
-        lines = perform(words())
+        lines = perform(options)
     except (BadLine, Refused) as reason:
         print(reason, file=sys.stderr)
         return 3

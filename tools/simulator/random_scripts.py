@@ -1,5 +1,117 @@
-"""Random scripts, for comparisons."""
+"""Random scripts, for comparisons: each shape in turn leads to rows of another sort, and then a few
+seats make calls there, by steps and kinds of steps that are random. One script in five has a byte
+that was put in, left out or changed."""
+
+import random
+
+from simulator.scripts import MOST_LINES
+from simulator.words import SEATS, Kind
+
+from kiwi_map import joined
+
+# What a seat with a call is mostly made to wait for: the steps that others' steps may meet.
+MEETING = (
+    "add_count announce load_clock stamp store_version insert clear_pend store_waiting draw settle"
+    " help_stamp load_after engage mark_link load_next_count decide engage_next freeze_count"
+    " freeze_pend load_scan help_draw help_settle take_row load_pass reclaim store_infant load_min"
+    " replace normalise give_back number store_retired clear_pass store_pass"
+).split()
+KINDS = list(Kind.__members__)
+
+
+def calls(rng, keys):
+    """The words of a random call on one of these keys."""
+    key, other = rng.choice(keys), rng.choice(keys)
+    value = rng.randrange(100)
+    made = (f"put {key} {value}", f"del {key}", f"get {key}", f"scan {min(key, other)} {other}")
+    return rng.choices(made, (5, 2, 2, 3))[0]
+
+
+def steps(rng, seat):
+    """A line by which a seat makes steps."""
+    made = (
+        f"go {seat} {rng.choice((1, 1, 2, 3, 5, 8, 20, 60, 400))}",
+        f"until {seat} {rng.choice(MEETING)}",
+        f"until {seat} {rng.choice(KINDS)}",
+        f"guess {seat} {rng.randrange(64) if rng.random() < 0.1 else rng.randrange(6)}",
+        f"stop {seat}",
+    )
+    return rng.choices(made, (6, 7, 1, 4, 1))[0]
+
+
+def mixed(rng, seats, keys, count):
+    """So many lines of these seats and keys."""
+    lines = []
+    for _ in range(count):
+        seat = rng.choice(seats)
+        if rng.random() < 0.25:
+            lines.append(f"call {seat} {calls(rng, keys)}")
+        elif rng.random() < 0.04:
+            lines.append(f"puts {seat} {rng.randrange(1, 70)} {rng.choice(keys)} {rng.randrange(9)}")
+        else:
+            lines.append(steps(rng, seat))
+    return lines
+
+
+def again(seat, count, key):
+    """A key that is put so often that rows are rebuilt, one for each 63 puts or so."""
+    return [f"puts {seat} {count} {key} 1", f"go {seat} 100000"]
+
+
+def few(rng):
+    """One row that is nearly empty."""
+    return [], list(range(rng.randrange(1, 6)))
+
+
+def full(rng):
+    """One row that is full, or nearly so."""
+    keys = list(range(rng.randrange(1, 6)))
+    return again(0, rng.randrange(56, 66), rng.choice(keys)), keys
+
+
+def split(rng):
+    """Rows that were split, of which the first is nearly full."""
+    keys = list(range(0, 3 * rng.randrange(30, 70), 3))
+    first = [f"call 0 put {key} {key}" for key in rng.sample(keys, len(keys))]
+    return [*first, *again(0, rng.randrange(20, 35), keys[0])], [*keys[:3], *keys[-3:], *keys[30:33]]
+
+
+def neighbour(rng):
+    """A row that is nearly full before one of few cells."""
+    first = [f"call 0 put {key} {key}" for key in range(33)]
+    first += again(0, 33 - rng.randrange(2), 1)
+    first += again(0, rng.randrange(40, 49) - rng.randrange(2) * 30, rng.randrange(9))
+    return first, [0, 1, 8, 15, 16, 17, 18, 31, 32, 50]
+
+
+def tidied(rng):
+    """Rows of which so many were retired that tidying is offered."""
+    keys = list(range(rng.randrange(1, 40)))
+    first = again(0, 128 + rng.randrange(70), rng.choice(keys))
+    return [*first, *(f"call 1 put {key} 1" for key in keys), "go 1 9999"], keys[:4]
+
+
+def scarce(rng):
+    """Rows that ran out, since a call stands still."""
+    first = ["call 7 get 5", f"until 7 {rng.choice(('load_head', 'load_link', 'load_pend'))}"]
+    return [*first, *again(0, 3600 + rng.randrange(440), 5), *again(0, 1, 5)], [4, 5, 6]
+
+
+# The rare ones take long.
+SHAPES = 5 * (few, full, split, neighbour, tidied, full, neighbour, split) + (scarce,)
+
+
+def random_lines(seed):
+    """The lines of a script."""
+    rng = random.Random(seed)
+    first, keys = SHAPES[seed % len(SHAPES)](rng)
+    seats = rng.sample(range(SEATS), rng.randrange(1, 5))
+    count = rng.randrange(min(150, MOST_LINES - len(first)))
+    ends = [f"go {seat} 100000" for seat in range(SEATS)] if rng.random() < 0.3 else []
+    return [*first, *mixed(rng, seats, keys, count - len(ends)), *ends]
 
 
 def random_script(seed):
-    return ""
+    """The bytes of a script."""
+    lines, rng = random_lines(seed), random.Random(f"bytes of {seed}")
+    return joined(rng, lines) if rng.random() < 0.2 else "".join(f"{it}\n" for it in lines).encode()
