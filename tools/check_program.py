@@ -19,7 +19,7 @@ its name, its record must be that of `scripts/recorded`, and that must be judged
 of `scripts/neighbour`, in which a full row and the one after it meet. Its name says what it shows.
 Many of its lines name the kind of the one step that they make, and the positions in the record
 count all steps, so that together they tell how many steps each call makes. What is printed comes
-from that simulator too, and none is in the repository.
+from that simulator too; `simulator.py` prints the same, and was written apart from both.
 
 The last line says how many cases passed; the status is 1 where one did not."""
 

@@ -1,19 +1,21 @@
 #!/usr/bin/env python3
 """Compares `./kiwi judge` with another judge on records that were spoilt.
 
+  tools/compare_judge.py
+      the judge of `tools/simulator.py`, on 20 spoilt ones of each of 500 of its random records
+  tools/compare_judge.py 200 --seed 7 --each 50
   tools/compare_judge.py --with 'COMMAND' --records 'COMMAND {seed}'
-      20 spoilt ones of each of 500 records
-  tools/compare_judge.py --with 'COMMAND' --records 'COMMAND {seed}' 200 --seed 7 --each 50
-  tools/compare_judge.py --with 'COMMAND' --folder FOLDER
+      another judge, and another maker of records
+  tools/compare_judge.py --folder FOLDER
       each file of a folder is a record
   tools/compare_judge.py .. --program 'COMMAND'
       in place of `./kiwi judge`
 
-The other judge is written apart from this one, and none is in the repository: it reads a record on
-standard input, prints the verdict and ends with status 0, with 7 where the verdict is not `yes`, or
-with 3 at bytes that are no record, with the line `bad line N` on standard error
-(docs/SCRIPTS.md). A command of --records writes a record to standard output, and
-{seed} in it is the seed. Of each record some are made in which one thing is changed: a reply, a
+The other judge is written apart from this one: it reads a record on standard input, prints the
+verdict and ends with status 0, with 7 where the verdict is not `yes`, and then the line `not legal`
+on standard error, or with 3 at bytes that are no record, with the line `bad line N` there
+(docs/SCRIPTS.md). A command of --records writes a record to standard output, and {seed} in it is
+the seed. Of each record some are made in which one thing is changed: a reply, a
 position, a name, the order, a call, or some bytes. Verdict, status and bad line must be the same.
 The last line says how many agreed, and of how many each verdict was; the status is 1 where one did
 not agree, or where a record could not be had."""
@@ -25,7 +27,7 @@ import sys
 from collections import Counter
 
 from compare_simulate import generated, stored
-from kiwi_map import KIWI, ended
+from kiwi_map import KIWI, SIMULATOR, ended
 
 REPLIES = ["ok", "none", "empty", "no rows", "spent", "stopped", "7", "5=1", "1=1 2=2", "2=2 1=1", "kept", "", "05", "5="]
 CALLS = ["put 5 10", "del 5", "get 5", "scan 0 9", "scan 9 0", "sum 0 9", "put 5", "get 4294967296"]
@@ -137,14 +139,14 @@ def main():
     options.add_argument("count", nargs="?", type=int, default=500)
     options.add_argument("--seed", type=int, default=1)
     options.add_argument("--each", type=int, default=20, help="how many spoilt ones of each record")
-    options.add_argument("--with", dest="other", required=True, help="the command to compare with")
-    records = options.add_mutually_exclusive_group(required=True)
-    records.add_argument("--records", help="a command that writes the record of a {seed}")
+    options.add_argument("--with", dest="other", default=f"{SIMULATOR} judge", help="the command to compare with")
+    records = options.add_mutually_exclusive_group()
+    records.add_argument("--records", default=f"{SIMULATOR} record {{seed}}", help="a command that writes the record of a {seed}")
     records.add_argument("--folder", help="a folder of records")
     options.add_argument("--program", help="the command that is compared, if not ./kiwi judge")
     options = options.parse_args()
     program = shlex.split(options.program) if options.program else [KIWI, "judge"]
-    found = generated(options.records, options.seed, options.count) if options.records else stored(options.folder)
+    found = stored(options.folder) if options.folder else generated(options.records, options.seed, options.count)
     passed = differ = 0
     verdicts = Counter()
     for name, text in found:

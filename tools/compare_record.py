@@ -1,10 +1,12 @@
 #!/usr/bin/env python3
 """Compares `./kiwi simulate --record` with another program on scripts, and has each record judged.
 
+  tools/compare_record.py
+      `tools/simulator.py`, on 500 of its random scripts, of the seeds from 1 on
+  tools/compare_record.py 200 --seed 7
   tools/compare_record.py --with 'COMMAND' --scripts 'COMMAND {seed}'
-      500 scripts, of the seeds from 1 on
-  tools/compare_record.py --with 'COMMAND' --scripts 'COMMAND {seed}' 200 --seed 7
-  tools/compare_record.py --with 'COMMAND' --folder FOLDER
+      another program, and another maker of scripts
+  tools/compare_record.py --folder FOLDER
       each file of a folder is a script
   tools/compare_record.py .. --without 'until [0-7] (KIND|KIND)'
       lines of scripts that are left out
@@ -12,9 +14,8 @@
       in place of `./kiwi simulate --record` and `./kiwi judge`
 
 The other program writes the record of a script on standard input as `simulate --record` does
-(docs/SCRIPTS.md), on the same event table with the same sizes (8 seats, 64 cells a
-row); it is written apart from this one, and none is in the repository. Both records must be the
-same byte for byte, and the statuses too. Each record that is written is then judged, and the
+(docs/SCRIPTS.md), on the same event table with the same sizes (8 seats, 64 cells a row); it is
+written apart from this one. Both records must be the same byte for byte, and the statuses too. Each record that is written is then judged, and the
 verdict must be `yes`, with status 0. A command of --scripts writes a script to standard output, and
 {seed} in it is the seed. The last line says how many agreed; the status is 1 where one did not, or
 where a script could not be had."""
@@ -27,7 +28,7 @@ from kiwi_map import KIWI, ended
 
 
 def main():
-    options = script_options(__doc__)
+    options = script_options(__doc__, "simulate --record")
     options.add_argument("--judge", help="the command that judges, if not ./kiwi judge")
     options = options.parse_args()
     program = shlex.split(options.program) if options.program else [KIWI, "simulate", "--record"]

@@ -1,10 +1,12 @@
 #!/usr/bin/env python3
 """Compares `./kiwi simulate` with another program on scripts.
 
+  tools/compare_simulate.py
+      `tools/simulator.py`, on 500 of its random scripts, of the seeds from 1 on
+  tools/compare_simulate.py 200 --seed 7
   tools/compare_simulate.py --with 'COMMAND' --scripts 'COMMAND {seed}'
-      500 scripts, of the seeds from 1 on
-  tools/compare_simulate.py --with 'COMMAND' --scripts 'COMMAND {seed}' 200 --seed 7
-  tools/compare_simulate.py --with 'COMMAND' --folder FOLDER
+      another program, and another maker of scripts
+  tools/compare_simulate.py --folder FOLDER
       each file of a folder is a script
   tools/compare_simulate.py .. --without 'until [0-7] (KIND|KIND)'
       lines of scripts that are left out
@@ -15,9 +17,9 @@
 
 The other program is a simulator of the same event table with the same sizes (8 seats, 64 cells a
 row), written apart from this one: it reads a script on standard input, prints a line as each call
-ends and then the order line, and ends with status 0, or with 3 at a bad script
-(docs/SCRIPTS.md). None is in the repository. Both programs get a script on standard
-input. Their outputs must be the same byte for byte, and their statuses too. With --drop-order the
+ends and then the order line, and ends with status 0, or with 3 at a bad script (docs/SCRIPTS.md).
+Both programs get a script on standard input. Their outputs must be the same byte for byte, and
+their statuses too. With --drop-order the
 last line of the other's output is left out where it begins with the word `order`. A command of
 --scripts writes a script to standard output, and {seed} in it is the seed. The last line says how
 many agreed; the status is 1 where one did not, or where a script could not be had."""
@@ -29,7 +31,7 @@ import subprocess
 import sys
 from pathlib import Path
 
-from kiwi_map import KIWI, ended
+from kiwi_map import KIWI, SIMULATOR, ended
 
 ORDER_LINE = re.compile(rb"(\A|(?<=\n))order( [^\n]*)?\n\Z")
 
@@ -63,14 +65,15 @@ def first_difference(got, wanted):
     return f"one ends after line {min(len(ours), len(theirs))}"
 
 
-def script_options(description):
-    """A parser with the options that say which scripts are run, and what with."""
+def script_options(description, words):
+    """A parser with the options that say which scripts are run, and what with: without one of
+    these, with the simulator of this folder by these words of it."""
     options = argparse.ArgumentParser(description=description, formatter_class=argparse.RawDescriptionHelpFormatter)
     options.add_argument("count", nargs="?", type=int, default=500)
     options.add_argument("--seed", type=int, default=1)
-    options.add_argument("--with", dest="other", required=True, help="the command to compare with")
-    scripts = options.add_mutually_exclusive_group(required=True)
-    scripts.add_argument("--scripts", help="a command that writes the script of a {seed}")
+    options.add_argument("--with", dest="other", default=f"{SIMULATOR} {words}", help="the command to compare with")
+    scripts = options.add_mutually_exclusive_group()
+    scripts.add_argument("--scripts", default=f"{SIMULATOR} script {{seed}}", help="a command that writes the script of a {seed}")
     scripts.add_argument("--folder", help="a folder of scripts")
     options.add_argument("--without", help="a pattern of lines of scripts that are left out")
     options.add_argument("--program", help="the command that is compared, if not that of ./kiwi")
@@ -81,13 +84,13 @@ def scripts_of(options):
     """The scripts that the options ask for, without the lines that are left out: a name and the
     bytes of each."""
     left_out = re.compile(options.without.encode()) if options.without else None
-    found = generated(options.scripts, options.seed, options.count) if options.scripts else stored(options.folder)
+    found = stored(options.folder) if options.folder else generated(options.scripts, options.seed, options.count)
     for name, text in found:
         yield name, without_lines(text, left_out) if left_out else text
 
 
 def main():
-    options = script_options(__doc__)
+    options = script_options(__doc__, "simulate")
     options.add_argument("--drop-order", action="store_true", help="leave out the order line of the other's output")
     options = options.parse_args()
     program = shlex.split(options.program) if options.program else [KIWI, "simulate"]

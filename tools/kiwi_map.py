@@ -3,10 +3,13 @@ that answers them, and how a program is run and compared."""
 
 import argparse
 import re
+import shlex
 import subprocess
 from pathlib import Path
 
 KIWI = Path(__file__).resolve().parent.parent / "kiwi"
+# The simulator of this folder, as the first word of a command.
+SIMULATOR = shlex.quote(str(Path(__file__).resolve().parent / "simulator.py"))
 KEY_MOST, VALUE_MOST = 2**32 - 1, 2**63 - 1
 NUMBER = re.compile(rb"0|[1-9][0-9]*")
 RANGES = {

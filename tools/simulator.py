@@ -39,7 +39,7 @@ def read_input():
 def simulated(options):
     lines = (record_of if options.record else output_of)(read_input(), options.rows)
     if lines is None:
-        raise Refused("record too long")
+        raise Refused("input too long")
     return lines
 
 

@@ -1,6 +1,7 @@
 """The calls: what each seat does from the first event of a call to its last. A get and a scan are
 here; a put and a delete, which are made alike, are in `puts`."""
 
+from kiwi_map import listed
 from simulator.cells import Cell, best_of, pairs_of
 from simulator.words import (
     CLOCK,
@@ -22,8 +23,6 @@ from simulator.words import (
     store,
 )
 from simulator.world import CHOOSE, STOP
-
-from kiwi_map import listed
 
 
 class Caller:

@@ -4,10 +4,9 @@ that was put in, left out or changed."""
 
 import random
 
+from kiwi_map import joined
 from simulator.scripts import MOST_LINES
 from simulator.words import SEATS, Kind
-
-from kiwi_map import joined
 
 # What a seat with a call is mostly made to wait for: the steps that others' steps may meet.
 MEETING = (
@@ -23,7 +22,7 @@ def calls(rng, keys):
     """The words of a random call on one of these keys."""
     key, other = rng.choice(keys), rng.choice(keys)
     value = rng.randrange(100)
-    made = (f"put {key} {value}", f"del {key}", f"get {key}", f"scan {min(key, other)} {other}")
+    made = f"put {key} {value}", f"del {key}", f"get {key}", f"scan {key} {other}"
     return rng.choices(made, (5, 2, 2, 3))[0]
 
 
@@ -39,15 +38,16 @@ def steps(rng, seat):
     return rng.choices(made, (6, 7, 1, 4, 1))[0]
 
 
-def mixed(rng, seats, keys, count):
+def mixed(rng, seats, keys, lines_wanted):
     """So many lines of these seats and keys."""
     lines = []
-    for _ in range(count):
+    for _ in range(lines_wanted):
         seat = rng.choice(seats)
         if rng.random() < 0.25:
             lines.append(f"call {seat} {calls(rng, keys)}")
         elif rng.random() < 0.04:
-            lines.append(f"puts {seat} {rng.randrange(1, 70)} {rng.choice(keys)} {rng.randrange(9)}")
+            count = rng.randrange(1, 70)
+            lines.append(f"puts {seat} {count} {rng.choice(keys)} {rng.randrange(9)}")
         else:
             lines.append(steps(rng, seat))
     return lines
@@ -73,7 +73,8 @@ def split(rng):
     """Rows that were split, of which the first is nearly full."""
     keys = list(range(0, 3 * rng.randrange(30, 70), 3))
     first = [f"call 0 put {key} {key}" for key in rng.sample(keys, len(keys))]
-    return [*first, *again(0, rng.randrange(20, 35), keys[0])], [*keys[:3], *keys[-3:], *keys[30:33]]
+    first += again(0, rng.randrange(20, 35), keys[0])
+    return first, [*keys[:3], *keys[-3:], *keys[30:33]]
 
 
 def neighbour(rng):

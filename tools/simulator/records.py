@@ -3,9 +3,8 @@
 from dataclasses import dataclass
 from typing import Optional, Tuple
 
-from simulator.texts import BadLine, call_of, lines_of, number_of
-
 from kiwi_map import KEY_MOST, answered
+from simulator.texts import BadLine, call_of, lines_of, number_of
 
 MOST_SEAT, MOST_NUMBER, MOST_CALLS = 15, 100_000, 100_000
 PLAIN_REPLIES = (b"ok", b"none", b"empty", b"no rows", b"spent", b"stopped")
@@ -135,7 +134,8 @@ def wrong_fault(calls):
         form, *numbers = call.call
         if call.reply in REFUSALS[form]:
             continue
-        if str(answered(pairs, b"list" if form == "scan" else form.encode(), numbers)) != call.reply:
+        asked = b"list" if form == "scan" else form.encode()
+        if str(answered(pairs, asked, numbers)) != call.reply:
             return f"wrong {call.name}"
     return None
 

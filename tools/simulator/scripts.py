@@ -76,8 +76,7 @@ class Run:
             kind = self.world.step(seat, choice)
         elif choice == GO and self.queues[seat]:
             call = self.queues[seat].pop()
-            make = CALLERS[call[0]]
-            kind = self.world.begin(seat, lambda world, seat, number: make(world, seat, call).events(number))
+            kind = self.world.begin(seat, CALLERS[call[0]](self.world, seat, call))
         else:
             return None
         if self.world.is_idle(seat):

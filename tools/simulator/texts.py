@@ -26,7 +26,7 @@ def number_of(word, least=0, most=VALUE_MOST):
 def call_of(words):
     """The call that these words are, as its own word and its numbers, or none."""
     form, *numbers = words or [b""]
-    if form not in (b"put", b"del", b"get", b"scan"):
+    if form not in (b"put", b"del", b"get", b"scan") or None in map(number_of, numbers):
         return None
     read = parsed(b" ".join([b"list" if form == b"scan" else form, *numbers]))
     return (form.decode(), *read[1]) if read else None

@@ -43,10 +43,9 @@ class World:
         self.history.now += 1
         return operation.kind
 
-    def begin(self, seat, make):
-        """The first event of an idle seat's next call, which `make` gives as a generator of its
-        operations; the event's kind."""
+    def begin(self, seat, caller):
+        """The first event of an idle seat's next call; its kind."""
         self.calls_begun[seat] += 1
-        call = make(self, seat, self.calls_begun[seat])
+        call = caller.events(self.calls_begun[seat])
         self.running[seat] = call, next(call)
         return self.step(seat)
