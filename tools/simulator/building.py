@@ -90,17 +90,22 @@ class Builder:
             yield store(Kind.give_back, ("state", row), FREE)
 
     def write_row(self, number, cells):
-        """Writes a new row, word by word but for its state."""
+        """Writes a new row, word by word but for its state: its head, and then its cells. These
+        stand by rising version of a key, and are listed by falling one."""
         row, least = self.taken[number], cells[0].key if number else self.lower
         behind = [*self.taken[number + 1 :], self.rebalance.after][0]
+        listed = sorted(range(len(cells)), key=lambda it: (cells[it].key, -it))
         yield store(Kind.store_infant, ("count", row), Count(len(cells)))
         yield store(Kind.store_infant, ("least", row), Least(least, len(cells)))
         yield store(Kind.store_infant, ("next", row), Link(behind))
-        listed = sorted(range(len(cells)), key=lambda it: (cells[it].key, -it))
         yield store(Kind.store_infant, ("first", row), listed[0] if listed else None)
         for seat in range(SEATS):
             yield store(Kind.store_infant, ("entry", row, seat), IDLE)
-        after = dict(zip(listed, [*listed[1:], None]))
+        yield from self.write_cells(row, cells, dict(zip(listed, [*listed[1:], None])))
+
+    def write_cells(self, row, cells, after):
+        """Writes the cells of a new row, each with the one after it; a place without one gets no
+        version."""
         for place in range(CELLS):
             if place < len(cells):
                 yield from self.write_cell(row, place, cells[place], after[place])

@@ -149,15 +149,20 @@ class Rebalance:
         """Freezes the rows of the group; of each its stamped cells with their versions."""
         marks = []
         for row in self.group:
-            yield Operation(Kind.freeze_count, ("count", row), Count.with_freeze)
-            marks.append({})
-            for seat in range(SEATS):
-                entry = yield from self.freeze_entry(row, ("entry", row, seat))
-                if entry.stage is Stage.STAMPED:
-                    marks[-1].setdefault(entry.cell, entry.version)
+            marks.append((yield from self.freeze_row(row)))
         return marks
 
-    def freeze_entry(self, row, word):
+    def freeze_row(self, row):
+        """Freezes a row; the versions of its stamped cells."""
+        marked = {}
+        yield Operation(Kind.freeze_count, ("count", row), Count.with_freeze)
+        for seat in range(SEATS):
+            entry = yield from self.freeze_entry(("entry", row, seat))
+            if entry.stage is Stage.STAMPED:
+                marked.setdefault(entry.cell, entry.version)
+        return marked
+
+    def freeze_entry(self, word):
         """Freezes an entry that is not stamped; what stood there at last."""
         while True:
             entry = yield load(Kind.load_pend, word)
@@ -191,23 +196,33 @@ class Rebalance:
     def gather(self, marks):
         """All cells of the group, each at its place there."""
         cells = []
-        for index, row in enumerate(self.group):
-            behind, marked = None, marks[index]
-            while True:
-                place = yield load(Kind.load_after, link_word(row, behind))
-                if place is None:
-                    break
-                marked.pop(place, None)
-                key = yield load(Kind.load_key, ("key", row, place))
-                version = (yield load(Kind.load_version, ("version", row, place))) or 1
-                cells.append((yield from self.gathered(index, place, key, version)))
-                behind = place
-            for place in sorted(marked):
-                key = yield load(Kind.load_key, ("key", row, place))
-                cells.append((yield from self.gathered(index, place, key, marked[place])))
+        for index, marked in enumerate(marks):
+            cells += yield from self.gather_list(index, marked)
+            cells += yield from self.gather_left_over(index, marked)
         return cells
 
-    def gathered(self, index, place, key, version):
+    def gather_list(self, index, marked):
+        """The cells along the list of a row of the group. What is reached needs no mark."""
+        row, cells, behind = self.group[index], [], None
+        while True:
+            place = yield load(Kind.load_after, link_word(row, behind))
+            if place is None:
+                return cells
+            marked.pop(place, None)
+            key = yield load(Kind.load_key, ("key", row, place))
+            version = yield load(Kind.load_version, ("version", row, place))
+            cells.append((yield from self.cell(index, place, key, version or 1)))
+            behind = place
+
+    def gather_left_over(self, index, marked):
+        """The marked cells of a row of the group that were not reached."""
+        cells = []
+        for place in sorted(marked):
+            key = yield load(Kind.load_key, ("key", self.group[index], place))
+            cells.append((yield from self.cell(index, place, key, marked[place])))
+        return cells
+
+    def cell(self, index, place, key, version):
         """The cell at hand, once its value is loaded."""
         row = self.group[index]
         value = yield load(Kind.load_value, ("value", row, place))
