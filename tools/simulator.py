@@ -16,39 +16,50 @@ difference is a fault of one of both, or of the pages. How it is made is told in
 import argparse
 import sys
 
-from simulator.random_scripts import random_lines, random_script
-from simulator.records import verdict_on
-from simulator.scripts import output_of, record_of
 from simulator.texts import BadLine
 
 MOST_BYTES = 16_777_216
 
 
-class Refused(Exception):
-    """The input is refused, for this reason."""
+class TooLong(Exception):
+    """There are too many bytes on standard input, or too many calls in the record of a script."""
 
 
 def read_input():
     """The bytes of standard input, if they are not too many."""
     text = sys.stdin.buffer.read(MOST_BYTES + 1)
     if len(text) > MOST_BYTES:
-        raise Refused("input too long")
+        raise TooLong("input too long")
     return text
 
 
-def simulated(options):
+# Each command loads what it needs itself, since comparisons start this program again and again.
+def simulate(options):
+    from simulator.scripts import output_of, record_of
+
     lines = (record_of if options.record else output_of)(read_input(), options.rows)
     if lines is None:
-        raise Refused("input too long")
+        raise TooLong("input too long")
     return lines
 
 
-def perform(options):
-    """The lines that a command prints."""
-    if options.command == "simulate":
-        return simulated(options)
-    if options.command == "judge":
-        return [verdict_on(read_input())]
+def judge(_):
+    from simulator.records import verdict_on
+
+    return [verdict_on(read_input())]
+
+
+def script(options):
+    from simulator.random_scripts import random_script
+
+    sys.stdout.buffer.write(random_script(options.seed))
+    return []
+
+
+def record(options):
+    from simulator.random_scripts import random_lines
+    from simulator.scripts import record_of
+
     return record_of("\n".join(random_lines(options.seed)).encode(), 64)
 
 
@@ -58,27 +69,28 @@ def words():
         description=__doc__, formatter_class=argparse.RawDescriptionHelpFormatter
     )
     commands = options.add_subparsers(dest="command", required=True)
-    simulate = commands.add_parser("simulate")
-    simulate.add_argument("--rows", type=int, default=64, choices=range(64, 65_537), metavar="R")
-    simulate.add_argument("--record", action="store_true")
-    commands.add_parser("judge")
-    for command in ("script", "record"):
-        commands.add_parser(command).add_argument("seed", type=int)
-    return options.parse_args()
+    for command in (simulate, judge, script, record):
+        commands.add_parser(command.__name__).set_defaults(perform=command)
+    own = commands.choices
+    own["simulate"].add_argument("--rows", type=int, default=64, metavar="R")
+    own["simulate"].add_argument("--record", action="store_true")
+    own["script"].add_argument("seed", type=int)
+    own["record"].add_argument("seed", type=int)
+    asked = options.parse_args()
+    if asked.command == "simulate" and not 64 <= asked.rows <= 65_536:
+        options.error("R is from 64 to 65536")
+    return asked
 
 
 def main():
     options = words()
-    if options.command == "script":
-        sys.stdout.buffer.write(random_script(options.seed))
-        return 0
     try:
-        lines = perform(options)
-    except (BadLine, Refused) as reason:
+        lines = options.perform(options)
+    except (BadLine, TooLong) as reason:
         print(reason, file=sys.stderr)
         return 3
-    print("\n".join(lines))
-    if lines[0].startswith("no: "):
+    sys.stdout.write("".join(f"{line}\n" for line in lines))
+    if lines and lines[0].startswith("no: "):
         print("not legal", file=sys.stderr)
         return 7
     return 0

@@ -16,41 +16,51 @@ MEETING = (
     " replace normalise give_back number store_retired clear_pass store_pass"
 ).split()
 KINDS = list(Kind.__members__)
+# Steps behind which something may begin at which a guess counts, or a stop.
+BEGINNING = "store_pass settle load_pend store_version insert load_value load_state".split()
 
 
-def calls(rng, keys):
-    """The words of a random call on one of these keys."""
-    key, other = rng.choice(keys), rng.choice(keys)
-    value = rng.randrange(100)
+def called(rng, seat, keys):
+    """A line by which a seat is to make a call on some of these keys."""
+    key, other, value = rng.choice(keys), rng.choice(keys), rng.randrange(100)
     made = f"put {key} {value}", f"del {key}", f"get {key}", f"scan {key} {other}"
-    return rng.choices(made, (5, 2, 2, 3))[0]
+    return [f"call {seat} {rng.choices(made, (5, 2, 2, 3))[0]}"]
 
 
-def steps(rng, seat):
+def stepped(rng, seat):
     """A line by which a seat makes steps."""
-    made = (
-        f"go {seat} {rng.choice((1, 1, 2, 3, 5, 8, 20, 60, 400))}",
-        f"until {seat} {rng.choice(MEETING)}",
-        f"until {seat} {rng.choice(KINDS)}",
-        f"guess {seat} {rng.randrange(64) if rng.random() < 0.1 else rng.randrange(6)}",
-        f"stop {seat}",
+    steps = int(2 ** (rng.random() * 9))
+    kind = rng.choice(MEETING if rng.random() < 0.9 else KINDS)
+    return [rng.choice((f"go {seat} {steps}", f"go {seat} {steps}", f"until {seat} {kind}"))]
+
+
+def chosen(rng, seat):
+    """Lines by which a seat comes to where a choice may count, and makes some."""
+    guess = rng.randrange(64) if rng.random() < 0.1 else rng.randrange(6)
+    choice = f"guess {seat} {guess}" if rng.random() < 0.8 else f"stop {seat}"
+    # So many words has a new row of few cells.
+    words = 76 + 3 * rng.randrange(1, 8)
+    before = (
+        [f"until {seat} {rng.choice(BEGINNING)}"],
+        [f"until {seat} take_row", f"go {seat} {words}"],
+        [f"go {seat} {rng.randrange(1, 40)}"],
     )
-    return rng.choices(made, (6, 7, 1, 4, 1))[0]
+    return [*rng.choice(before), *rng.randrange(1, 6) * [choice]]
 
 
 def mixed(rng, seats, keys, lines_wanted):
     """So many lines of these seats and keys."""
-    lines = []
-    for _ in range(lines_wanted):
+    lines = [line for seat in seats for line in called(rng, seat, keys)]
+    while len(lines) < lines_wanted:
         seat = rng.choice(seats)
-        if rng.random() < 0.25:
-            lines.append(f"call {seat} {calls(rng, keys)}")
-        elif rng.random() < 0.04:
-            count = rng.randrange(1, 70)
-            lines.append(f"puts {seat} {count} {rng.choice(keys)} {rng.randrange(9)}")
+        how = rng.random()
+        if how < 0.2:
+            lines += called(rng, seat, keys)
+        elif how < 0.23:
+            lines.append(f"puts {seat} {rng.randrange(1, 70)} {rng.choice(keys)} 1")
         else:
-            lines.append(steps(rng, seat))
-    return lines
+            lines += chosen(rng, seat) if how < 0.35 else stepped(rng, seat)
+    return lines[:lines_wanted]
 
 
 def again(seat, count, key):
@@ -78,11 +88,13 @@ def split(rng):
 
 
 def neighbour(rng):
-    """A row that is nearly full before one of few cells."""
-    first = [f"call 0 put {key} {key}" for key in range(33)]
-    first += again(0, 33 - rng.randrange(2), 1)
-    first += again(0, rng.randrange(40, 49) - rng.randrange(2) * 30, rng.randrange(9))
-    return first, [0, 1, 8, 15, 16, 17, 18, 31, 32, 50]
+    """A row that is full, or nearly so, before one of few cells: keys are split in two rows, most
+    of the second are deleted, that is rebuilt, and then the first is filled."""
+    keys = list(range(33))
+    first = [f"call 0 put {key} {key}" for key in keys] + again(0, 32, 1)
+    first += [f"call 0 del {key}" for key in range(21, 33)] + again(0, 37, 17)
+    first += again(0, 46 - rng.randrange(3), 1)
+    return first, [0, 1, 2, 16, 17, 18, 20, 40]
 
 
 def tidied(rng):
