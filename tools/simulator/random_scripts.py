@@ -107,7 +107,7 @@ def tidied(rng):
 def scarce(rng):
     """Rows that ran out, since a call stands still."""
     first = ["call 7 get 5", f"until 7 {rng.choice(('load_head', 'load_link', 'load_pend'))}"]
-    return [*first, *again(0, 3600 + rng.randrange(440), 5), *again(0, 1, 5)], [4, 5, 6]
+    return [*first, *again(0, 3980 + rng.randrange(60), 5), "go 0 100000"], [4, 5, 6]
 
 
 # The rare ones take long.
