@@ -1,0 +1,10 @@
+pub mod Counts
+pub mod Draws
+pub mod Numbers
+pub mod Walks
+pub mod Links
+pub mod Builds
+pub mod Ever
+pub mod Spent
+pub mod NoRows
+pub mod Stamps
