@@ -1,6 +1,6 @@
 #!/usr/bin/env python3
 """A second implementation of `./kiwi simulate` and `./kiwi judge`, which was written from `docs/`
-and the definitions that they send to, and from no code of the program.
+and the definitions that they cite (`crates/*/specs`), and from no function of the program.
 
   tools/simulator.py simulate [--rows R] [--record] < SCRIPT
   tools/simulator.py judge < RECORD

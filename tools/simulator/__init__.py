@@ -1,7 +1,7 @@
 """A simulator of the concurrent map's events, and a judge of records: a second implementation of
-what `docs/` say, written apart from the program and from nothing but those pages and the
-definitions that they send to. It shares no code with the program, so where both print the same
-they have read the pages alike.
+what `docs/` say, written apart from the program, from those pages and the definitions that they
+cite: the event table is that of `kw_world/specs`. It shares no code with the program, so where both
+print the same they have read the pages alike.
 
 A newcomer may read it as the map in small: `words` has what stands in the shared memory, `world`
 how one event after the other is made there, `calls` what a get and a scan do, `puts` what a put
