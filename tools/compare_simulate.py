@@ -10,8 +10,6 @@
       each file of a folder is a script
   tools/compare_simulate.py .. --without 'until [0-7] (KIND|KIND)'
       lines of scripts that are left out
-  tools/compare_simulate.py .. --drop-order
-      the other's last line is left out
   tools/compare_simulate.py .. --program 'COMMAND'
       in place of `./kiwi simulate`
 
@@ -19,10 +17,9 @@ The other program is a simulator of the same event table with the same sizes (8 
 row), written apart from this one: it reads a script on standard input, prints a line as each call
 ends and then the order line, and ends with status 0, or with 3 at a bad script (docs/SCRIPTS.md).
 Both programs get a script on standard input. Their outputs must be the same byte for byte, and
-their statuses too. With --drop-order the
-last line of the other's output is left out where it begins with the word `order`. A command of
---scripts writes a script to standard output, and {seed} in it is the seed. The last line says how
-many agreed; the status is 1 where one did not, or where a script could not be had."""
+their statuses too. A command of --scripts writes a script to standard output, and {seed} in it is
+the seed. The last line says how many agreed; the status is 1 where one did not, or where a script
+could not be had."""
 
 import argparse
 import re
@@ -32,8 +29,6 @@ import sys
 from pathlib import Path
 
 from kiwi_map import KIWI, SIMULATOR, ended
-
-ORDER_LINE = re.compile(rb"(\A|(?<=\n))order( [^\n]*)?\n\Z")
 
 
 def generated(command, first, count):
@@ -91,14 +86,11 @@ def scripts_of(options):
 
 def main():
     options = script_options(__doc__, "simulate")
-    options.add_argument("--drop-order", action="store_true", help="leave out the order line of the other's output")
     options = options.parse_args()
     program = shlex.split(options.program) if options.program else [KIWI, "simulate"]
     passed = differ = 0
     for name, text in scripts_of(options):
         wanted, _, status = ended(shlex.split(options.other), text)
-        if options.drop_order:
-            wanted = ORDER_LINE.sub(b"", wanted)
         got, _, ended_with = ended(program, text)
         if (got, ended_with) == (wanted, status):
             passed += 1
