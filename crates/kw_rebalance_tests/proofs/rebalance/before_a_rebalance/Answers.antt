@@ -16,7 +16,7 @@ use Rattle.kw_world.specs.Sizes.{Sizes, product}
 use Rattle.kw_world.specs.WorldView.{WorldView}
 use Rattle.kw_world.proofs.Lists.{get-set_same}
 use Rattle.kw_world.proofs.Opens.{all_resting, rests_known, with_local-sane}
-use Rattle.kw_core_tests.proofs.rebalance.before_a_rebalance.Goals as goal
+use Rattle.kw_rebalance_tests.proofs.rebalance.before_a_rebalance.Goals as goal
 
 -- the world that was opened
 abbrev small : Opening

@@ -3,7 +3,7 @@ use Rattle.kw_world.specs.declared.event.Choice.TheVariants as choice
 use Rattle.kw_world.specs.Sizes.{product}
 use Rattle.kw_world.specs.Step.{Stepped}
 use Rattle.kw_world.proofs.Steps.{step-seats}
-use Rattle.kw_core_tests.proofs.rebalance.go_on.Goals as goal
+use Rattle.kw_rebalance_tests.proofs.rebalance.go_on.Goals as goal
 
 pub returns : goal.returns
 returns c =

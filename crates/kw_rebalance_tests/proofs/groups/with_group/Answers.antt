@@ -1,6 +1,6 @@
 use Rattle.std.proofs.Common.{◌≡◌, [], arith, ap}
 use Rattle.kw_world.specs.declared.local.Local.{Local}
-use Rattle.kw_core_tests.proofs.rebalance.with_new_rows.Goals as goal
+use Rattle.kw_rebalance_tests.proofs.groups.with_group.Goals as goal
 
 pub returns-clause-room : goal.returns-clause-room
 returns-clause-room c =
