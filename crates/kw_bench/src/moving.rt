@@ -15,10 +15,11 @@ const SERIES: u32 = 50;
 const SERIES_KEYS: u32 = 1_048_577;
 
 // Keys in disorder come in stretches of so many, each by steps of so many, which have no divisor
-// in common.
+// in common. Four divide the stretch, and leave one of a step, so that each thread of four deletes
+// the keys that it put.
 const STRETCH: u32 = 400;
 
-const STRIDE: u32 = 147;
+const STRIDE: u32 = 149;
 
 // So many random keys are put, and then all of them deleted.
 const RANDOM: u32 = 10_000;

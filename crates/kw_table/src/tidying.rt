@@ -19,11 +19,17 @@ use kw_world::limits::TIDY_SHARE;
 /// deletes stand against each tidying of a row.
 pub const TIDY_EACH: u32 = 8;
 
-/// A row with more keys than this that have a value is not tidied.
-pub const TIDY_KEYS: u32 = 8;
+/// A row with more keys than this that have a value is not tidied. They are fewer than the cells
+/// between two questions: a row whose keys go in the order in which they came is then asked for at
+/// its last keys alone, and tidied once.
+pub const TIDY_KEYS: u32 = TIDY_EACH - 1;
 
 /// How many rows are asked for one that a search would take, before a row is tidied.
-pub const TIDY_LOOKS: u32 = 8;
+pub const TIDY_LOOKS: u32 = 64;
+
+/// How often the row after is looked at, before a row is tidied, until nobody rebalances it. That
+/// is longer than a rebalance takes, and shorter than a thread waits that the system has halted.
+pub const TIDY_WAITS: u32 = 16_384;
 
 impl Shared {
     /// Whether a delete that was given this cell of its row, in a visit of this epoch, and is done
@@ -48,17 +54,34 @@ impl Shared {
         in_use
     }
 
-    // Whether the row and the one after it are in use, and nobody rebalances either; a search from
-    // this row on soon finds one to build in; and the row has few keys.
+    // Whether the row has few keys; it and the one after it are in use, and nobody rebalances either
+    // any more; and a search from this row on soon finds one to build in.
     fn has_small_pair(&self, row: u32, epoch: u64, free: u32) -> bool {
         row < self.opening.rows
             && self.is_normal(row)
-            && match self.row_at(self.peek(Name::Next(row))) {
-                Some(next) => self.is_normal(next),
-                None => false,
-            }
-            && self.finds_free(free, epoch)
             && self.has_few_keys(row)
+            && self.comes_to_rest(row)
+            && self.finds_free(free, epoch)
+    }
+
+    // Whether the row and the one after it are in use and come to be rebalanced by nobody. The row
+    // after is waited for: this may be the last delete in the row, and then nobody asks again, so
+    // that the row would stay for good.
+    fn comes_to_rest(&self, row: u32) -> bool
+        requires { row < self.now.opening.rows }
+    {
+        for _ in 0..TIDY_WAITS {
+            let Some(next) = self.row_at(self.peek(Name::Next(row))) else {
+                return false;
+            };
+            if !self.is_normal(row) {
+                return false;
+            }
+            if self.is_normal(next) {
+                return true;
+            }
+        }
+        false
     }
 
     // Whether the row is in use and not rebalanced.
