@@ -1,7 +1,7 @@
 //! Runs over streams in memory, and how they end.
 use kw_app::outcome::{Outcome, Status};
 use kw_app::run::run;
-use kw_app::working::{Gate, NoGate};
+use kw_app::working::NoGate;
 use kw_command::word::Word;
 use kw_io::{MemSink, MemSource};
 use std::alloc::{AllocError, Global};
@@ -55,23 +55,11 @@ pub(crate) fn ran<R: Threads + Wait + Sync>(
     input: &[u8],
     faults: Faults<'_>,
 ) -> Result<Ended, Fail> {
-    ran_past(rt, alloc, texts, input, faults, &NoGate)
-}
-
-/// The same past a gate.
-pub(crate) fn ran_past<R: Threads + Wait + Sync, G: Gate + Sync>(
-    rt: &R,
-    alloc: Global,
-    texts: &[&str],
-    input: &[u8],
-    faults: Faults<'_>,
-    gate: &G,
-) -> Result<Ended, Fail> {
     let words = words(alloc, texts)?;
     let bytes = Vec::from_slice(alloc, input)?;
     let mut source = MemSource::new(bytes, Vec::from_slice(alloc, faults.reads)?);
     let mut sink = MemSink::new(alloc, faults.room, Vec::from_slice(alloc, faults.writes)?)?;
-    let outcome = run(rt, alloc, &words, &mut source, &mut sink, gate);
+    let outcome = run(rt, alloc, &words, &mut source, &mut sink, &NoGate);
     let written = Vec::from_slice(alloc, sink.written())?;
     Ok(Ended { outcome, written })
 }

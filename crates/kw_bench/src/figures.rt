@@ -1,8 +1,8 @@
 //! Words in, figures out.
 use crate::index_timing::GuessFigure;
 use crate::lines::LineFigure;
-use crate::load::Load;
 use crate::timing::{PutFigure, ReadFigure};
+use kw_loads::load::Load;
 use std::{env, io};
 
 /// How many calls the program's word asks for; none where there is no such word.

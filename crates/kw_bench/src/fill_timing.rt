@@ -1,9 +1,11 @@
 //! What puts take while a map of many rows fills, until no row is left.
-ghost use Rattle.std.specs.Prelude.{◌≡◌, ◌≤◌};
+ghost use Rattle.std.specs.Prelude.{◌≤◌};
+ghost use Rattle.kw_loads.specs.declared.map_load.TheConstants.{ROWS};
 ghost use Rattle.kw_map.specs.Kiwi.{IsIdle};
 
-use crate::map_load::{Order, ROWS};
 use crate::timing::opened;
+use kw_loads::fill_calls::{Filled, put_upto};
+use kw_loads::map_load::{Order, ROWS};
 use kw_map::Pass;
 use kw_map::kiwi::Kiwi;
 use kw_words::sizes::BUILT_COUNT;
@@ -19,15 +21,6 @@ pub struct Plan {
     pub order: Order,
     /// How many keys are put if none is refused.
     pub calls: u32,
-}
-
-/// How far a map is filled.
-#[derive(Clone, Copy, Debug, PartialEq, Eq)]
-pub struct Filled {
-    /// How many keys were put, each with a value.
-    pub keys: u32,
-    /// Whether the next one was refused. Nothing is put then any more.
-    pub refused: bool,
 }
 
 /// The last puts before a map held a number of keys: a quarter of them.
@@ -113,33 +106,4 @@ fn time_stretch<R: Wait>(
     let took = start.elapsed(clock)?.as_nanos();
     let puts = ended.keys.saturating_sub(begun.keys);
     Ok((ended, Stretch { puts, took }))
-}
-
-// Puts on until so many keys are in, or one is refused.
-fn put_upto<R: Wait>(
-    rt: &R,
-    kiwi: &Kiwi,
-    pass: &mut Pass,
-    order: Order,
-    filled: Filled,
-    keys: u32,
-) -> Filled
-    requires { IsIdle kiwi.now pass.old }
-    ensures { IsIdle kiwi.now pass.new }
-{
-    if filled.refused {
-        return filled;
-    }
-    for number in filled.keys..keys {
-        if kiwi.put(rt, pass, order.key(number), 1).is_err() {
-            return Filled {
-                keys: number,
-                refused: true,
-            };
-        }
-    }
-    Filled {
-        keys: filled.keys.max(keys),
-        refused: false,
-    }
 }

@@ -1,8 +1,8 @@
 //! What guesses of an index take, beside searches in a plain slice.
 ghost use Rattle.std.specs.Prelude.{◌≤◌};
 
-use crate::guessing::{Asked, Crowd, ask_by_four, ask_in_a_crowd, entries_of_all, index_of_all};
 use crate::timing::no_memory;
+use kw_loads::guessing::{Asked, Crowd, ask_by_four, ask_in_a_crowd, entries_of_all, index_of_all};
 use std::io;
 use std::thread::Threads;
 use std::time::Instant;

@@ -21,43 +21,38 @@
 //! keys, and plain slices of the same entries, by one thread and by four.
 //!
 //! All figures of a run come from that run, so its ratios can be compared where its times cannot.
-//! Without a number it says how it is used. Nothing is promised of the figures; the calls are those
-//! of `kw_map`, `kw_line` and `kw_index`, by their contracts.
+//! Without a number it says how it is used. Which calls are made is said in `kw_loads`, and here
+//! are the clock and what is printed. Nothing is promised of the figures; the calls are those of
+//! `kw_map`, `kw_line` and `kw_index`, by their contracts.
 #![tactic(auto)]
 
-mod asking;
 mod figures;
 mod fill_timing;
-mod guessing;
 mod index_timing;
 mod lines;
-mod load;
-mod map_calls;
 mod map_figures;
-mod map_load;
 mod map_timing;
-mod moving;
 mod moving_timing;
 mod sum_timing;
 mod timing;
 
-use crate::asking::{Reading, Task};
 use crate::figures::{
     given_calls, print_guesses, print_heads, print_lines, print_puts, print_reads, print_usage,
 };
 use crate::fill_timing::time_fill;
 use crate::index_timing::time_guesses;
 use crate::lines::time_lines;
-use crate::load::{Keys, Load};
 use crate::map_figures::{
     print_fill, print_fill_heads, print_map, print_moving, print_moving_heads, print_sums,
 };
-use crate::map_load::{Order, PUTS_A_SUM};
 use crate::map_timing::time_map;
-use crate::moving::Moving;
 use crate::moving_timing::time_moving;
 use crate::sum_timing::time_sums;
 use crate::timing::{time_puts, time_reads};
+use kw_loads::asking::{Reading, Task};
+use kw_loads::load::{Keys, Load};
+use kw_loads::map_load::{Order, PUTS_A_SUM};
+use kw_loads::moving::Moving;
 use kw_words::sizes::CELL_COUNT;
 use std::io;
 use std::process::ExitCode;

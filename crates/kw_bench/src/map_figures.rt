@@ -1,11 +1,9 @@
 //! Figures of a map of many rows, printed.
-ghost use Rattle.std.specs.Prelude.{◌≤◌};
-
 use crate::fill_timing::{FillFigure, Stretch};
-use crate::map_load::{KEYS, ROWS, SUMMED};
 use crate::map_timing::MapFigure;
 use crate::moving_timing::MovingFigure;
 use crate::sum_timing::{PUTTING, SumFigure};
+use kw_loads::map_load::{KEYS, ROWS, SUMMED};
 use kw_words::layout::Layout;
 use kw_words::sizes::{CELLS, SEATS};
 use std::io;

@@ -3,9 +3,9 @@ ghost use Rattle.std.specs.Prelude.{◌≡◌, ◌<◌, ◌≤◌, All, IfOk};
 ghost use Rattle.kw_words.specs.declared.sizes.TheConstants.{SEATS};
 ghost use Rattle.kw_map.specs.Kiwi.{IsIdle};
 
-use crate::map_calls::{Kind, call_by_each, put_keys};
-use crate::map_load::ROWS;
 use crate::timing::{no_memory, opened};
+use kw_loads::map_calls::{Kind, call_by_each, put_keys};
+use kw_loads::map_load::ROWS;
 use kw_map::Pass;
 use kw_map::kiwi::Kiwi;
 use std::io;

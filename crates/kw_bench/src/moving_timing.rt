@@ -1,19 +1,16 @@
 //! What puts and deletes take while keys come and go, by one thread and by four on one map, and how
 //! many rows are in use meanwhile.
-ghost use Rattle.std.specs.Prelude.{◌≡◌, ◌<◌, ◌≤◌, All, IfOk};
+ghost use Rattle.std.specs.Prelude.{◌<◌};
 ghost use Rattle.kw_words.specs.declared.sizes.TheConstants.{SEATS};
-ghost use Rattle.kw_map.specs.Kiwi.{IsIdle};
 
-use crate::moving::Moving;
 use crate::timing::{no_memory, opened};
-use kw_map::Pass;
-use kw_map::kiwi::Kiwi;
-use std::alloc::AllocError;
+use kw_loads::moving::Moving;
+use kw_loads::moving_calls::{Part, move_by_each};
+use std::io;
 use std::sync::Wait;
 use std::sync::atomic::{AtomicU64, Ordering};
 use std::thread::Threads;
 use std::time::Instant;
-use std::{io, thread};
 
 /// How long puts and deletes took, and how many rows were in use.
 #[derive(Clone, Copy, Debug)]
@@ -72,70 +69,4 @@ pub fn time_moving<T: Threads + Wait + Sync>(
         late: kiwi.rows_in_use(),
         refused: refused.load(Ordering::SeqCst),
     })
-}
-
-// Turns that threads share: those from one number on and below another.
-#[derive(Clone, Copy, Debug)]
-struct Part {
-    moving: Moving,
-    threads: u32,
-    from: u32,
-    end: u32,
-}
-
-impl Part {
-    fn of(moving: Moving, threads: u32, from: u32, end: u32) -> Part {
-        Part {
-            moving,
-            threads,
-            from,
-            end,
-        }
-    }
-}
-
-// Takes the turns of the part, with each pass in a thread of its own; with one pass in this thread.
-fn move_by_each<T: Threads + Wait + Sync>(
-    threads: &T,
-    kiwi: &Kiwi,
-    passes: Vec<Pass>,
-    part: Part,
-    refused: &AtomicU64,
-) -> Result<Vec<Pass>, AllocError>
-    requires { All (IsIdle kiwi.now) passes.items }
-    ensures { IfOk result (λ passes. All (IsIdle kiwi.now) passes.items) }
-{
-    thread::map_vec(
-        threads,
-        passes,
-        &|pass: Pass|
-            requires { IsIdle kiwi.now pass }
-        { move_keys(threads, kiwi, pass, part, refused) },
-    )
-}
-
-// Takes the turns of the part that are this pass's, and counts the calls that were refused.
-fn move_keys<R: Wait>(rt: &R, kiwi: &Kiwi, pass: Pass, part: Part, refused: &AtomicU64) -> Pass
-    requires { IsIdle kiwi.now pass }
-    ensures { IsIdle kiwi.now result }
-{
-    let mut pass = pass;
-    let own = pass.number();
-    for number in part.from..part.end {
-        if part.threads > 1 && number % part.threads != own {
-            continue;
-        }
-        let turn = part.moving.turn(number);
-        if let Some(key) = turn.put {
-            if kiwi.put(rt, &mut pass, key, u64::from(number)).is_err() {
-                refused.fetch_add(1, Ordering::SeqCst);
-            }
-        }
-        if let Some(key) = turn.deleted {
-            if kiwi.delete(rt, &mut pass, key).is_err() {
-                refused.fetch_add(1, Ordering::SeqCst);
-            }
-        }
-    }
-    pass
 }

@@ -1,18 +1,11 @@
 //! What sums of many keys take on a map of many rows, alone and while other threads put.
-ghost use Rattle.std.specs.Prelude.{◌≡◌, ◌≤◌, All};
-ghost use Rattle.kw_map.specs.Kiwi.{IsIdle};
-
-use crate::map_calls::{put_by_each, put_keys};
-use crate::map_load::{ROWS, SUMMED, sum_start};
 use crate::timing::{no_memory, opened};
-use kw_map::Pass;
-use kw_map::gather_numbers::SumGather;
-use kw_map::kiwi::Kiwi;
-use std::alloc::AllocError;
+use kw_loads::map_calls::put_keys;
+use kw_loads::map_load::ROWS;
+use kw_loads::sum_calls::{sum_beside, sum_keys};
 use std::io;
 use std::sync::Wait;
-use std::sync::atomic::{AtomicBool, Ordering};
-use std::thread::{Threads, join};
+use std::thread::Threads;
 use std::time::Instant;
 
 /// How many threads put beside the one that sums.
@@ -53,44 +46,4 @@ pub fn time_sums<T: Threads + Wait + Sync>(
             .iter()
             .fold(0, |all: u64, &count| all.wrapping_add(count)),
     })
-}
-
-// Makes so many sums while a thread for each other pass puts, and tells how many puts each of these
-// made.
-fn sum_beside<T: Threads + Wait + Sync>(
-    threads: &T,
-    kiwi: &Kiwi,
-    summing: Pass,
-    putting: Vec<Pass>,
-    calls: u32,
-) -> Result<Vec<u64>, AllocError>
-    requires sums { IsIdle kiwi.now summing }
-    requires puts { All (IsIdle kiwi.now) putting.items }
-{
-    let over = AtomicBool::new(false);
-    let (_, counts) = join(
-        threads,
-        || {
-            let summed = sum_keys(kiwi, summing, calls);
-            over.store(true, Ordering::SeqCst);
-            summed
-        },
-        ||
-            requires { All (IsIdle kiwi.now) putting.items }
-        { put_by_each(threads, kiwi, putting, &over) },
-    );
-    counts
-}
-
-// Makes so many sums, which begin in a scattered order.
-fn sum_keys(kiwi: &Kiwi, pass: Pass, calls: u32) -> Pass
-    requires { IsIdle kiwi.now pass }
-    ensures { IsIdle kiwi.now result }
-{
-    let mut pass = pass;
-    for call in 0..calls {
-        let from = sum_start(call);
-        let _ = kiwi.scan(&mut pass, from, from + (SUMMED - 1), &mut SumGather::new());
-    }
-    pass
 }

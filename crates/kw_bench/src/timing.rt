@@ -3,8 +3,8 @@ ghost use Rattle.std.specs.Prelude.{◌≡◌, ◌<◌, ◌≤◌, ◌+◌, All,
 ghost use Rattle.kw_words.specs.declared.sizes.TheConstants.{MOST_ROWS, SEATS};
 ghost use Rattle.kw_map.specs.Kiwi.{IsIdle};
 
-use crate::asking::{Task, build_row, put_cells, read_by_each};
-use crate::load::Load;
+use kw_loads::asking::{Task, build_row, put_cells, read_by_each};
+use kw_loads::load::Load;
 use kw_map::Pass;
 use kw_map::kiwi::Kiwi;
 use kw_model::memory::Memory;

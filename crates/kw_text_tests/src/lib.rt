@@ -1,5 +1,5 @@
-//! Tests of the crates that know text and the map of one thread, by their public calls: `model`
-//! tests `kw_model`, `line` `kw_line` and `command` `kw_command`.
+//! Tests of what is read, by public calls: `line` tests the reader of lines of `kw_line`, and
+//! `command` the words of commands of `kw_command`.
 //!
 //! What is expected was worked by hand. The tests stand in a crate of their own, since a crate that
 //! has tests is proved twice, with them and without.
@@ -9,5 +9,3 @@
 mod command;
 #[cfg(test)]
 mod line;
-#[cfg(test)]
-mod model;

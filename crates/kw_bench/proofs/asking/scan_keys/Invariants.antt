@@ -1,5 +1,0 @@
-use Rattle.kw_map.specs.Kiwi.{IsIdle}
-use Rattle.kw_bench.proofs.asking.scan_keys.Given as goal
-
-abbrev pub invariant-loop : goal.invariant-loop
-invariant-loop l = IsIdle l.kiwi l.pass

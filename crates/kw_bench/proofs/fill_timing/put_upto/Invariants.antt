@@ -1,5 +1,0 @@
-use Rattle.kw_map.specs.Kiwi.{IsIdle}
-use Rattle.kw_bench.proofs.fill_timing.put_upto.Given as goal
-
-abbrev pub invariant-loop-number : goal.invariant-loop-number
-invariant-loop-number g l = IsIdle l.kiwi l.pass
