@@ -11,6 +11,10 @@ use std::sync::atomic::{AtomicU64, Ordering};
 use std::thread;
 use std::thread::Threads;
 
+/// After so many turns threads that share them wait for each other. Else one that the system halts
+/// would fall far behind, and rows that went since its call began are not used again meanwhile.
+const TURNS_TOGETHER: usize = 2_000;
+
 /// Turns that threads share: those from one number on and below another.
 #[derive(Clone, Copy, Debug)]
 pub struct Part {
@@ -32,9 +36,28 @@ impl Part {
     }
 }
 
-/// Takes the turns of the part, with each pass in a thread of its own; with one pass in this
-/// thread. Counts the calls that were refused.
+/// Takes the turns of the part, stretch by stretch. Counts the calls that were refused.
 pub fn move_by_each<T: Threads + Wait + Sync>(
+    threads: &T,
+    kiwi: &Kiwi,
+    passes: Vec<Pass>,
+    part: Part,
+    refused: &AtomicU64,
+) -> Result<Vec<Pass>, AllocError>
+    requires { All (IsIdle kiwi.now) passes.items }
+    ensures { IfOk result (λ passes. All (IsIdle kiwi.now) passes.items) }
+{
+    let mut passes = passes;
+    for from in (part.from..part.end).step_by(TURNS_TOGETHER) {
+        let end = from.saturating_add(TURNS_TOGETHER as u32).min(part.end);
+        let stretch = Part { from, end, ..part };
+        passes = move_together(threads, kiwi, passes, stretch, refused)?;
+    }
+    Ok(passes)
+}
+
+// Takes the turns of the part, with each pass in a thread of its own; with one pass in this thread.
+fn move_together<T: Threads + Wait + Sync>(
     threads: &T,
     kiwi: &Kiwi,
     passes: Vec<Pass>,

@@ -54,7 +54,7 @@ impl Shared {
         in_use
     }
 
-    // Whether the row has few keys; it and the one after it are in use, and nobody rebalances either
+    // Whether the row has few keys; it and the one after it are in use, and nobody rebalances them
     // any more; and a search from this row on soon finds one to build in.
     fn has_small_pair(&self, row: u32, epoch: u64, free: u32) -> bool {
         row < self.opening.rows
