@@ -43,6 +43,7 @@ exchange_finds n' n x y e d f = which (cases_eq n x)
     which (inl u) = absurd (d (sym (exchanged n' n x y e u) ∙ f))
     which (inr u) = sym (not_exchanged n' n x y e u) ∙ f
 
+-- no other entry is a frozen one
 idle_not : pend_word Idle ≢ pend_word Frozen
 idle_not e = omega (arith, e)
 

@@ -1,9 +1,7 @@
 -- Every event keeps what seats have met of the rows that they are about to engage, or to which they
 -- are about to move.
-use Rattle.std.proofs.Common.{ℕ, ◌≡◌, ◌≢◌, ◌⊎◌, inl, inr, ◌≤◌, Bool, true, false, nat_lt, Option, None, Some, arith, refl, sym, ◌∙◌, ap, subst, slice_get, if◌then◌else◌, length}
-use Rattle.std.proofs.lemmas.Bool.Decides.{nat_tests}
+use Rattle.std.proofs.Common.{ℕ, ◌≡◌, ◌≢◌, ◌⊎◌, inl, inr, ◌≤◌, Bool, true, false, Option, None, Some, refl, sym, ◌∙◌, ap, subst, slice_get, length}
 use Rattle.std.proofs.lemmas.Option.{same_Some}
-use Rattle.kw_words.specs.declared.count.Count.{Count as Counted}
 use Rattle.kw_words.specs.declared.layout.Name.TheVariants as name
 use Rattle.kw_words.specs.declared.pend.Pend.TheVariants.{Frozen, Idle}
 use Rattle.kw_words.specs.declared.state.State.TheVariants.{Follower}
@@ -21,14 +19,12 @@ use Rattle.kw_world.specs.declared.activity.rebalance.engage.Engage.TheVariants 
 use Rattle.kw_world.specs.declared.activity.rebalance.left.Left.TheVariants as Left
 use Rattle.kw_world.specs.declared.activity.rebalance.Rebalance.TheVariants as Rebalance
 use Rattle.kw_world.specs.declared.activity.rebalance.replace.Replace.TheVariants as Replace
-use Rattle.kw_world.specs.declared.activity.rebalance.seek.Seek.TheVariants as Seek
 use Rattle.kw_world.specs.declared.event.Choice.{Choice}
 use Rattle.kw_world.specs.declared.local.Local.{Local}
 use Rattle.kw_world.specs.declared.opening.Opening.{Opening}
 use Rattle.kw_world.specs.Calls.{first_key}
-use Rattle.kw_world.specs.PutTransitions.{given_of, has_room}
+use Rattle.kw_world.specs.PutTransitions.{has_room}
 use Rattle.kw_world.specs.ReplaceTransitions.{replaced_link}
-use Rattle.kw_world.specs.Sane.{IsGiven}
 use Rattle.kw_world.specs.Sizes.{Sizes}
 use Rattle.kw_world.specs.Step.{word}
 use Rattle.kw_world.specs.Transition.{row_or_first}
@@ -38,8 +34,8 @@ use Rattle.kw_core.specs.Run.{Run, start}
 use Rattle.kw_core.specs.Stages.{IsAtRow, IsBalancing, IsDone, IsPublished, IsPutting, IsStamped}
 use Rattle.kw_core.specs.Words.{given_in, next_in}
 use Rattle.kw_core.proofs.Happens.{Happens, each_seat}
-use Rattle.kw_shape.specs.RowsIn.{has_frozen, has_mark, rows_in, state_seen}
-use Rattle.kw_shape.specs.Search.{HasBefore, IsSearching, Search}
+use Rattle.kw_shape.specs.RowsIn.{has_mark, rows_in, state_seen}
+use Rattle.kw_shape.specs.Search.{Search}
 use Rattle.kw_shape.specs.Shape.{HoldsKey, Shape}
 use Rattle.kw_shape.proofs.LinkedRows.{balance_at, fresh_linked, holds_put, search_at, was_below}
 use Rattle.kw_shape.proofs.ShapeOpens.{each_rests}
@@ -50,41 +46,16 @@ use Rattle.kw_puts.proofs.OwnAttempts.{lost_frozen}
 use Rattle.kw_reads.specs.Inv.{Inv, lower}
 use Rattle.kw_full.specs.Frozen.{KeepsFrozen}
 use Rattle.kw_full.specs.Full.{HasStamped, IsEngaging, IsFullRow, IsUnled, KeepsFull}
-use Rattle.kw_full.proofs.Heading.{Heads, IsAsking, IsMoving, IsSame, SeesMark, ToEngage, ToMove, at_exchange, at_next, elsewhere, engages, goes_on, has_moved, heads, is_done, is_full, is_led, is_lost, is_met, is_named, moves, moves_now, moves_on, saw_mark}
+use Rattle.kw_full.proofs.Heading.{Heads, IsAsking, IsMoving, IsSame, SeesMark, ToEngage, ToMove, at_exchange, at_next, elsewhere, engages, engaging_balances, goes_on, has_moved, heads, is_done, is_full, is_led, is_lost, is_met, is_named, moves, moves_now, moves_on, moving_before, moving_searches, saw_mark}
 use Rattle.kw_full.proofs.Leaders.{before_marked, frozen_marked, leader_marked, unled_live, unled_open}
 use Rattle.kw_full.proofs.MarkLasts.{IsMarked, mark_lasts}
-use Rattle.kw_full.proofs.MetLasts.{HasMet, IsSameOwn, met_full, met_marked, met_on}
+use Rattle.kw_full.proofs.MetLasts.{HasMet, IsSameOwn, met_full, met_marked, met_on, no_room}
 
 -- What is kept.
 
 pub record HaveMet (z : Sizes) (r : Run) : Type 0 where
   pub met : (t : ℕ) (k : Local) → slice_get r.world.locals t ≡ Some k → IsEngaging k.activity → HasMet z r t k.row (first_key k.call) k.tidies
   pub marks : (t : ℕ) (k : Local) → slice_get r.world.locals t ≡ Some k → IsMoving k.activity k → (p : ℕ) → k.rebalance.before ≡ Some p → IsMarked z r p
-
--- Activities.
-
-engaging_balances : (a : Activity) → IsEngaging a → IsBalancing a
-engaging_balances (Activity.Rebalance b) x = tt
-engaging_balances _ x = absurd x
-
-moving_searches : (a : Activity) (l : Local) → IsMoving a l → IsSearching a l
-moving_searches (Activity.Rebalance (Rebalance.Seek Seek.GiveBack)) l x = x
-moving_searches (Activity.Rebalance (Rebalance.Left Left.Start)) l x = tt
-moving_searches _ l x = absurd x
-
-moving_before : (a : Activity) (l : Local) → IsMoving a l → HasBefore a l
-moving_before (Activity.Rebalance (Rebalance.Seek Seek.GiveBack)) l x = x
-moving_before (Activity.Rebalance (Rebalance.Left Left.Start)) l x = tt
-moving_before _ l x = absurd x
-
--- a row that gives no cell is frozen, or has given all
-room_or_full : (z : Sizes) (c : Counted) (b : Bool) → c.frozen ≡ b → (if b then false else nat_lt c.given z.cells) ≡ false → (c.frozen ≡ true) ⊎ (z.cells ≤ c.given)
-room_or_full z c true e f = inl e
-room_or_full z c false e f = inr (grind (arith, nat_tests))
-
-no_room : (z : Sizes) (x : Option Counted) → IsGiven x → has_room z x ≡ false → (has_frozen x ≡ true) ⊎ (z.cells ≤ given_of x)
-no_room z (Some c) g e = room_or_full z c c.frozen refl e
-no_room z None g e = absurd g
 
 -- One event.
 
@@ -288,7 +259,7 @@ met_start z o = record {
   marks = each_rests z o (λ t k. IsMoving k.activity k → (p : ℕ) → k.rebalance.before ≡ Some p → IsMarked z (start z o) p) (λ t y. absurd y);
 }
 
--- So the rows that are to be engaged are full.
+-- A row that nobody has engaged has no marked link, so it is full where a seat is about to do so.
 pub full_kept : (z : Sizes) (r : Run) → Inv z r → HaveMet z r → KeepsFull z r
 full_kept z r v x = record {
   rows = λ t l g y u. which t l u (fresh t l g y) (x.met t l g y);

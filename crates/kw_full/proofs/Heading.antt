@@ -24,11 +24,13 @@ use Rattle.kw_world.specs.ReplaceTransitions.{replaced_link}
 use Rattle.kw_world.specs.SeekTransitions.{at_infant}
 use Rattle.kw_world.specs.Sizes.{Sizes}
 use Rattle.kw_world.specs.Transition.{row_or_first}
+use Rattle.kw_core.specs.Stages.{IsBalancing}
 use Rattle.kw_core.specs.Words.{Words, next_in}
 use Rattle.kw_core.proofs.Arrows.{Arrow, IsNotOwn, NextLeftOver, NextLook, announces_full, answers, builds, clock_serves, decides, ends_scan, epoch_serves, finds_follower, finds_full, finds_infant, finds_normal, finds_other, finds_stamped, first_ends, freezes_last, gathers_left_over, goes_to_left_over, helps, is_engaged, is_gone_by, keeps_no_more, key_above, left_over_gone_by, list_ends, lists, looks, marks_led, normalises, reaches_leader, remembers_last, scans_on, sees_frozen_last, sees_neither, sees_stamped, stamps_full, takes_full, takes_leader, takes_no_more, tidies}
 use Rattle.kw_core.proofs.Building.{Building, begins_before, first_is_taken, gives_last_back, gives_one_back, is_marked_before, is_replaced, leads_nowhere, leads_on_marked, loses_row, marked_link, pass_is_old, pass_is_young, sought_is_taken, takes_head_before, takes_row, walks_past, writes_after, writes_entry, writes_first, writes_no_cell}
 use Rattle.kw_core.proofs.Grouping.{NextCounted, NextFrozen, NextGathered, claims_row, freezes_ahead, froze_all, gathered_all, gathers_ahead, goes_alone}
 use Rattle.kw_core.proofs.NextBuilt.{GivenBack, NextBack, NextBefore, NextNewCell, NextNewEntry, NextNewRow, NextPass, NextSeek, NextTaken, asks, empties, fills, gives_back, has_asked, has_cells, has_enough, has_entries, has_looked, has_none, has_written, is_behind, is_first, is_refused_rows, looks_on, moves_left, tries_again, wants_more, was_done, was_served, writes_idle, writes_row}
+use Rattle.kw_shape.specs.Search.{HasBefore, IsSearching}
 use Rattle.kw_full.specs.Full.{IsEngaging}
 
 -- Where a seat stands.
@@ -45,6 +47,22 @@ abbrev pub IsMoving : Activity → Local → Type 0
 IsMoving (Activity.Rebalance (Rebalance.Seek Seek.GiveBack)) l = l.rebalance.afterwards ≡ MoveLeft
 IsMoving (Activity.Rebalance (Rebalance.Left Left.Start)) l = Unit {0}
 IsMoving _ l = ⊥
+
+-- a seat that is about to engage a row rebalances it
+pub engaging_balances : (a : Activity) → IsEngaging a → IsBalancing a
+engaging_balances (Activity.Rebalance b) x = tt
+engaging_balances _ x = absurd x
+
+-- one that is about to move knows the row to which it does
+pub moving_searches : (a : Activity) (l : Local) → IsMoving a l → IsSearching a l
+moving_searches (Activity.Rebalance (Rebalance.Seek Seek.GiveBack)) l x = x
+moving_searches (Activity.Rebalance (Rebalance.Left Left.Start)) l x = tt
+moving_searches _ l x = absurd x
+
+pub moving_before : (a : Activity) (l : Local) → IsMoving a l → HasBefore a l
+moving_before (Activity.Rebalance (Rebalance.Seek Seek.GiveBack)) l x = x
+moving_before (Activity.Rebalance (Rebalance.Left Left.Start)) l x = tt
+moving_before _ l x = absurd x
 
 -- it finds the link to its row marked
 pub data SeesMark (v : Words) (l : Local) (a : Activity) : Type 0 where

@@ -1,11 +1,15 @@
 -- What a seat has met of the row that it is about to engage: the row is full, or its link is
 -- marked. No event takes that back, as long as the seat is there.
-use Rattle.std.proofs.Common.{ℕ, ◌≡◌, ◌<◌, ◌≤◌, Bool, true, false, arith, sym, ◌∙◌, ap, length}
+use Rattle.std.proofs.Common.{ℕ, ◌≡◌, ◌⊎◌, inl, inr, ◌<◌, ◌≤◌, Bool, true, false, nat_lt, Option, None, Some, arith, refl, sym, ◌∙◌, ap, length, if◌then◌else◌}
+use Rattle.std.proofs.lemmas.Bool.Decides.{nat_tests}
+use Rattle.kw_words.specs.declared.count.Count.{Count as Counted}
 use Rattle.kw_rows.specs.Rows as rows
 use Rattle.kw_rows.specs.Rows.{WasLinked}
 use Rattle.kw_world.specs.declared.activity.Activity.{Activity}
 use Rattle.kw_world.specs.declared.event.Choice.{Choice}
 use Rattle.kw_world.specs.declared.local.Local.{Local}
+use Rattle.kw_world.specs.PutTransitions.{given_of, has_room}
+use Rattle.kw_world.specs.Sane.{IsGiven}
 use Rattle.kw_world.specs.Sizes.{Sizes}
 use Rattle.kw_world.specs.Step.{word}
 use Rattle.kw_core.specs.declared.history.Attempt.{Attempt}
@@ -15,7 +19,7 @@ use Rattle.kw_core.specs.Step.{AttemptStep, Step, as_it_was, is_added, is_announ
 use Rattle.kw_core.specs.Words.{given_in}
 use Rattle.kw_core.proofs.Happens.{Happens, log_entry}
 use Rattle.kw_core.proofs.Steps.{Stays, old_stays}
-use Rattle.kw_shape.specs.RowsIn.{rows_in}
+use Rattle.kw_shape.specs.RowsIn.{has_frozen, rows_in}
 use Rattle.kw_shape.proofs.LinkedRows.{StaysLinked, linked_given, linked_keeps}
 use Rattle.kw_reads.specs.Inv.{Inv}
 use Rattle.kw_reads.proofs.HistoryKeeps.{history_step}
@@ -26,6 +30,15 @@ use Rattle.kw_full.proofs.MarkLasts.{mark_lasts}
 pub data HasMet (z : Sizes) (r : Run) (t q key : ℕ) (tidies : Bool) : Type 0 where
   met_full : rows.HoldsKey (rows_in (word z r.world)) r.ledger.rows q key → (tidies ≡ false → z.cells ≤ given_in (word z r.world) q) → (tidies ≡ true → HasStamped r t q) → HasMet z r t q key tidies
   met_marked : (rows_in (word z r.world)).marked q ≡ true → HasMet z r t q key tidies
+
+-- a row that gives no cell is frozen, or has given all
+room_or_full : (z : Sizes) (c : Counted) (b : Bool) → c.frozen ≡ b → (if b then false else nat_lt c.given z.cells) ≡ false → (c.frozen ≡ true) ⊎ (z.cells ≤ c.given)
+room_or_full z c true e f = inl e
+room_or_full z c false e f = inr (grind (arith, nat_tests))
+
+pub no_room : (z : Sizes) (x : Option Counted) → IsGiven x → has_room z x ≡ false → (has_frozen x ≡ true) ⊎ (z.cells ≤ given_of x)
+no_room z (Some c) g e = room_or_full z c c.frozen refl e
+no_room z None g e = absurd g
 
 -- the attempt that the log of a seat has as its own, and the call, stay
 pub record IsSameOwn (r r' : Run) (t : ℕ) : Type 0 where
