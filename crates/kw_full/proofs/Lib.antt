@@ -5,3 +5,8 @@ pub mod Leaders
 pub mod MetLasts
 pub mod FullKeep
 pub mod FullHold
+pub mod CopiesKeep
+pub mod OverKeep
+pub mod Leading
+pub mod SharesKeep
+pub mod SharesHold

@@ -1,2 +1,5 @@
 pub mod Frozen
 pub mod Full
+pub mod Copies
+pub mod OverFrozen
+pub mod Shares
