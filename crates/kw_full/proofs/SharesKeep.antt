@@ -1,6 +1,6 @@
--- Every event keeps the shares of the rows that lead: a row that is engaged was full and not frozen,
--- so each of its cells that it was not built with stands for an attempt that is stamped, or that a
--- seat is at work on; and from then on its cells stand for the same attempts.
+-- Every event keeps the shares of the rows that lead: a row that is engaged was full and not
+-- frozen, so each of its cells that it was not built with stands for an attempt that is stamped, or
+-- that a seat is at work on; and from then on its cells stand for the same attempts.
 use Rattle.std.proofs.Common.{ℕ, suc, zero, ◌≡◌, ◌⊎◌, inl, inr, ◌<◌, ◌≤◌, ◌&&◌, Bool, true, false, nat_le, Option, None, Some, arith, refl, sym, ◌∙◌, ap, length, slice_get, subst}
 use Rattle.std.proofs.lemmas.Bool.{and_parts, cases_lt}
 use Rattle.std.proofs.lemmas.Bool.Decides.{nat_tests}
