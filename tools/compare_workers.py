@@ -39,9 +39,8 @@ them may have seen takes long to look through.
 
 In the shape `rows` a put or del line may be refused with `no rows`; it is no update then, and
 changes nothing. So it is in the last four with several workers, as a row is not used again while
-one of them stands still that had come before it went, and as rows that several of them empty at
-once do not all come back. Nowhere else is a line refused. The status must be 8 exactly where one
-was, and else 0.
+one of them stands still that had come before it went. Nowhere else is a line refused. The status
+must be 8 exactly where one was, and else 0.
 
 Before the last line stands, for each number of workers, how many runs did not answer as one thread,
 in how many a range line saw a part of another worker's updates in its block, and in how many a line
