@@ -51,7 +51,7 @@ unvisited w g now t s = record { chain = a.chain; closed = a.closed; states = a.
 
 -- Rows that stay.
 
-live_not_dead : {A : Type 0} (s : rows.Status) → s ≡ Live → s ≡ Dead → A
+pub live_not_dead : {A : Type 0} (s : rows.Status) → s ≡ Live → s ≡ Dead → A
 live_not_dead s a d = let x : Live ≡ Dead = sym a ∙ d in absurd (cc)
 
 -- a row whose fate is set to one that is not dead is not, if it was not

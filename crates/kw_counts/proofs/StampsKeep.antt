@@ -45,7 +45,7 @@ settled_not z r q j c (settled_frozen e) p = let x : pend_word Frozen ≡ pend_w
 settled_not z r q j c (settled_stamped cell version e) p = let x : pend_word (Stamped cell version) ≡ pend_word (Pending c) = sym e ∙ p in absurd (omega (arith, x))
 settled_not z r q j c (settled_idle e f) p = let x : pend_word Idle ≡ pend_word (Pending c) = sym e ∙ p in absurd (omega (arith, x))
 
-pending_live : (z : Sizes) (r : Run) → Inv z r → (t q j c : ℕ) → IsFresh r.ledger.rows t q → j < z.seats → word z r.world (name.Pend q j) ≡ pend_word (Pending c) → IsLive r.ledger.rows q
+pub pending_live : (z : Sizes) (r : Run) → Inv z r → (t q j c : ℕ) → IsFresh r.ledger.rows t q → j < z.seats → word z r.world (name.Pend q j) ≡ pend_word (Pending c) → IsLive r.ledger.rows q
 pending_live z r v t q j c (inl a) w p = a
 pending_live z r v t q j c (inr a) w p = settled_not z r q j c (v.puts.dead q j a.dead w) p
 

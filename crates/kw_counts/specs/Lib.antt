@@ -8,3 +8,6 @@ pub mod Ever
 pub mod Spent
 pub mod NoRows
 pub mod Stamps
+pub mod Refusals
+pub mod Leaders
+pub mod Bank

@@ -8,6 +8,7 @@ ghost use Rattle.kw_world.specs.Opening.{IsOpening};
 ghost use Rattle.kw_world.specs.Sizes.{Sizes};
 ghost use Rattle.kw_core.specs.Events.{is_valid, world};
 ghost use Rattle.kw_core.specs.Run.{history};
+ghost use Rattle.kw_counts.specs.Bank.{KeepsBank};
 ghost use Rattle.kw_counts.specs.Builds.{KeepsBuilds};
 ghost use Rattle.kw_counts.specs.Counts.{counts};
 ghost use Rattle.kw_counts.specs.Draws.{KeepsDraws, KeepsScans};
@@ -64,4 +65,15 @@ pub fn refusal_laws()
     ensures no_rows { (z : Sizes) (o : Opening) (events : List Event) → IsOpening z o →
         is_valid z o events ≡ true →
         KeepsNoRows o (counts z o events) (history z o events).history }
+{}
+
+/// After every valid list of events from an opening: each call that has a put is a put or a delete
+/// that was begun, and is counted in the row where it was stamped, or is banked. As long as no put
+/// that is done is offered to rebalance its row, each exchange that replaced a row was paid for by
+/// so many of these as a row has cells, less those with which it is built and one for each seat; and
+/// once a row leads so is the next one.
+pub fn bank_laws()
+    ensures bank { (z : Sizes) (o : Opening) (events : List Event) → IsOpening z o →
+        is_valid z o events ≡ true →
+        KeepsBank z o events (history z o events) (counts z o events) }
 {}
