@@ -1,5 +1,5 @@
--- What holds after every valid list, where one event keeps it that comes after such a list: then the
--- laws are at hand of the list before it.
+-- What holds after every valid list, where one event keeps it that comes after such a list: then
+-- the laws are at hand of the list before it.
 use Rattle.std.proofs.Common.{◌≡◌, true, List, [], ◌∷◌, ◌++◌, refl, sym, ◌∙◌, ap, subst}
 use Rattle.kw_world.specs.declared.event.Event.{Event}
 use Rattle.kw_world.specs.declared.opening.Opening.{Opening}

@@ -14,6 +14,7 @@ pub mod Leaders
 pub mod PutsCounted
 pub mod StampSteps
 pub mod Banked
+pub mod CountsWithin
 pub mod OwnStamped
 pub mod Untidied
 pub mod BankKeep
@@ -26,3 +27,5 @@ pub mod SpentHold
 pub mod NoRowsHold
 pub mod Fronts
 pub mod BankHold
+pub mod EngagersKeep
+pub mod EngagersHold

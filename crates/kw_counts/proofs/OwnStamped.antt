@@ -1,12 +1,12 @@
--- No row of the list has more stamped cells of its own than are counted in it, by induction over the
--- events: where an attempt is stamped one cell more is, and one more is counted in its row. A row
--- that is linked now has none.
-use Rattle.std.proofs.Common.{ℕ, ◌≡◌, ◌⊎◌, inl, inr, ◌+◌, ◌<◌, ◌≤◌, Bool, true, false, nat_le, nat_lt, ◌&&◌, if◌then◌else◌, Option, None, Some, arith, refl, sym, ◌∙◌, ap, subst, length, length-append}
-use Rattle.std.proofs.lemmas.Bool.{and_from, and_parts, cases_eq, cases_lt, le-leb, leb-true, lt-ltb, ltb-true}
+-- No row of the list has more stamped cells of its own than are counted in it, by induction over
+-- the events: where an attempt is stamped one cell more is, and one more is counted in its row. A
+-- row that is linked now has none.
+use Rattle.std.proofs.Common.{ℕ, ◌≡◌, ◌⊎◌, inl, inr, ◌+◌, ◌<◌, ◌≤◌, Bool, true, false, nat_le, if◌then◌else◌, Option, None, Some, arith, refl, sym, ◌∙◌, ap, subst, length, length-append}
+use Rattle.std.proofs.lemmas.Bool.{and_from, and_parts, cases_eq, le-leb, leb-true}
 use Rattle.std.proofs.lemmas.Option.{same_Some}
 use Rattle.kw_lists.specs.Counts.{count_below}
 use Rattle.kw_rows.specs.Ledger.{Fate, IsLive}
-use Rattle.kw_windows.proofs.Counting.{count_one_more, count_picked_out, count_upto}
+use Rattle.kw_windows.proofs.Counting.{count_upto}
 use Rattle.kw_world.specs.declared.activity.Activity.{Activity}
 use Rattle.kw_world.specs.declared.activity.rebalance.Rebalance.TheVariants as Rebalance
 use Rattle.kw_world.specs.declared.activity.rebalance.replace.Replace.TheVariants as Replace
@@ -32,6 +32,7 @@ use Rattle.kw_puts.proofs.RelyProof.{goes_on_by}
 use Rattle.kw_reads.specs.Inv.{Inv, lower}
 use Rattle.kw_reads.proofs.HistoryKeeps.{history_step}
 use Rattle.kw_counts.specs.Counts.{Stamps, has_replaced, no_counts, one_more_at, stamps_after}
+use Rattle.kw_counts.proofs.CountsWithin.{count_one_within, none_counted}
 use Rattle.kw_counts.proofs.Leaders.{live_was}
 use Rattle.kw_counts.proofs.LiveRows.{live_not_dead}
 use Rattle.kw_counts.proofs.StampSteps.{IsOneStamped, StampsNow, none_now, one_now, stamps_now}
@@ -40,24 +41,6 @@ use Rattle.kw_counts.proofs.Updates.{at_left, at_set}
 -- of each row of the list
 abbrev pub AreCounted : Sizes → Run → Stamps → Type 0
 AreCounted z r c = (q : ℕ) → IsLive r.ledger.rows q → count_below z.cells (is_own_stamped r q) ≤ c.here q
-
--- Counts below a bound.
-
--- where at most one more is picked out below the bound
-count_one_within : (n y : ℕ) (f g : ℕ → Bool) → ((c : ℕ) → c < n → g c ≡ true → (c ≡ y) ⊎ (f c ≡ true)) → count_below n g ≤ count_below n f + 1
-count_one_within n y f g h =
-    let within : ℕ → Bool = λ c. nat_lt c n && g c in
-    let more : count_below n within ≤ count_below n f + 1 = count_one_more n y f within (λ c e. let t = and_parts (nat_lt c n) (g c) e in h c (ltb-true c n t.0) t.1) in
-    let same : count_below n g ≤ count_below n within = count_upto n within g (λ c w e. and_from (nat_lt c n) (g c) (lt-ltb c n w) e) in
-    omega (arith, more, same)
-
--- where none is picked out there are none
-none_counted : (n : ℕ) (f : ℕ → Bool) → ((c : ℕ) → c < n → f c ≡ true → ⊥) → count_below n f ≡ 0
-none_counted n f h = which (cases_lt 0 (count_below n f))
-  where
-    which : (0 < count_below n f) ⊎ (count_below n f ≤ 0) → count_below n f ≡ 0
-    which (inl o) = let t = count_picked_out n f (omega (arith, o)) in absurd (h t.0 t.1 t.2)
-    which (inr o) = omega (arith, o)
 
 -- A stamped cell of a row's own.
 

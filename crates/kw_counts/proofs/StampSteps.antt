@@ -1,4 +1,5 @@
--- What an event stamps, as it is counted: one attempt, made in the row that its seat is at, or none.
+-- What an event stamps, as it is counted: one attempt, made in the row that its seat is at, or
+-- none.
 use Rattle.std.proofs.Common.{ℕ, ◌≡◌, ◌⊎◌, inl, inr, ◌+◌, ◌<◌, ◌==◌, Bool, true, false, arith, refl, sym, ◌∙◌, ap, subst, length}
 use Rattle.kw_words.specs.declared.layout.Name.TheVariants as name
 use Rattle.kw_words.specs.declared.pend.Pend.TheVariants.{Pending}

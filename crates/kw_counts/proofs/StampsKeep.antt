@@ -6,6 +6,7 @@ use Rattle.kw_words.specs.declared.pend.Pend.TheVariants.{Frozen, Idle, Pending,
 use Rattle.kw_words.specs.Pend.{pend_word}
 use Rattle.kw_rows.specs.Ledger as fate
 use Rattle.kw_rows.specs.Ledger.{Fate, IsFresh, IsLive, Status}
+use Rattle.kw_rows.specs.Rows.{WasLinked}
 use Rattle.kw_world.specs.declared.activity.Activity.{Activity}
 use Rattle.kw_world.specs.declared.activity.look.Look.TheVariants as Look
 use Rattle.kw_world.specs.declared.activity.put.Put.TheVariants as Put
@@ -22,7 +23,7 @@ use Rattle.kw_core.specs.Run.{Run, start}
 use Rattle.kw_core.specs.Stages.{IsAtRow}
 use Rattle.kw_core.proofs.Arrows.{eq_from}
 use Rattle.kw_core.proofs.Happens.{Happens, found_at}
-use Rattle.kw_shape.proofs.LinkedRows.{live_reached}
+use Rattle.kw_shape.proofs.LinkedRows.{fresh_linked, live_reached}
 use Rattle.kw_puts.specs.Freezes.{IsSettled, settled_frozen, settled_idle, settled_stamped}
 use Rattle.kw_reads.specs.Inv.{Inv}
 use Rattle.kw_counts.specs.Counts.{Counts, Stamps, has_replaced, no_counts, one_more_at, stamps_after, with_banked}
@@ -45,9 +46,13 @@ settled_not z r q j c (settled_frozen e) p = let x : pend_word Frozen ≡ pend_w
 settled_not z r q j c (settled_stamped cell version e) p = let x : pend_word (Stamped cell version) ≡ pend_word (Pending c) = sym e ∙ p in absurd (omega (arith, x))
 settled_not z r q j c (settled_idle e f) p = let x : pend_word Idle ≡ pend_word (Pending c) = sym e ∙ p in absurd (omega (arith, x))
 
+-- so a row of which one is, and that was linked, is in the list
+pub pending_linked : (z : Sizes) (r : Run) → Inv z r → (q j c : ℕ) → WasLinked r.ledger.rows q → j < z.seats → word z r.world (name.Pend q j) ≡ pend_word (Pending c) → IsLive r.ledger.rows q
+pending_linked z r v q j c (inl a) w p = a
+pending_linked z r v q j c (inr d) w p = settled_not z r q j c (v.puts.dead q j d w) p
+
 pub pending_live : (z : Sizes) (r : Run) → Inv z r → (t q j c : ℕ) → IsFresh r.ledger.rows t q → j < z.seats → word z r.world (name.Pend q j) ≡ pend_word (Pending c) → IsLive r.ledger.rows q
-pending_live z r v t q j c (inl a) w p = a
-pending_live z r v t q j c (inr a) w p = settled_not z r q j c (v.puts.dead q j a.dead w) p
+pending_live z r v t q j c f w p = pending_linked z r v q j c (fresh_linked r.ledger.rows t q f) w p
 
 -- One event.
 

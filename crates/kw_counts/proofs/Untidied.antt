@@ -1,5 +1,5 @@
--- What comes before no refusal: where no update was refused after an event, and none may tidy, so it
--- was before the event.
+-- What comes before no refusal: where no update was refused after an event, and none may tidy, so
+-- it was before the event.
 use Rattle.std.proofs.Common.{ℕ, ◌≡◌, ◌*◌, ◌<◌, ◌≤◌, Some, None, arith, sym, ◌∙◌, ap, subst, length}
 use Rattle.std.proofs.Math.Nat.{mul_comm, mul-le-mul_right}
 use Rattle.kw_words.specs.declared.layout.Name.TheVariants as name

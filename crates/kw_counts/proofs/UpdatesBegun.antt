@@ -1,5 +1,5 @@
--- Each call that has a put is a put or a delete of some seat, so no more have one than all seats have
--- begun.
+-- Each call that has a put is a put or a delete of some seat, so no more have one than all seats
+-- have begun.
 use Rattle.std.proofs.Common.{ℕ, suc, ◌≡◌, ◌⊎◌, inl, inr, ◌+◌, ◌<◌, ◌≤◌, Option, None, Some, List, [], ◌∷◌, arith, refl, sym, ◌∙◌, ap, get_or}
 use Rattle.std.proofs.lemmas.Bool.{cases_eq}
 use Rattle.kw_windows.specs.Sums.{sum_below}

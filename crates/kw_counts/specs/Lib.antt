@@ -11,3 +11,4 @@ pub mod Stamps
 pub mod Refusals
 pub mod Leaders
 pub mod Bank
+pub mod Engagers

@@ -12,6 +12,7 @@ ghost use Rattle.kw_counts.specs.Bank.{KeepsBank};
 ghost use Rattle.kw_counts.specs.Builds.{KeepsBuilds};
 ghost use Rattle.kw_counts.specs.Counts.{counts};
 ghost use Rattle.kw_counts.specs.Draws.{KeepsDraws, KeepsScans};
+ghost use Rattle.kw_counts.specs.Engagers.{KeepsEngagers};
 ghost use Rattle.kw_counts.specs.Ever.{KeepsEver};
 ghost use Rattle.kw_counts.specs.Links.{KeepsLinks};
 ghost use Rattle.kw_counts.specs.NoRows.{KeepsNoRows};
@@ -70,10 +71,15 @@ pub fn refusal_laws()
 /// After every valid list of events from an opening: each call that has a put is a put or a delete
 /// that was begun, and is counted in the row where it was stamped, or is banked. As long as no put
 /// that is done is offered to rebalance its row, each exchange that replaced a row was paid for by
-/// so many of these as a row has cells, less those with which it is built and one for each seat; and
-/// once a row leads so is the next one.
+/// so many of these as a row has cells, less those with which it is built and one for each seat;
+/// and once a row leads so is the next one. As long as no put or delete was refused either, the
+/// seat that made a row lead is still in the call that found it full, which has no put yet; so no
+/// more rows lead than there are seats.
 pub fn bank_laws()
     ensures bank { (z : Sizes) (o : Opening) (events : List Event) → IsOpening z o →
         is_valid z o events ≡ true →
         KeepsBank z o events (history z o events) (counts z o events) }
+    ensures engagers { (z : Sizes) (o : Opening) (events : List Event) → IsOpening z o →
+        is_valid z o events ≡ true →
+        KeepsEngagers z (history z o events) (counts z o events) }
 {}
