@@ -84,8 +84,8 @@ module _ (z : Sizes) (r r' : Run) (s : ℕ) (choice : Choice) (l l' : Local) (v 
   sum_keeps : (a : Activity) → Happens z r r' s choice l l' a → total r'.world.rows (stamps_after a l (found_at z (word z r.world) a s choice l) c.stamps) ≡ puts_in r'.history.calls
   sum_keeps a h = which (stamps_now z r r' s choice l l' v a h c.stamps)
     where
-      C : Stamps
-      C = stamps_after a l (found_at z (word z r.world) a s choice l) c.stamps
+      after : Stamps
+      after = stamps_after a l (found_at z (word z r.world) a s choice l) c.stamps
 
       exchange : (d : Activity) → d ≡ Activity.Rebalance (Rebalance.Replace Replace.Exchange) → Happens z r r' s choice l l' d → total r.world.rows (stamps_after d l (found_at z (word z r.world) d s choice l) c.stamps) ≡ total r.world.rows c.stamps
       exchange d e = subst (λ (q : Activity). Happens z r r' s choice l l' q → total r.world.rows (stamps_after q l (found_at z (word z r.world) q s choice l) c.stamps) ≡ total r.world.rows c.stamps) (sym e) (λ i. saw i (has_replaced l (word z r.world (replaced_link l.rebalance.before))) refl)
@@ -94,10 +94,10 @@ module _ (z : Sizes) (r r' : Run) (s : ℕ) (choice : Choice) (l l' : Local) (v 
           saw i true f = rw f (sum_replaced i f)
           saw i false f = rw f refl
 
-      moved : total r'.world.rows C ≡ total r.world.rows C
-      moved = ap (λ n. total n C) h.rows
+      moved : total r'.world.rows after ≡ total r.world.rows after
+      moved = ap (λ n. total n after) h.rows
 
-      which : StampsNow z r r' l a c.stamps C → total r'.world.rows C ≡ puts_in r'.history.calls
+      which : StampsNow z r r' l a c.stamps after → total r'.world.rows after ≡ puts_in r'.history.calls
       which (one_now o y e) = omega (arith, moved, ap (total r.world.rows) e, one_more_total r.world.rows c.stamps l.row y.below, y.puts, b.sum)
       which (none_now y (inl e)) = omega (arith, moved, ap (total r.world.rows) e, y.puts, b.sum)
       which (none_now y (inr e)) = omega (arith, moved, exchange a e h, y.puts, b.sum)

@@ -192,11 +192,11 @@ module _ (z : Sizes) (r r' : Run) (s : ℕ) (choice : Choice) (l l' : Local) (a 
       ends_call : (answer : Answer) → a ≡ Activity.Leave answer → ⊥
       ends_call answer f = by (leaves_put l.call (called r.history (r.seats s).call).call answer l.pairs called_is (subst (λ (k : Local). IsPutCall k.call) known y.update) (subst (λ q. IsKind q l) (h.activity ∙ f) (v.shape.kinds s l h.knows).kind))
         where
-          x' : Calling r.history s l.activity l (r.seats s)
-          x' = subst (λ n. Calling r.history n l.activity l (r.seats n)) e (subst (λ (k : Local). Calling r.history t k.activity k (r.seats t)) known calling)
+          own_call : Calling r.history s l.activity l (r.seats s)
+          own_call = subst (λ n. Calling r.history n l.activity l (r.seats n)) e (subst (λ (k : Local). Calling r.history t k.activity k (r.seats t)) known calling)
 
           called_is : l.call ≡ Some (called r.history (r.seats s).call).call
-          called_is = x'.call
+          called_is = own_call.call
 
           unstamped : (called r.history (r.seats s).call).put ≡ None
           unstamped = subst (λ n. (called r.history (r.seats n).call).put ≡ None) e y.unstamped
@@ -208,14 +208,14 @@ module _ (z : Sizes) (r r' : Run) (s : ℕ) (choice : Choice) (l l' : Local) (a 
           now = record (called r.history (r.seats s).call) { end = Some (record { at = length r.history.log; reply = reply_of answer l.pairs }); answer = answering l.call l (r.seats s); draw = drawing answer l (r.seats s) }
 
           is : called r'.history (r.seats s).call ≡ now
-          is = called_set_same r.history r'.history (r.seats s).call now (ap (λ (q : History). q.calls) leaving.history) x'.within
+          is = called_set_same r.history r'.history (r.seats s).call now (ap (λ (q : History). q.calls) leaving.history) own_call.within
 
           by : Leaves (called r.history (r.seats s).call).call answer (reply_of answer l.pairs) → ⊥
           by (is_done d) =
-              let p = x'.done (inl (subst IsDone (sym (h.activity ∙ f ∙ ap Activity.Leave d)) tt)) in
+              let p = own_call.done (inl (subst IsDone (sym (h.activity ∙ f ∙ ap Activity.Leave d)) tt)) in
               let q : None ≡ Some p.0 = sym unstamped ∙ p.1 in
               absurd (cc)
-          by (is_refused q) = b.none (r.seats s).call (record { at = length r.history.log; reply = reply_of answer l.pairs }) (omega (arith, x'.within, st.more_calls)) (ap (λ (k : CallLog). k.end) is) (subst (λ (k : CallLog). IsRefusal k.call (reply_of answer l.pairs)) (sym is) q)
+          by (is_refused q) = b.none (r.seats s).call (record { at = length r.history.log; reply = reply_of answer l.pairs }) (omega (arith, own_call.within, st.more_calls)) (ap (λ (k : CallLog). k.end) is) (subst (λ (k : CallLog). IsRefusal k.call (reply_of answer l.pairs)) (sym is) q)
 
       which : IsUnderway a ⊎ ((answer : Answer) × (a ≡ Activity.Leave answer)) → GoesOnWith r r' t y.local
       which (inl u) = on u

@@ -125,10 +125,10 @@ module _ (z : Sizes) (r r' : Run) (s : ℕ) (choice : Choice) (l l' : Local) (a 
   pub own_keeps : AreCounted z r' (stamps_after a l (found_at z (word z r.world) a s choice l) c)
   own_keeps q live = which (live_was a h v.shape q live) (stamps_now z r r' s choice l l' v a h c)
     where
-      C : Stamps
-      C = stamps_after a l (found_at z (word z r.world) a s choice l) c
+      after : Stamps
+      after = stamps_after a l (found_at z (word z r.world) a s choice l) c
 
-      at : (o : ℕ) → IsLive r.ledger.rows q → r'.ledger.rows.fates q ≡ r.ledger.rows.fates q → IsOneStamped z r r' l o → C ≡ record c { here = one_more_at c.here l.row } → (q ≡ l.row) ⊎ (q ≡ l.row → ⊥) → count_below z.cells (is_own_stamped r' q) ≤ C.here q
+      at : (o : ℕ) → IsLive r.ledger.rows q → r'.ledger.rows.fates q ≡ r.ledger.rows.fates q → IsOneStamped z r r' l o → after ≡ record c { here = one_more_at c.here l.row } → (q ≡ l.row) ⊎ (q ≡ l.row → ⊥) → count_below z.cells (is_own_stamped r' q) ≤ after.here q
       at o was f y e (inl i) = omega (arith, x q was, ap (λ (d : Stamps). d.here q) e, at_set c.here l.row (c.here l.row + 1) q i, ap c.here i, count_one_within z.cells (attempt r.history o).cell (is_own_stamped r q) (is_own_stamped r' q) (λ d w g. first (one_more q o was f y d w g)))
         where
           first : {d : ℕ} → ((d ≡ (attempt r.history o).cell) × (q ≡ l.row)) ⊎ (is_own_stamped r q d ≡ true) → (d ≡ (attempt r.history o).cell) ⊎ (is_own_stamped r q d ≡ true)
@@ -140,12 +140,12 @@ module _ (z : Sizes) (r r' : Run) (s : ℕ) (choice : Choice) (l l' : Local) (a 
           second (inl t) = absurd (i t.1)
           second (inr t) = t
 
-      stays : IsLive r.ledger.rows q → r'.ledger.rows.fates q ≡ r.ledger.rows.fates q → StampsNow z r r' l a c C → count_below z.cells (is_own_stamped r' q) ≤ C.here q
+      stays : IsLive r.ledger.rows q → r'.ledger.rows.fates q ≡ r.ledger.rows.fates q → StampsNow z r r' l a c after → count_below z.cells (is_own_stamped r' q) ≤ after.here q
       stays was f (one_now o y e) = at o was f y e (cases_eq q l.row)
       stays was f (none_now y (inl e)) = omega (arith, x q was, no_more q was f y.was, ap (λ (d : Stamps). d.here q) e)
       stays was f (none_now y (inr e)) = omega (arith, x q was, no_more q was f y.was, here_stays q e live)
 
-      which : (IsLive r.ledger.rows q × (r'.ledger.rows.fates q ≡ r.ledger.rows.fates q)) ⊎ ComesNow (word z r.world) r.ledger.rows r'.ledger.rows s (length r.history.log) l a q → StampsNow z r r' l a c C → count_below z.cells (is_own_stamped r' q) ≤ C.here q
+      which : (IsLive r.ledger.rows q × (r'.ledger.rows.fates q ≡ r.ledger.rows.fates q)) ⊎ ComesNow (word z r.world) r.ledger.rows r'.ledger.rows s (length r.history.log) l a q → StampsNow z r r' l a c after → count_below z.cells (is_own_stamped r' q) ≤ after.here q
       which (inl t) y = stays t.0 t.1 y
       which (inr n) y = omega (arith, none_new q n)
 

@@ -99,29 +99,29 @@ module _ (z : Sizes) (r r' : Run) (s : ℕ) (choice : Choice) (l l' : Local) (v 
   pub stamps_now : (a : Activity) → Happens z r r' s choice l l' a → (c : Stamped) → StampsNow z r r' l a c (stamps_after a l (found_at z (word z r.world) a s choice l) c)
   stamps_now (Activity.Look Look.Help) h c = saw (word z r.world (name.Pend l.row l.looked) == pend_word (Pending l.saw)) refl
     where
-      A : Activity
-      A = Activity.Look Look.Help
+      here : Activity
+      here = Activity.Look Look.Help
 
-      saw : (b : Bool) → (word z r.world (name.Pend l.row l.looked) == pend_word (Pending l.saw)) ≡ b → StampsNow z r r' l A c (stamps_after A l (word z r.world (name.Pend l.row l.looked)) c)
+      saw : (b : Bool) → (word z r.world (name.Pend l.row l.looked) == pend_word (Pending l.saw)) ≡ b → StampsNow z r r' l here c (stamps_after here l (word z r.world (name.Pend l.row l.looked)) c)
       saw true e =
           let known = v.shape.sane.locals s l h.knows in
           let found : word z r.world (name.Pend l.row l.looked) ≡ pend_word (Pending l.saw) = eq_from _ _ e in
           let helper = v.puts.helps s l h.knows (subst HasSeenPending (sym h.activity) tt) in
           let place = pending_cell v.puts l.row l.looked l.saw helper.put known.below.row known.ranges.looked found helper.origin in
-          let stamps : change_at z r A s choice l ≡ Stamps helper.put l.helping (r.seats s).loaded = rw e (ap (λ x. helping x l.helping (r.seats s).loaded) helper.origin) in
-          one_now helper.put (one_by A helper.put l.helping (r.seats s).loaded h stamps place.row (live_at A tt h l.looked l.saw known.ranges.looked found)) (rw e refl)
-      saw false e = none_now (none_by A Nothing h (rw e refl) refl) (inl (rw e refl))
+          let stamps : change_at z r here s choice l ≡ Stamps helper.put l.helping (r.seats s).loaded = rw e (ap (λ x. helping x l.helping (r.seats s).loaded) helper.origin) in
+          one_now helper.put (one_by here helper.put l.helping (r.seats s).loaded h stamps place.row (live_at here tt h l.looked l.saw known.ranges.looked found)) (rw e refl)
+      saw false e = none_now (none_by here Nothing h (rw e refl) refl) (inl (rw e refl))
   stamps_now (Activity.Put Put.Stamp) h c = saw (word z r.world (name.Pend l.row s) == pend_word (Pending l.cell)) refl
     where
-      A : Activity
-      A = Activity.Put Put.Stamp
+      here : Activity
+      here = Activity.Put Put.Stamp
 
-      saw : (b : Bool) → (word z r.world (name.Pend l.row s) == pend_word (Pending l.cell)) ≡ b → StampsNow z r r' l A c (stamps_after A l (word z r.world (name.Pend l.row s)) c)
+      saw : (b : Bool) → (word z r.world (name.Pend l.row s) == pend_word (Pending l.cell)) ≡ b → StampsNow z r r' l here c (stamps_after here l (word z r.world (name.Pend l.row s)) c)
       saw true e =
           let found : word z r.world (name.Pend l.row s) ≡ pend_word (Pending l.cell) = eq_from _ _ e in
           let own = v.puts.owns s l h.knows (subst IsPutting (sym h.activity) tt) in
-          let stamps : change_at z r A s choice l ≡ Stamps (r.seats s).own l.version (r.seats s).loaded = rw e refl in
-          one_now (r.seats s).own (one_by A (r.seats s).own l.version (r.seats s).loaded h stamps own.row (live_at A tt h s l.cell h.seat found)) (rw e refl)
-      saw false e = none_now (none_by A Nothing h (rw e refl) refl) (inl (rw e refl))
+          let stamps : change_at z r here s choice l ≡ Stamps (r.seats s).own l.version (r.seats s).loaded = rw e refl in
+          one_now (r.seats s).own (one_by here (r.seats s).own l.version (r.seats s).loaded h stamps own.row (live_at here tt h s l.cell h.seat found)) (rw e refl)
+      saw false e = none_now (none_by here Nothing h (rw e refl) refl) (inl (rw e refl))
   stamps_now (Activity.Rebalance (Rebalance.Replace Replace.Exchange)) h c = none_now (none_by (Activity.Rebalance (Rebalance.Replace Replace.Exchange)) Nothing h refl refl) (inr refl)
   stamps_now a h c = none_now (none_by a _ h refl (no_stamps z (word z r.world) s choice l (r.seats s) r.origin a _ (made z (word z r.world) s choice l (r.seats s) r.origin a) (λ y. cc) (λ y. cc))) (inl refl)
