@@ -1,0 +1,3 @@
+pub mod RowsStay
+pub mod Turns
+pub mod BuildTurns
