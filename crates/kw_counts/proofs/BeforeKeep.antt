@@ -55,7 +55,7 @@ builds_kept (Activity.Rebalance (Rebalance.Seek Seek.Take)) s l found g wins f t
 builds_kept _ s l found g wins f t x = refl
 
 -- what is counted of a seat that does not act stays
-builds_other : (a : Activity) (s : ℕ) (l : Local) (found : ℕ) (g : Ledger) (wins : ℕ) (f : ℕ → Builds) (t : ℕ) → t ≢ s → builds_after a s l found g wins f t ≡ f t
+pub builds_other : (a : Activity) (s : ℕ) (l : Local) (found : ℕ) (g : Ledger) (wins : ℕ) (f : ℕ → Builds) (t : ℕ) → t ≢ s → builds_after a s l found g wins f t ≡ f t
 builds_other (Activity.Rebalance (Rebalance.Gather b)) s l found g wins f t d = at_left f s (record (f s) { begun = None }) t d
 builds_other (Activity.Rebalance (Rebalance.Seek Seek.Take)) s l found g wins f t d = saw (found == state_word Free)
   where

@@ -1,3 +1,4 @@
 pub mod RowsStay
 pub mod Turns
 pub mod BuildTurns
+pub mod Lasting
