@@ -114,6 +114,11 @@ module _ (z : Sizes) (v : Words) (choice : Choice) (wins : ℕ) (begun : Option 
   given_turns l next c e (was_served d) = was_tidy d
   given_turns l next c e moves_left = moves_on refl e refl
 
+  -- where the row that it tries to take is free
+  pub taken_turn : (l k : Local) → core.Building z v choice l (Activity.Rebalance (Rebalance.Seek Seek.Take)) k → v (name.State l.rebalance.sought) ≡ state_word Free → TakesOne l k
+  taken_turn l k (takes_row rows next f y) e = taken_turns rows l next y
+  taken_turn l k (loses_row rows next d y) e = absurd (d e)
+
   -- Each way.
   pub build_turn : (l : Local) (a : Activity) (k : Local) → core.Building z v choice l a k → BuildTurn v wins begun l a k
   build_turn l a k (first_is_taken q rows next f n y) = seek_turns rows l (seeking q l) next _ refl refl refl refl y

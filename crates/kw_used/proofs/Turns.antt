@@ -52,7 +52,7 @@ pub data Turn (z : Sizes) (v : Words) (choice : Choice) (wins : ℕ) (begun : Op
   -- the seat stays where it is
   stays : stage_at wins (begun_after a begun) k.activity k ≡ stage_at wins begun a l → held_at (stage_at wins (begun_after a begun) k.activity k) (length k.rebalance.taken) ≡ held_at (stage_at wins begun a l) (length l.rebalance.taken) → Turn z v choice wins begun l a k
   -- it is about to engage its row
-  comes : IsAtRow a → stage_at wins begun a l ≡ Elsewhere → stage_at wins (begun_after a begun) k.activity k ≡ Asking l.row → Turn z v choice wins begun l a k
+  comes_to : IsAtRow a → stage_at wins begun a l ≡ Elsewhere → stage_at wins (begun_after a begun) k.activity k ≡ Asking l.row → Turn z v choice wins begun l a k
   -- its put is done, and it tidies its row, or has tidied it
   is_done : (k.tidies ≡ true) ⊎ (l.tidies ≡ true) → Turn z v choice wins begun l a k
   -- a reader leaves
@@ -114,10 +114,10 @@ module _ (z : Sizes) (v : Words) (choice : Choice) (wins : ℕ) (begun : Option 
   turn s l a k (left_over_gone_by next y n) = read_turns l l next _ refl n
   turn s l a k (gathers_left_over next n) = read_turns l (gathering z (value_of_word (v (name.Value l.row l.place))) l) next _ refl n
   turn s l a k (clears_scan answer) = leaves_reading (answer_or_stopped answer choice) tt refl refl refl
-  turn s l a k (finds_full e) = comes tt refl refl
-  turn s l a k (takes_full e) = comes tt refl refl
-  turn s l a k (announces_full d) = comes tt refl refl
-  turn s l a k (stamps_full n) = comes tt refl refl
+  turn s l a k (finds_full e) = comes_to tt refl refl
+  turn s l a k (takes_full e) = comes_to tt refl refl
+  turn s l a k (announces_full d) = comes_to tt refl refl
+  turn s l a k (stamps_full n) = comes_to tt refl refl
   turn s l a k (tidies rows e) = is_done (inl refl)
   turn s l a k (leaves answer) = ends_call answer refl refl
   turn s l a k (clock_is_spent o n) = finds_spent tt refl refl
