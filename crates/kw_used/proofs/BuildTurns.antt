@@ -1,8 +1,9 @@
 -- How an event changes the stage of a seat that takes, writes or links new rows.
-use Rattle.std.proofs.Common.{ℕ, ◌≡◌, ◌+◌, ◌==◌, true, [], ◌∷◌, Option, Some, arith, refl, sym, ◌∙◌, ap, length}
+use Rattle.std.proofs.Common.{ℕ, Bool, ◌≡◌, ◌+◌, ◌==◌, true, false, [], ◌∷◌, Option, None, Some, arith, refl, sym, ◌∙◌, ap, length}
 use Rattle.std.proofs.lemmas.List.{length-append}
 use Rattle.kw_words.specs.declared.layout.Name.TheVariants as name
 use Rattle.kw_words.specs.declared.state.State.TheVariants.{Free}
+use Rattle.kw_words.specs.declared.link.Link.{Link}
 use Rattle.kw_words.specs.Link.{link_of}
 use Rattle.kw_words.specs.State.{state_word}
 use Rattle.kw_windows.specs.Builders.{Asking, Building, Elsewhere}
@@ -18,7 +19,7 @@ use Rattle.kw_world.specs.declared.rebalance.Afterwards.TheVariants.{MoveLeft, R
 use Rattle.kw_world.specs.ReplaceTransitions.{replaced_link}
 use Rattle.kw_world.specs.SeekTransitions.{seeking, with_row}
 use Rattle.kw_world.specs.Sizes.{Sizes}
-use Rattle.kw_world.specs.Transition.{row_or_first}
+use Rattle.kw_world.specs.Transition.{row_linked, row_or_first}
 use Rattle.kw_world.specs.WriteTransitions.{unmarked_link}
 use Rattle.kw_core.specs.Stages.{is_put}
 use Rattle.kw_core.specs.Words.{Words}
@@ -26,10 +27,12 @@ use Rattle.kw_core.proofs.Building as core
 use Rattle.kw_core.proofs.Building.{begins_before, first_is_taken, gives_last_back, is_marked_before, is_replaced, leads_nowhere, leads_on_marked, loses_row, pass_is_old, pass_is_young, replaces_row, retires_and_leaves, sought_is_taken, takes_head_before, takes_row, walks_past, writes_after, writes_entry, writes_first, writes_no_cell}
 use Rattle.kw_core.proofs.NextBuilt.{GivenBack, NextBack, NextBefore, NextNewCell, NextNewEntry, NextNewRow, NextPass, NextSeek, NextTaken, asks, empties, fills, gives_back, has_asked, has_cells, has_enough, has_entries, has_looked, has_none, has_written, is_behind, is_first, is_refused_rows, looks_on, moves_left, tries_again, wants_more, was_done, was_served, writes_idle, writes_row}
 use Rattle.kw_shape.specs.Infants.{HasAll, nursing_of}
+use Rattle.kw_shape.specs.Keyed.{IsPlanned}
 use Rattle.kw_used.specs.Seats.{building, held_at, refusing, stage_at}
 
 -- its build takes a row, and is at its full row still
 pub record TakesOne (l k : Local) : Type 0 where
+  pub planned : IsPlanned (nursing_of k.activity)
   pub more : length k.rebalance.taken ≡ length l.rebalance.taken + 1
   pub stays : (wins n : ℕ) → stage_at wins (Some n) k.activity k ≡ Building l.row (n == wins)
 
@@ -73,16 +76,16 @@ module _ (z : Sizes) (v : Words) (choice : Choice) (wins : ℕ) (begun : Option 
   one_more l = length-append l.rebalance.taken (l.rebalance.sought ∷ [])
 
   full_turns : (l next : Local) → NextBack Refuse (with_row l) next → TakesOne l next
-  full_turns l next (gives_back o) = record { more = one_more l; stays = λ w n. refl }
+  full_turns l next (gives_back o) = record { planned = tt; more = one_more l; stays = λ w n. refl }
   full_turns l next (has_none x o n) = absurd (omega (arith, one_more l, o))
 
   row_turns : (rows : ℕ) (l next : Local) → NextSeek rows (with_row l) next → TakesOne l next
-  row_turns rows l next (asks o) = record { more = one_more l; stays = λ w n. refl }
+  row_turns rows l next (asks o) = record { planned = tt; more = one_more l; stays = λ w n. refl }
   row_turns rows l next (has_asked x o n) = full_turns l x n
 
   taken_turns : (rows : ℕ) (l next : Local) → NextTaken rows (with_row l) next → TakesOne l next
   taken_turns rows l next (wants_more x o n) = row_turns rows l x n
-  taken_turns rows l next (has_enough o) = record { more = one_more l; stays = λ w n. refl }
+  taken_turns rows l next (has_enough o) = record { planned = tt; more = one_more l; stays = λ w n. refl }
 
   -- it writes
   write_row_turns : (l next : Local) (e : Write) → NextNewRow l next → BuildTurn v wins begun l (Activity.Rebalance (Rebalance.Write e)) next
@@ -118,6 +121,16 @@ module _ (z : Sizes) (v : Words) (choice : Choice) (wins : ℕ) (begun : Option 
   pub taken_turn : (l k : Local) → core.Building z v choice l (Activity.Rebalance (Rebalance.Seek Seek.Take)) k → v (name.State l.rebalance.sought) ≡ state_word Free → TakesOne l k
   taken_turn l k (takes_row rows next f y) e = taken_turns rows l next y
   taken_turn l k (loses_row rows next d y) e = absurd (d e)
+
+  -- where it finds the link that it is to exchange it replaces its row
+  pub won_turn : (l k : Local) → core.Building z v choice l (Activity.Rebalance (Rebalance.Replace Replace.Exchange)) k → link_of (v (replaced_link l.rebalance.before)) ≡ Some (unmarked_link (Some l.row)) → k.activity ≡ Activity.Rebalance (Rebalance.Replace Replace.Normalise)
+  won_turn l k (replaces_row f) e = refl
+  won_turn l k (is_marked_before next f y) e = let x : Some true ≡ Some false = sym (ap mark f) ∙ ap mark e in absurd (cc)
+    where
+      mark : Option Link → Option Bool
+      mark (Some link) = Some link.marked
+      mark None = None
+  won_turn l k (is_replaced next d y) e = absurd (d (ap row_linked e))
 
   -- Each way.
   pub build_turn : (l : Local) (a : Activity) (k : Local) → core.Building z v choice l a k → BuildTurn v wins begun l a k

@@ -5,3 +5,7 @@ pub mod Lasting
 pub mod Facts
 pub mod Gone
 pub mod Calls
+pub mod LeftLeaders
+pub mod Steps
+pub mod Taking
+pub mod Winning
