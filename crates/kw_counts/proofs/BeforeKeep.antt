@@ -79,7 +79,7 @@ set_upto wins s f x most new t n e = which (cases_eq t s)
     which (inl q) = new n (ap (λ (b : Builds). b.begun) (sym (at_set f s x t q)) ∙ e)
     which (inr d) = most t n (ap (λ (b : Builds). b.begun) (sym (at_left f s x t d)) ∙ e)
 
-builds_upto : (a : Activity) (s : ℕ) (l : Local) (found : ℕ) (g : Ledger) (wins : ℕ) (f : ℕ → Builds) → ((t n : ℕ) → (f t).begun ≡ Some n → n ≤ wins) → (t n : ℕ) → (builds_after a s l found g wins f t).begun ≡ Some n → n ≤ wins
+pub builds_upto : (a : Activity) (s : ℕ) (l : Local) (found : ℕ) (g : Ledger) (wins : ℕ) (f : ℕ → Builds) → ((t n : ℕ) → (f t).begun ≡ Some n → n ≤ wins) → (t n : ℕ) → (builds_after a s l found g wins f t).begun ≡ Some n → n ≤ wins
 builds_upto (Activity.Rebalance (Rebalance.Gather b)) s l found g wins f most t n e = set_upto wins s f (record (f s) { begun = None }) most (λ m q. let x : None ≡ Some m = q in absurd (cc)) t n e
 builds_upto (Activity.Rebalance (Rebalance.Seek Seek.Take)) s l found g wins f most t n e = saw (found == state_word Free) e
   where
