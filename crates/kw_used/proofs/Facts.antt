@@ -7,7 +7,8 @@ use Rattle.kw_world.specs.declared.activity.rebalance.Rebalance.TheVariants as R
 use Rattle.kw_world.specs.declared.activity.rebalance.left.Left.TheVariants as Left
 use Rattle.kw_world.specs.declared.activity.rebalance.seek.Seek.TheVariants as Seek
 use Rattle.kw_world.specs.declared.local.Local.{Local}
-use Rattle.kw_world.specs.declared.rebalance.Afterwards.TheVariants.{MoveLeft}
+use Rattle.kw_world.specs.declared.rebalance.Afterwards.{Afterwards}
+use Rattle.kw_world.specs.declared.rebalance.Afterwards.TheVariants.{MoveLeft, Refuse, TryAgain}
 use Rattle.kw_world.specs.Sizes.{Sizes}
 use Rattle.kw_world.specs.Step.{word}
 use Rattle.kw_core.specs.Run.{Run}
@@ -20,6 +21,16 @@ use Rattle.kw_counts.specs.Counts.{Counts}
 use Rattle.kw_counts.specs.Links.{KeepsLinks}
 use Rattle.kw_counts.specs.Walks.{KeepsWalks}
 use Rattle.kw_used.specs.Seats.{in_window}
+
+-- the seat gives its new rows back to move left
+abbrev pub IsMoveLeft : Afterwards → Type 0
+IsMoveLeft MoveLeft = Unit {0}
+IsMoveLeft TryAgain = ⊥
+IsMoveLeft Refuse = ⊥
+
+abbrev pub IsMoving : Activity → Local → Type 0
+IsMoving (Activity.Rebalance (Rebalance.Seek Seek.GiveBack)) l = IsMoveLeft l.rebalance.afterwards
+IsMoving _ l = ⊥
 
 -- the seat walks to the leader of its row
 abbrev pub IsWalkingLeft : Activity → Type 0
@@ -47,7 +58,7 @@ pub record Known (z : Sizes) (r : Run) (c : Counts) : Type 0 where
   -- a seat that has built for a row that had gone, in this window, is on a walk of this window
   pub walks : (t : ℕ) (l : Local) → slice_get r.world.locals t ≡ Some l → HasRow l.activity → 1 ≤ in_window c.wins (c.builds t) (c.builds t).deads → c.walks t ≡ c.wins
   -- one that moves left, and whose build took a row in this window, has its row in the list
-  pub moves : (t : ℕ) (l : Local) → slice_get r.world.locals t ≡ Some l → l.activity ≡ Activity.Rebalance (Rebalance.Seek Seek.GiveBack) → l.rebalance.afterwards ≡ MoveLeft → (c.builds t).begun ≡ Some c.wins → IsLive r.ledger.rows l.row
+  pub moves : (t : ℕ) (l : Local) → slice_get r.world.locals t ≡ Some l → IsMoving l.activity l → (c.builds t).begun ≡ Some c.wins → IsLive r.ledger.rows l.row
   -- one whose build has taken no row has none
   pub none : (t : ℕ) (l : Local) → slice_get r.world.locals t ≡ Some l → IsBuilding l.activity → (c.builds t).begun ≡ None → length l.rebalance.taken ≡ 0
   -- no window is one that is yet to come

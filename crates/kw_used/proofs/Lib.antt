@@ -9,3 +9,5 @@ pub mod LeftLeaders
 pub mod Steps
 pub mod Taking
 pub mod Winning
+pub mod BuildMoves
+pub mod KnownKeeps

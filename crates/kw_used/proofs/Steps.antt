@@ -45,7 +45,7 @@ use Rattle.kw_full.specs.Shares.{IsUntidied}
 use Rattle.kw_used.specs.Seats.{building, held_at, in_window, leaving, refusing, stage_at, windows_of}
 use Rattle.kw_used.proofs.BuildTurns.{BuildTurn, begins_again, build_turn, builds_on, finds_none, has_nothing, moves_on, takes_one, was_tidy, wins_row}
 use Rattle.kw_used.proofs.Calls.{after_building, balancing_puts, leave_cases, leaves_elsewhere, reader_no_put, refuses_one, tidies_none, update_put}
-use Rattle.kw_used.proofs.Facts.{Facts}
+use Rattle.kw_used.proofs.Facts.{Facts, IsMoveLeft, IsMoving}
 use Rattle.kw_used.proofs.Gone.{gone_by}
 use Rattle.kw_used.proofs.Lasting.{TakesNone, goes, rests_event, stage_was, was}
 use Rattle.kw_used.proofs.LeftLeaders.{led_by_left}
@@ -197,7 +197,7 @@ module _ (z : Sizes) (r r' : Run) (s : ℕ) (choice : Choice) (l l' : Local) (a 
         same m true t k =
             let u : m ≡ c.wins = grind (arith, nat_tests) in
             let v = k ∙ ap Some u in
-            let live = f.known.moves s l h.knows (h.activity ∙ e) q v in
+            let live = f.known.moves s l h.knows (subst (λ b. IsMoving b l) (sym (h.activity ∙ e)) (subst IsMoveLeft (sym q) tt)) v in
             moves s l.row p.0 (stage (Some m) k ∙ ap (Building l.row) t) (reached_is l.row live) (left v live) goes_to
         same m false t k = turns s l.row p.0 (stage (Some m) k ∙ ap (Building l.row) t) goes_to
 
