@@ -66,7 +66,7 @@ module _ (w : Rows) (g : Ledger) (now : ℕ) (s : Structure w g now) where
       common (inr o) = which (s.follows b p (w.least p) x.0 (inl live) (holds q b (w.least p) held next o rises_p) (holds q p (w.least p) (inl live) led (omega arith) rises_p) apart)
 
 -- the seat has found its row a follower
-following : (v : Words) (g : Ledger) (t : ℕ) (b : Activity) (l : Local) → IsGoingLeft b → Balances v g t b l → IsFollowing ((rows_in v).state l.row)
+pub following : (v : Words) (g : Ledger) (t : ℕ) (b : Activity) (l : Local) → IsGoingLeft b → Balances v g t b l → IsFollowing ((rows_in v).state l.row)
 following v g t (Activity.Rebalance (Rebalance.Left _)) l x k = k.group
 following v g t _ l x k = absurd x
 

@@ -11,3 +11,6 @@ pub mod Taking
 pub mod Winning
 pub mod BuildMoves
 pub mod KnownKeeps
+pub mod AnyEvent
+pub mod GoesLeftKeeps
+pub mod BuildsHold

@@ -1,3 +1,27 @@
 //! The laws of the rows that are used.
 //!
-//! Nothing runs here: the functions' clauses are the statements.
+//! Nothing runs here: the functions' clauses are the statements. What is said of those who make rows
+//! lead, and of the updates that pay for rows, is a premise here (`AreEngaged`, `AreBanked`).
+ghost use Rattle.std.specs.Prelude.{◌≡◌, true, List, ℕ};
+ghost use Rattle.kw_world.specs.declared.event.Event.{Event};
+ghost use Rattle.kw_world.specs.declared.opening.Opening.{Opening};
+ghost use Rattle.kw_world.specs.Opening.{IsOpening};
+ghost use Rattle.kw_world.specs.Sizes.{Sizes};
+ghost use Rattle.kw_core.specs.Events.{is_valid};
+ghost use Rattle.kw_core.specs.Run.{history};
+ghost use Rattle.kw_counts.specs.Builds.{IsMostOfBuild};
+ghost use Rattle.kw_counts.specs.Counts.{counts};
+ghost use Rattle.kw_used.specs.Used.{AreBanked, AreEngaged, KeepsFewBuilds, KeepsUsed};
+
+/// After every valid list of events from an opening, as long as no update was refused and none is
+/// offered to tidy its row: of the builds of a seat that took a row since a row was replaced last,
+/// at most one is for a row that had gone, and the others are no more than the rows that lead. And
+/// the rows that were ever in use are the first one, and no more than the stamped updates paid for.
+pub fn used_laws()
+    ensures builds { (z : Sizes) (o : Opening) (events : List Event) (build : ℕ) → IsOpening z o →
+        AreEngaged z o → IsMostOfBuild z build → is_valid z o events ≡ true →
+        KeepsFewBuilds z (history z o events) (counts z o events) }
+    ensures rows { (z : Sizes) (o : Opening) (events : List Event) → IsOpening z o →
+        AreEngaged z o → AreBanked z o → is_valid z o events ≡ true →
+        KeepsUsed z o (history z o events) (counts z o events) }
+{}
