@@ -1,5 +1,5 @@
--- An event that replaces no row, as one of the laws of windows: what they see of the rows stays, and
--- of the seats but for the one that acts.
+-- An event that replaces no row, as one of the laws of windows: what they see of the rows stays,
+-- and of the seats but for the one that acts.
 use Rattle.std.proofs.Common.{ℕ, ◌≡◌, ◌≢◌, ◌⊎◌, inl, inr, Bool, Option, refl, sym, ◌∙◌, ap, subst, length, eq-eqb, ne_eqb}
 use Rattle.std.proofs.lemmas.Bool.{and_parts, cases_eq}
 use Rattle.kw_words.specs.declared.state.State.TheVariants.{Free}

@@ -1,7 +1,7 @@
 //! The laws of the rows that are used.
 //!
-//! Nothing runs here: the functions' clauses are the statements. What is said of those who make rows
-//! lead, and of the updates that pay for rows, is a premise here (`AreEngaged`, `AreBanked`).
+//! Nothing runs here: the functions' clauses are the statements. What is said of those who make
+//! rows lead, and of the updates that pay for rows, is a premise here (`AreEngaged`, `AreBanked`).
 ghost use Rattle.std.specs.Prelude.{◌≡◌, true, List, ℕ};
 ghost use Rattle.kw_world.specs.declared.event.Event.{Event};
 ghost use Rattle.kw_world.specs.declared.opening.Opening.{Opening};
