@@ -1,5 +1,5 @@
 -- What every seat knows beyond the invariant holds after every valid list of events.
-use Rattle.std.proofs.Common.{ℕ, ◌≡◌, ◌<◌, true, List, arith, sym, subst}
+use Rattle.std.proofs.Common.{ℕ, ◌≡◌, ◌<◌, true, List, arith, sym, subst, length}
 use Rattle.kw_world.specs.declared.activity.Activity.{Activity}
 use Rattle.kw_world.specs.declared.event.Choice.{Choice}
 use Rattle.kw_world.specs.declared.event.Event.{Event}
@@ -16,13 +16,16 @@ use Rattle.kw_core.specs.Words.{least_in}
 use Rattle.kw_core.proofs.Events.{may_come}
 use Rattle.kw_core.proofs.Happens.{Happens, each_seat, happens}
 use Rattle.kw_core.proofs.Runs.{goes_on-moved, holds_of_history}
+use Rattle.kw_shape.specs.RowsIn.{rows_in}
 use Rattle.kw_shape.specs.Shape.{Shape}
+use Rattle.kw_shape.proofs.RowsKeep.{row_event}
 use Rattle.kw_reads.specs.Inv.{Inv}
 use Rattle.kw_reads.proofs.Keeps.{inv_goes_on}
 use Rattle.kw_reads.proofs.Opens.{inv_start}
 use Rattle.kw_alone.specs.Facts.{IsBeforeNext}
 use Rattle.kw_alone.specs.Known.{AreKnown, Taken}
 use Rattle.kw_alone.proofs.Climbing.{climbs_other, climbs_own}
+use Rattle.kw_alone.proofs.Following.{leaders_keep, no_leaders}
 use Rattle.kw_alone.proofs.Taking.{arrow_taken}
 
 -- one event, over a free run
@@ -34,6 +37,7 @@ known_keeps z r r' s choice l a l' h i k = record {
   climbs = each_seat h (λ t m. IsBeforeNext m.activity → m.rebalance.least < least_in (word z r'.world) m.candidate)
       (climbs_own z r r' s choice l a l' h i)
       (λ t m d g x. climbs_other a h i t m d g x (k.climbs t m g x));
+  leaders = leaders_keep (rows_in (word z r.world)) (rows_in (word z r'.world)) r.ledger.rows r'.ledger.rows (length r.history.log) i.rows k.leaders (row_event a h i);
 }
 
 -- the invariant with it
@@ -57,6 +61,7 @@ both_start z o opening = record {
   known = record {
     taken = each_rests z o (λ t m. Taken m.activity m) (λ t. record { most = omega arith; fewer = λ x. absurd x; some = λ x. absurd x });
     climbs = each_rests z o (λ t m. IsBeforeNext m.activity → m.rebalance.least < least_in (word z (start z o).world) m.candidate) (λ t x. absurd x);
+    leaders = no_leaders o (rows_in (word z (start z o).world)) (length (start z o).history.log) (inv_start z o opening).shape.rows;
   };
 }
 

@@ -9,11 +9,16 @@ pub mod Building
 pub mod Bounding
 pub mod Taking
 pub mod Climbing
+pub mod Following
 pub mod Knowing
 pub mod Drawing
 pub mod Living
+pub mod Clearing
+pub mod Unfollowed
 pub mod Staying
 pub mod Turning
 pub mod Marking
 pub mod Ending
+pub mod Scaling
+pub mod Lasting
 pub mod Falling

@@ -41,3 +41,12 @@ events_to_mark z rows = 2 * most_rest z rows + 2
 -- the rows
 abbrev pub most_to_mark : ℕ → ℕ
 most_to_mark rows = 32 * (SEATS * SEATS) * (rows + 1)
+
+-- and so many events end a call for sure: a seat replaces no more rows than there are and one more,
+-- and before each it moves to no more rows than there are
+abbrev pub events_to_end : Sizes → ℕ → ℕ
+events_to_end z rows = (2 + (rows + 1) * (rows + 2)) * events_to_mark z rows
+
+-- which is no more than this many, at the product's sizes
+abbrev pub most_to_end : ℕ → ℕ
+most_to_end rows = 64 * (SEATS * SEATS) * ((rows + 1) * (rows + 1) * (rows + 1))

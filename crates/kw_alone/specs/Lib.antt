@@ -5,4 +5,5 @@ pub mod Facts
 pub mod Known
 pub mod Falls
 pub mod Fair
+pub mod Clean
 pub mod Alone
