@@ -22,3 +22,9 @@ pub mod Ending
 pub mod Scaling
 pub mod Lasting
 pub mod Falling
+pub mod Going
+pub mod Leading
+pub mod GoingStays
+pub mod Asking
+pub mod GoingOn
+pub mod Comparing

@@ -7,3 +7,5 @@ pub mod Falls
 pub mod Fair
 pub mod Clean
 pub mod Alone
+pub mod Wins
+pub mod Steady
