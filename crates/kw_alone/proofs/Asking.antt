@@ -83,7 +83,7 @@ lost_by z v s choice l a k _ c st e = absurd (cc)
 -- Events.
 
 -- a seat that leaves is not at work
-staying_done : (a : Activity) → IsStaying a → IsDone a → ⊥
+pub staying_done : (a : Activity) → IsStaying a → IsDone a → ⊥
 staying_done (Activity.Leave answer) st d = st
 staying_done Activity.Idle st d = d
 staying_done _ st d = d
@@ -111,7 +111,7 @@ module _ {z : Sizes} {r r' : Run} {s : ℕ} {choice : Choice} {l l' : Local} whe
   lost_frozen a h k x = absurd x
 
   -- a seat that tidies goes on to tidy, or leaves
-  untidy : (a : Activity) → Happens z r r' s choice l l' a → Shape z r → IsStaying a → IsStaying l'.activity → l'.tidies ≡ false → l.tidies ≡ false
+  pub untidy : (a : Activity) → Happens z r r' s choice l l' a → Shape z r → IsStaying a → IsStaying l'.activity → l'.tidies ≡ false → l.tidies ≡ false
   untidy a h i st st' e = which l.tidies refl
     where
       goes : IsDone l'.activity ⊎ IsBalancing l'.activity × (l'.tidies ≡ true) → ⊥

@@ -1,6 +1,6 @@
 -- A row that is to go after an event was to go before, if it was in the list then: no event makes
 -- it one, but that by which the seat engages it.
-use Rattle.std.proofs.Common.{ℕ, ◌≡◌, ◌≢◌, ◌⊎◌, inl, inr, ◌≤◌, nat_lt, Bool, true, false, if◌then◌else◌, Option, Some, None, arith, refl, sym, ◌∙◌, ap, subst}
+use Rattle.std.proofs.Common.{ℕ, ◌≡◌, ◌⊎◌, inl, inr, ◌≤◌, nat_lt, Bool, true, false, if◌then◌else◌, Option, Some, None, arith, refl, sym, ◌∙◌, ap, subst}
 use Rattle.std.proofs.lemmas.Bool.{cases_Bool, cases_eq}
 use Rattle.std.proofs.lemmas.Bool.Decides.{nat_tests}
 use Rattle.kw_words.specs.declared.count.Count.{Count}
@@ -42,7 +42,7 @@ use Rattle.kw_alone.specs.Fair.{IsFair}
 use Rattle.kw_alone.specs.Wins.{asks, is_leading, is_unled}
 use Rattle.kw_alone.proofs.Asking.{HasLostCell, asked_before, lost_frozen, no_cell}
 use Rattle.kw_alone.proofs.Going.{IsToEngage, IsToGo, engaged_led}
-use Rattle.kw_alone.proofs.GoingStays.{IsLead, StaysLive, others_lead, still_holds, still_leads, still_unled}
+use Rattle.kw_alone.proofs.GoingStays.{IsLead, StaysLive, still_holds, still_unled}
 
 -- the seat asks its row for a cell
 abbrev pub IsAdd : Activity → Type 0
@@ -127,8 +127,8 @@ module _ {z : Sizes} {r r' : Run} {s : ℕ} {choice : Choice} {l l' : Local} whe
   still_full a h i q k u e o = omega (arith, o, ap (λ w. given_of (count_of w)) (linked_count_word a h i q (inl k) (λ x c. x)))
 
   -- a row whose entry of the seat is frozen is engaged, where the seat has lost its cell
-  lost_led : (a : Activity) → Happens z r r' s choice l l' a → Shape z r → KeepsLaws z r → (word z r.world (name.Pend l.row s) ≡ pend_word pend.Frozen → IsFrozen (word z r.world) l.row) → HasLostCell (word z r.world) s a l → IsLive r.ledger.rows l.row → is_unled ((rows_in (word z r.world)).state l.row) ≡ true → ⊥
-  lost_led a h i k frozen x live u = frozen_led z r i l.row live (frozen (lost_frozen a h k x)) u
+  lost_led : (a : Activity) → Happens z r r' s choice l l' a → Shape z r → KeepsLaws z r → (IsLive r.ledger.rows l.row → word z r.world (name.Pend l.row s) ≡ pend_word pend.Frozen → IsFrozen (word z r.world) l.row) → HasLostCell (word z r.world) s a l → IsLive r.ledger.rows l.row → is_unled ((rows_in (word z r.world)).state l.row) ≡ true → ⊥
+  lost_led a h i k frozen x live u = frozen_led z r i l.row live (frozen live (lost_frozen a h k x)) u
 
   -- where it has lost it, the row holds the key of its call, and is in the list
   lost_holds : (a : Activity) → Happens z r r' s choice l l' a → Shape z r → HasLostCell (word z r.world) s a l → HoldsKey (rows_in (word z r.world)) r.ledger.rows l.row (first_key l.call)
@@ -137,7 +137,7 @@ module _ {z : Sizes} {r r' : Run} {s : ℕ} {choice : Choice} {l l' : Local} whe
   lost_holds a h i x = absurd x
 
   -- the row that the seat may yet engage is one that it might
-  engage_was : (a : Activity) → Happens z r r' s choice l l' a → Shape z r → KeepsLaws z r → (word z r.world (name.Pend l.row s) ≡ pend_word pend.Frozen → IsFrozen (word z r.world) l.row) → (HasLostCell (word z r.world) s a l → IsLive r.ledger.rows l.row) → IsUnderway a → IsStaying l'.activity → (q : ℕ) → IsLive r.ledger.rows q →
+  engage_was : (a : Activity) → Happens z r r' s choice l l' a → Shape z r → KeepsLaws z r → (IsLive r.ledger.rows l.row → word z r.world (name.Pend l.row s) ≡ pend_word pend.Frozen → IsFrozen (word z r.world) l.row) → (HasLostCell (word z r.world) s a l → IsLive r.ledger.rows l.row) → IsUnderway a → IsStaying l'.activity → (q : ℕ) → IsLive r.ledger.rows q →
       asks l'.activity l' ≡ true → IsToEngage z (word z r'.world) r'.ledger.rows (first_key l'.call) q → (asks a l ≡ true) × IsToEngage z (word z r.world) r.ledger.rows (first_key l.call) q
   engage_was a h i k frozen live st st' q c e t = which (asked_before a h i (underway_stays a st) st' e)
     where
@@ -153,15 +153,11 @@ module _ {z : Sizes} {r r' : Run} {s : ℕ} {choice : Choice} {l l' : Local} whe
           let same : q ≡ l.row = one_row (rows_in (word z r.world)) r.ledger.rows i.rows.closed q l.row (first_key l.call) i.rows.chain c (live x) holds (lost_holds a h i x) in
           absurd (lost_led a h i k frozen x (live x) (subst (λ y. is_unled ((rows_in (word z r.world)).state y) ≡ true) same unled))
 
-  -- a row that is to go was to go, if it was in the list, and is not the one that is engaged now
-  pub going_was : (a : Activity) → Happens z r r' s choice l l' a → Shape z r → KeepsLaws z r → (word z r.world (name.Pend l.row s) ≡ pend_word pend.Frozen → IsFrozen (word z r.world) l.row) → (HasLostCell (word z r.world) s a l → IsLive r.ledger.rows l.row) → IsUnderway a → IsStaying l'.activity → (q : ℕ) → StaysLive r.ledger.rows r'.ledger.rows q → (IsLead a → q ≢ l.row) →
+  -- a row that is to go was to go, if it was in the list, and led where it leads
+  pub going_was : (a : Activity) → Happens z r r' s choice l l' a → Shape z r → KeepsLaws z r → (IsLive r.ledger.rows l.row → word z r.world (name.Pend l.row s) ≡ pend_word pend.Frozen → IsFrozen (word z r.world) l.row) → (HasLostCell (word z r.world) s a l → IsLive r.ledger.rows l.row) → IsUnderway a → IsStaying l'.activity → (q : ℕ) → StaysLive r.ledger.rows r'.ledger.rows q → (is_leading ((rows_in (word z r'.world)).state q) ≡ true → is_leading ((rows_in (word z r.world)).state q) ≡ true) →
       IsToGo z (word z r'.world) r'.ledger.rows l'.activity l' q → IsToGo z (word z r.world) r.ledger.rows a l q
-  going_was a h i k frozen live st st' q c apart t = (c.live, which t.1)
+  going_was a h i k frozen live st st' q c leads t = (c.live, which t.1)
     where
-      leads : IsLead a ⊎ (IsLead a → ⊥) → is_leading ((rows_in (word z r'.world)).state q) ≡ true → is_leading ((rows_in (word z r.world)).state q) ≡ true
-      leads (inl x) e = others_lead a h i x q c.live (apart x) e
-      leads (inr n) e = still_leads a h i n q c.live e
-
       which : (is_leading ((rows_in (word z r'.world)).state q) ≡ true) ⊎ (asks l'.activity l' ≡ true) × IsToEngage z (word z r'.world) r'.ledger.rows (first_key l'.call) q → (is_leading ((rows_in (word z r.world)).state q) ≡ true) ⊎ (asks a l ≡ true) × IsToEngage z (word z r.world) r.ledger.rows (first_key l.call) q
-      which (inl e) = inl (leads (lead_or_not a) e)
+      which (inl e) = inl (leads e)
       which (inr (e, t)) = inr (engage_was a h i k frozen live st st' q c.live e t)

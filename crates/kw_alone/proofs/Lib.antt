@@ -28,3 +28,13 @@ pub mod GoingStays
 pub mod Asking
 pub mod GoingOn
 pub mod Comparing
+pub mod Balancing
+pub mod NewRows
+pub mod Steps
+pub mod WinsLeft
+pub mod Moving
+pub mod Winning
+pub mod MovesLeft
+pub mod RestPlus
+pub mod Lessening
+pub mod Steadying

@@ -1,16 +1,18 @@
 -- Where a seat that goes on alone stands once it has come to the beginning of a walk, has replaced
 -- a row, or has moved to a row that is in the list: all rows that it names are in the list. From
 -- there on each of its events lowers three numbers in their order, up to the end of its call.
-use Rattle.std.specs.Prelude.{ℕ, ◌≡◌, ◌⊎◌, true, List}
+use Rattle.std.specs.Prelude.{ℕ, ◌≡◌, ◌⊎◌, ◌<◌, true, List}
 use Rattle.kw_rows.specs.Ledger.{Ledger}
 use Rattle.kw_rows.specs.States.{HasLeader}
 use Rattle.kw_windows.specs.Triples.{Triple}
 use Rattle.kw_world.specs.declared.activity.Activity.{Activity}
 use Rattle.kw_world.specs.declared.activity.rebalance.Rebalance.TheVariants as Rebalance
 use Rattle.kw_world.specs.declared.activity.rebalance.left.Left.TheVariants as Left
+use Rattle.kw_world.specs.declared.activity.rebalance.seek.Seek.TheVariants as Seek
 use Rattle.kw_world.specs.declared.event.Event.{Event}
 use Rattle.kw_world.specs.declared.local.Local.{Local}
 use Rattle.kw_world.specs.declared.opening.Opening.{Opening}
+use Rattle.kw_world.specs.declared.rebalance.Afterwards.TheVariants.{MoveLeft}
 use Rattle.kw_world.specs.Sizes.{Sizes}
 use Rattle.kw_world.specs.Step.{word}
 use Rattle.kw_world.specs.Transition.{row_or_first}
@@ -23,9 +25,11 @@ use Rattle.kw_alone.specs.Clean.{IsClean}
 use Rattle.kw_alone.specs.Fair.{IsFair, IsStart}
 use Rattle.kw_alone.specs.Wins.{begins, triple}
 
--- the seat knows a row before its own one, which leads that one
+-- the row before its own one leads that, where the seat is about to move there with no walk; and it
+-- is left of it where the seat gives its new rows back to move
 abbrev pub IsLed : Words → Ledger → Activity → Local → Type 0
 IsLed v g (Activity.Rebalance (Rebalance.Left Left.Start)) l = HasLeader (rows_in v) g l.row (row_or_first l.rebalance.before)
+IsLed v g (Activity.Rebalance (Rebalance.Seek Seek.GiveBack)) l = l.rebalance.afterwards ≡ MoveLeft → l.rebalance.least < l.lower
 IsLed v g _ l = Unit {0}
 
 -- in a call, the beginning of a walk is still to come, or is there, or came before
