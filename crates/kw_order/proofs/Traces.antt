@@ -1,5 +1,5 @@
 -- What a trace keeps: its events are valid, and its world and its record are those of the events.
-use Rattle.std.proofs.Common.{◌≡◌, ◌<◌, ◌++◌, ◌∷◌, [], List, true, false, nat_lt, Some, refl, sym, ◌∙◌, ap, subst, length, slice_get}
+use Rattle.std.proofs.Common.{◌≡◌, ◌<◌, ◌++◌, ◌∷◌, [], List, true, false, nat_lt, Some, arith, refl, sym, ◌∙◌, ap, subst, length, slice_get}
 use Rattle.std.proofs.lemmas.Bool.{and_from, lt-ltb}
 use Rattle.kw_words.specs.declared.sizes.TheConstants.{KEY_END, VALUE_END}
 use Rattle.kw_model.specs.declared.call.Call.{Call}
@@ -27,7 +27,7 @@ use Rattle.kw_core.specs.Recording.{Recording}
 use Rattle.kw_laws.specs.Recorder.{Records, opening_record}
 use Rattle.kw_core.specs.Run.{Run, goes_on, start}
 use Rattle.kw_laws.proofs.EndedCalls.{ended_lasts}
-use Rattle.kw_core.proofs.Events.{may_step_from, valid-nil, valid-snoc, world-snoc}
+use Rattle.kw_core.proofs.Events.{may_step_from, valid_front, valid-nil, valid-snoc, world-snoc}
 use Rattle.kw_reads.proofs.Keeps.{inv_holds}
 use Rattle.kw_laws.proofs.LawProofs.{laws_hold}
 use Rattle.kw_laws.proofs.LiveRows.{lives}
@@ -35,6 +35,10 @@ use Rattle.kw_laws.proofs.ReachHolds.{reach_holds}
 use Rattle.kw_laws.proofs.Records.{records_start, seats_kept}
 use Rattle.kw_core.proofs.Runs.{history-nil, history-snoc, history-world}
 use Rattle.kw_shape.proofs.Worlds.{world-rows}
+use Rattle.kw_alone.proofs.Bounding.{few_to_mark}
+use Rattle.kw_alone.proofs.Ending.{read_ends}
+use Rattle.kw_alone.proofs.Marking.{product_marks}
+use Rattle.kw_order.specs.Bounded.{IsBounded}
 use Rattle.kw_order.specs.Trace.{TraceView, IsTrace, run_of, history_of, pushed, longer, GivesTops}
 use Rattle.kw_order.proofs.Separate.{scan_top}
 
@@ -49,6 +53,16 @@ trace_live t w k i = lives product t.opening i.opening t.events i.valid
 -- no row is used again too early
 pub trace_reach : (t : TraceView) (w : WorldView) (k : Recording) → IsTrace t w k → KeepsRows product t.opening t.events
 trace_reach t w k i = reach_holds product t.opening i.opening t.events i.valid
+
+-- a seat that goes on alone comes to a mark
+pub trace_bounded : (t : TraceView) (w : WorldView) (k : Recording) → IsTrace t w k → IsBounded t.opening t.events
+trace_bounded t w k i = record {
+  marks = λ s xs ys zs e of less. product_marks t.opening s i.opening xs ys (part xs ys zs e) of less;
+  reads = λ s xs ys zs e of reads less. read_ends product t.opening s i.opening xs ys (part xs ys zs e) of reads (omega (arith, less, few_to_mark t.opening.rows i.opening.sized.some_rows));
+}
+  where
+    part : (xs ys zs : List Event) → t.events ≡ (xs ++ ys) ++ zs → is_valid product t.opening (xs ++ ys) ≡ true
+    part xs ys zs e = valid_front product t.opening (xs ++ ys) zs (subst (λ x. is_valid product t.opening x ≡ true) e i.valid)
 
 -- its world is sane
 pub trace_sane : (t : TraceView) (w : WorldView) (k : Recording) → IsTrace t w k → IsSane product w

@@ -6,4 +6,5 @@ pub mod LastOf
 pub mod Served
 pub mod Legal
 pub mod Trace
+pub mod Bounded
 pub mod SeatOrder

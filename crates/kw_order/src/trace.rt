@@ -16,6 +16,7 @@ ghost use Rattle.kw_core.specs.Events.{is_valid};
 ghost use Rattle.kw_laws.specs.Laws.{KeepsLaws};
 ghost use Rattle.kw_laws.specs.Live.{AreLive};
 ghost use Rattle.kw_laws.specs.Reach.{KeepsRows};
+ghost use Rattle.kw_order.specs.Bounded.{IsBounded};
 ghost use Rattle.kw_order.specs.Order.{IsOrder};
 ghost use Rattle.kw_order.specs.Legal.{IsLegalOrder};
 ghost use Rattle.kw_order.specs.OrderLaws.{OrderLaws};
@@ -98,6 +99,9 @@ impl Trace {
     /// Of the trace hold then the laws of all lists: each row at which a seat has arrived was in
     /// the list since it began its visit, or drew; what a seat has reached in its visit is there
     /// for it; and no row is given free while a seat is in a visit in which it has come to it.
+    /// Wherever so many events stand together that are all of one seat, whatever the other seats
+    /// have left half done, one of them ends its call, has replaced its full row, or goes on to the
+    /// row before.
     pub fn push(&mut self, event: Event) -> Result<StepDone, Memory>
         requires seat { event.seat < self.old.opening.seats }
         requires begin { CanStep (world_of self.old) event }
@@ -110,6 +114,7 @@ impl Trace {
         ensures laws { KeepsLaws product (run_of self.new) }
         ensures live { AreLive product self.new.opening self.new.events }
         ensures rows { KeepsRows product self.new.opening self.new.events }
+        ensures bound { IsBounded self.new.opening self.new.events }
     {
         if self.world.local(event.seat).activity.skips(event.choice) {
             return Ok(StepDone::Skipped);

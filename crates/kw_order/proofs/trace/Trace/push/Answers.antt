@@ -12,8 +12,9 @@ use Rattle.kw_laws.specs.Reach.{KeepsRows}
 use Rattle.kw_world.proofs.Skipping.{step-made}
 use Rattle.std.proofs.lemmas.Option.{same_Some}
 use Rattle.std.proofs.Math.Seq.{take-append_seam}
+use Rattle.kw_order.specs.Bounded.{IsBounded}
 use Rattle.kw_order.specs.Trace.{TraceView, IsTrace, run_of, world_of, pushed}
-use Rattle.kw_order.proofs.Traces.{trace_laws, trace_live, trace_reach, trace_seats, trace_run, trace_more, kept}
+use Rattle.kw_order.proofs.Traces.{trace_bounded, trace_laws, trace_live, trace_reach, trace_seats, trace_run, trace_more, kept}
 use Rattle.kw_order.proofs.trace.Trace.push.Goals as goal
 
 pub local-requires : goal.local-requires
@@ -58,6 +59,14 @@ returns-then-skips-clause-rows c =
     let i : IsTrace t w k = c.self.invariant in
     subst (λ (v : TraceView). KeepsRows product v.opening v.events) c.self.view_is (trace_reach t w k i)
 
+pub returns-then-skips-clause-bound : goal.returns-then-skips-clause-bound
+returns-then-skips-clause-bound c =
+    let t : TraceView = record { opening = c.self.inside.opening; events = c.self.inside.events.items } in
+    let w = c.self.inside.world in
+    let k = c.self.inside.recorder in
+    let i : IsTrace t w k = c.self.invariant in
+    subst (λ (v : TraceView). IsBounded v.opening v.events) c.self.view_is (trace_bounded t w k i)
+
 pub returns-in_err-push-clause-laws : goal.returns-in_err-push-clause-laws
 returns-in_err-push-clause-laws c =
     let t : TraceView = record { opening = c.self.inside.opening; events = c.self.inside.events.items } in
@@ -84,6 +93,15 @@ returns-in_err-push-clause-rows c =
     let i : IsTrace t w k = c.self.invariant in
     let same : c.push.new.self.items ≡ t.events = c.in_err-push.ensures.items in
     subst (λ (es : List Event). KeepsRows product t.opening es) (sym same) (trace_reach t w k i)
+
+pub returns-in_err-push-clause-bound : goal.returns-in_err-push-clause-bound
+returns-in_err-push-clause-bound c =
+    let t : TraceView = record { opening = c.self.inside.opening; events = c.self.inside.events.items } in
+    let w = c.self.inside.world in
+    let k = c.self.inside.recorder in
+    let i : IsTrace t w k = c.self.invariant in
+    let same : c.push.new.self.items ≡ t.events = c.in_err-push.ensures.items in
+    subst (λ (es : List Event). IsBounded t.opening es) (sym same) (trace_bounded t w k i)
 
 pub step_recorded-requires-clause-seat : goal.step_recorded-requires-clause-seat
 step_recorded-requires-clause-seat c =
@@ -199,6 +217,22 @@ returns-in-Ok-clause-rows c =
     let events : c.push.new.self.items ≡ t.events ++ e ∷ [] = c.in_ok-push.ensures.items in
     subst (λ (es : List Event). KeepsRows product t.opening es) (sym events) (trace_reach _ _ _ more)
 
+pub returns-in-Ok-clause-bound : goal.returns-in-Ok-clause-bound
+returns-in-Ok-clause-bound c =
+    let t : TraceView = record { opening = c.self.inside.opening; events = c.self.inside.events.items } in
+    let w = c.self.inside.world in
+    let k = c.self.inside.recorder in
+    let i : IsTrace t w k = c.self.invariant in
+    let e = c.args.event in
+    let l = c.local.result.now in
+    let knows : slice_get w.locals e.seat ≡ Some l = c.local.ensures in
+    let moves : is_skipped l.activity e.choice ≡ false = sym c.skips.ensures ∙ c.if-skips.false in
+    let more : IsTrace (record t { events = t.events ++ e ∷ [] }) c.step_recorded.new.world c.step_recorded.new.recorder =
+    trace_more t w c.step_recorded.new.world k c.step_recorded.new.recorder e l c.in-Ok.done i (subst (λ (v : TraceView). e.seat < v.opening.seats) (sym c.self.view_is) c.requires.seat)
+    ((subst (λ (x : WorldView). CanStep x e) (sym i.world) (subst (λ (v : TraceView). CanStep (world_of v) e) (sym c.self.view_is) c.requires.begin)) l knows) knows moves c.in-Ok.ensures.ok c.in-Ok.ensures.recorded in
+    let events : c.push.new.self.items ≡ t.events ++ e ∷ [] = c.in_ok-push.ensures.items in
+    subst (λ (es : List Event). IsBounded t.opening es) (sym events) (trace_bounded _ _ _ more)
+
 pub returns-in-Err-clause-laws : goal.returns-in-Err-clause-laws
 returns-in-Err-clause-laws c =
     let t : TraceView = record { opening = c.self.inside.opening; events = c.self.inside.events.items } in
@@ -231,3 +265,14 @@ returns-in-Err-clause-rows c =
     let last : vec_len c.push.new.self - 1 ≡ length t.events = omega (arith, c.in_ok-push.ensures.len) in
     let same : c.pop.new.self.items ≡ t.events = c.pop.ensures.rest ∙ ap (λ (n : ℕ). take n c.push.new.self.items) last ∙ ap (take (length t.events)) pushed_on ∙ take-append_seam t.events (c.args.event ∷ []) in
     subst (λ (es : List Event). KeepsRows product t.opening es) (sym same) (trace_reach t w k i)
+
+pub returns-in-Err-clause-bound : goal.returns-in-Err-clause-bound
+returns-in-Err-clause-bound c =
+    let t : TraceView = record { opening = c.self.inside.opening; events = c.self.inside.events.items } in
+    let w = c.self.inside.world in
+    let k = c.self.inside.recorder in
+    let i : IsTrace t w k = c.self.invariant in
+    let pushed_on : c.push.new.self.items ≡ t.events ++ c.args.event ∷ [] = c.in_ok-push.ensures.items in
+    let last : vec_len c.push.new.self - 1 ≡ length t.events = omega (arith, c.in_ok-push.ensures.len) in
+    let same : c.pop.new.self.items ≡ t.events = c.pop.ensures.rest ∙ ap (λ (n : ℕ). take n c.push.new.self.items) last ∙ ap (take (length t.events)) pushed_on ∙ take-append_seam t.events (c.args.event ∷ []) in
+    subst (λ (es : List Event). IsBounded t.opening es) (sym same) (trace_bounded t w k i)
