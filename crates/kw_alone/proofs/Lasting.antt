@@ -1,5 +1,5 @@
--- A seat that makes all events ends its call: by three turns at most it comes to where all rows that
--- it names are in the list, and from there a triple falls with each of its events.
+-- A seat that makes all events ends its call: by three turns at most it comes to where all rows
+-- that it names are in the list, and from there a triple falls with each of its events.
 use Rattle.std.proofs.Common.{ℕ, suc, ◌≡◌, ◌⊎◌, inl, inr, ◌+◌, ◌*◌, ◌<◌, ◌≤◌, ◌++◌, ◌∷◌, [], true, List, arith, refl, sym, ◌∙◌, ap, subst, length}
 use Rattle.kw_rows.specs.Ledger.{Ledger, IsLive}
 use Rattle.kw_windows.specs.Triples.{IsWithin, Triple, weight}
@@ -45,9 +45,9 @@ sort_mark a b (moves d at) = inr (inr (at, refl))
 
 -- What is asked of a measure.
 
--- The worlds from which on a triple of the seat falls: those at the beginning of a walk, where a row
--- has been replaced, and at a full row that is in the list. In them all its events lower the triple,
--- but for the last one of its call.
+-- The worlds from which on a triple of the seat falls: those at the beginning of a walk, where a
+-- row has been replaced, and at a full row that is in the list. In them all its events lower the
+-- triple, but for the last one of its call.
 pub record Measures (z : Sizes) (o : Opening) (s : ℕ) (good : List Event → Type 0) (triple : List Event → Triple) : Type 0 where
   pub begins : (es : List Event) → is_valid z o es ≡ true → activity_after z o s es ≡ Activity.Walk Walk.Start → good es
   pub wins : (es : List Event) → is_valid z o es ≡ true → activity_after z o s es ≡ Activity.Rebalance (Rebalance.Replace Replace.Normalise) → good es
@@ -118,8 +118,9 @@ module _ (z : Sizes) (o : Opening) (opening : IsOpening z o) (es : List Event) (
 -- The way to such a world.
 
 module _ (z : Sizes) (o : Opening) (s : ℕ) (good : List Event → Type 0) (triple : List Event → Triple) where
-  -- how high the seat stands: at any world, from which it has three turns at most; where it goes along
-  -- rows of the list, with two; where it goes left of none, with one; and where the triple falls
+  -- how high the seat stands: at any world, from which it has three turns at most; where it goes
+  -- along rows of the list, with two; where it goes left of none, with one; and where the triple
+  -- falls
   abbrev AreClear : List Event → Type 0
   AreClear es = IsClean (history z o es).ledger.rows (activity_after z o s es) (local_of (world z o es) s) × KnowsLeader (word z (history z o es).world) (activity_after z o s es) (local_of (world z o es) s)
 

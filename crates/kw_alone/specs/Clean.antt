@@ -1,7 +1,7 @@
 -- What a seat that goes on alone finds on its way to the row before its full one, whatever has
--- become of the full row itself: it goes along rows that are in the list. So where it moves left its
--- new full row is one. Only the leader that a follower's state names it may reach with no walk; that
--- leader follows no row, so from there it moves no further but by a walk.
+-- become of the full row itself: it goes along rows that are in the list. So where it moves left
+-- its new full row is one. Only the leader that a follower's state names it may reach with no walk;
+-- that leader follows no row, so from there it moves no further but by a walk.
 use Rattle.std.specs.Prelude.{ℕ, ◌≡◌, Some}
 use Rattle.kw_rows.specs.Ledger.{Ledger, IsLive}
 use Rattle.kw_rows.specs.RowState.{IsTwo}
