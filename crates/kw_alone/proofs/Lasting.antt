@@ -29,9 +29,11 @@ use Rattle.kw_alone.specs.Alone.{EndsAt, IsEnd, activity_after, left_after}
 use Rattle.kw_alone.specs.Clean.{FollowsNone, IsClean, KnowsLeader}
 use Rattle.kw_alone.specs.Falls.{events_to_end, most_rest, most_to_end}
 use Rattle.kw_alone.specs.Marks.{AreOf, IsMark, ends, wins, moves}
+use Rattle.kw_alone.specs.Steady.{AreSteady, IsSteady, triple_after}
+use Rattle.kw_alone.proofs.Bounding.{few_to_end, most_falls, turns_and_falls}
 use Rattle.kw_alone.proofs.Clearing.{IsLeftStart, StaysClean, moves_clean}
 use Rattle.kw_alone.proofs.Knowing.{both_hold}
-use Rattle.kw_alone.proofs.Scaling.{few_to_end, most_falls, turns_and_falls}
+use Rattle.kw_alone.proofs.Steadying.{steady_falls, steady_within}
 use Rattle.kw_alone.proofs.Turning.{Made, comes_behind, comes_here, falls_after, here_valid, made, more_valid, most_after, seat_inside}
 use Rattle.kw_alone.proofs.Unfollowed.{follows_on, knows_leader, leader_follows_none, none_left}
 
@@ -247,14 +249,37 @@ module _ (z : Sizes) (o : Opening) (s : ℕ) (good : List Event → Type 0) (tri
         which (inl x) more = (0, comes_here IsEnd z o s xs e ys own (subst (λ q. IsEnd (activity_after z o q xs) (activity_after z o q (xs ++ e ∷ []))) (sym own) x))
         which (inr x) more = let t = more x.0 x.2 (omega (arith, x.1, less)) in (suc t.0, comes_behind IsEnd z o s xs e ys t.0 t.1)
 
-    pub call_ends : (xs ys : List Event) → is_valid z o (xs ++ ys) ≡ true → AreOf s ys → events_to_end z o.rows ≤ length ys → (i : ℕ) × EndsAt z o s xs ys i
+    call_ends : (xs ys : List Event) → is_valid z o (xs ++ ys) ≡ true → AreOf s ys → events_to_end z o.rows ≤ length ys → (i : ℕ) × EndsAt z o s xs ys i
     call_ends xs [] ok of less = absurd (omega (arith, less, turns_and_falls z o.rows))
     call_ends xs (e ∷ ys) ok of less =
         let few = most_after z o xs s opening (valid_front z o xs (e ∷ ys) ok) (seat_inside z o s opening xs e ys ok (of 0 e (omega arith))) in
         ends_within xs (e ∷ ys) ok of (events_to_end z o.rows) (inl (omega (arith, few, turns_and_falls z o.rows))) less
 
 -- at the product's sizes
-pub product_ends : (o : Opening) (s : ℕ) (good : List Event → Type 0) (triple : List Event → Triple) → IsOpening product o → Measures product o s good triple → (xs ys : List Event) → is_valid product o (xs ++ ys) ≡ true → AreOf s ys → most_to_end o.rows ≤ length ys → (i : ℕ) × EndsAt product o s xs ys i
+product_ends : (o : Opening) (s : ℕ) (good : List Event → Type 0) (triple : List Event → Triple) → IsOpening product o → Measures product o s good triple → (xs ys : List Event) → is_valid product o (xs ++ ys) ≡ true → AreOf s ys → most_to_end o.rows ≤ length ys → (i : ℕ) × EndsAt product o s xs ys i
 product_ends o s good triple opening m xs ys ok of less =
     let rows : 1 ≤ o.rows = subst (λ n. 1 ≤ n) (ap (λ (x : WorldView). x.rows) (history-world product o xs) ∙ world-rows product o xs) (shape_holds product o xs opening (valid_front product o xs ys ok)).sane.sized.some_rows in
     call_ends product o s good triple opening m xs ys ok of (omega (arith, less, few_to_end o.rows rows))
+
+-- Such a measure.
+
+-- the triple of a seat that stands so is such a measure
+measures : (z : Sizes) (o : Opening) (s : ℕ) → z.built < z.cells → IsOpening z o → Measures z o s (AreSteady z o s) (triple_after z o s)
+measures z o s room opening = record {
+  begins = λ es ok e. at es e (record { way = inr (inl tt); clean = tt; led = tt });
+  wins = λ es ok e. at es e (record { way = inl refl; clean = tt; led = tt });
+  moves = λ es ok e live. at es e (record { way = inr (inr live); clean = tt; led = tt });
+  falls = λ es e ok own steady. steady_falls z o s room opening es e ok own steady;
+  few = λ es ok inside. (steady_within z o s opening es ok inside).0;
+  within = λ es ok inside. (steady_within z o s opening es ok inside).1;
+}
+  where
+    at : {a : Activity} (es : List Event) → activity_after z o s es ≡ a → IsSteady (word z (history z o es).world) (history z o es).ledger.rows a (local_of (world z o es) s) → AreSteady z o s es
+    at es e steady = subst (λ b. IsSteady (word z (history z o es).world) (history z o es).ledger.rows b (local_of (world z o es) s)) (sym e) steady
+
+pub lasts : (z : Sizes) (o : Opening) (s : ℕ) → IsOpening z o → z.built < z.cells → (xs ys : List Event) → is_valid z o (xs ++ ys) ≡ true → AreOf s ys → events_to_end z o.rows ≤ length ys → (i : ℕ) × EndsAt z o s xs ys i
+lasts z o s opening room xs ys ok of less = call_ends z o s (AreSteady z o s) (triple_after z o s) opening (measures z o s room opening) xs ys ok of less
+
+-- at the product's sizes
+pub ends_at_last : (o : Opening) (s : ℕ) → IsOpening product o → (xs ys : List Event) → is_valid product o (xs ++ ys) ≡ true → AreOf s ys → most_to_end o.rows ≤ length ys → (i : ℕ) × EndsAt product o s xs ys i
+ends_at_last o s opening xs ys ok of less = product_ends o s (AreSteady product o s) (triple_after product o s) opening (measures product o s (omega arith) opening) xs ys ok of less

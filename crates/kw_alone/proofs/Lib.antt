@@ -19,7 +19,6 @@ pub mod Staying
 pub mod Turning
 pub mod Marking
 pub mod Ending
-pub mod Scaling
 pub mod Lasting
 pub mod Falling
 pub mod Going

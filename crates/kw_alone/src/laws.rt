@@ -16,7 +16,7 @@ ghost use Rattle.kw_core.specs.Words.{Words};
 ghost use Rattle.kw_core.proofs.Happens.{Happens};
 ghost use Rattle.kw_alone.specs.Alone.{EndsAt, FallsAfter, IsReadBy, MarksAt, TurnsAt, left_after};
 ghost use Rattle.kw_alone.specs.Facts.{Facts};
-ghost use Rattle.kw_alone.specs.Falls.{Falls, HasFew, Most, events_to_mark, most_rest, most_to_mark};
+ghost use Rattle.kw_alone.specs.Falls.{Falls, HasFew, Most, events_to_end, events_to_mark, most_rest, most_to_end, most_to_mark};
 ghost use Rattle.kw_alone.specs.Marks.{AreOf};
 
 /// Each event that happens is a mark, or its seat comes to the beginning of a walk, or the seat has
@@ -59,4 +59,18 @@ pub fn mark_laws()
     ensures reads { (z : Sizes) (o : Opening) (s : ℕ) → IsOpening z o → (xs ys : List Event) →
         is_valid z o (xs ++ ys) ≡ true → AreOf s ys → IsReadBy z o s xs →
         events_to_mark z o.rows ≤ length ys → (i : ℕ) × EndsAt z o s xs ys i }
+{}
+
+/// And it ends its call, a put or a delete too: within so many events, whatever the other seats
+/// know and left half done, where a new row has room for more cells than it is built with. At the
+/// product's sizes that is no more than a number that grows as the square of the seats and as the
+/// third power of the rows.
+pub fn last_laws()
+    ensures lasts { (z : Sizes) (o : Opening) (s : ℕ) → IsOpening z o → z.built < z.cells →
+        (xs ys : List Event) → is_valid z o (xs ++ ys) ≡ true → AreOf s ys →
+        events_to_end z o.rows ≤ length ys → (i : ℕ) × EndsAt z o s xs ys i }
+    ensures few { (rows : ℕ) → 1 ≤ rows → events_to_end product rows ≤ most_to_end rows }
+    ensures ends { (o : Opening) (s : ℕ) → IsOpening product o → (xs ys : List Event) →
+        is_valid product o (xs ++ ys) ≡ true → AreOf s ys → most_to_end o.rows ≤ length ys →
+        (i : ℕ) × EndsAt product o s xs ys i }
 {}
