@@ -37,6 +37,7 @@ use Rattle.kw_core.proofs.Runs.{history-nil, history-snoc, history-world}
 use Rattle.kw_shape.proofs.Worlds.{world-rows}
 use Rattle.kw_alone.proofs.Bounding.{few_to_mark}
 use Rattle.kw_alone.proofs.Ending.{read_ends}
+use Rattle.kw_alone.proofs.Lasting.{ends_at_last}
 use Rattle.kw_alone.proofs.Marking.{product_marks}
 use Rattle.kw_order.specs.Bounded.{IsBounded}
 use Rattle.kw_order.specs.Trace.{TraceView, IsTrace, run_of, history_of, pushed, longer, GivesTops}
@@ -54,11 +55,12 @@ trace_live t w k i = lives product t.opening i.opening t.events i.valid
 pub trace_reach : (t : TraceView) (w : WorldView) (k : Recording) → IsTrace t w k → KeepsRows product t.opening t.events
 trace_reach t w k i = reach_holds product t.opening i.opening t.events i.valid
 
--- a seat that goes on alone comes to a mark
+-- a seat that goes on alone comes to a mark, and to the end of its call
 pub trace_bounded : (t : TraceView) (w : WorldView) (k : Recording) → IsTrace t w k → IsBounded t.opening t.events
 trace_bounded t w k i = record {
   marks = λ s xs ys zs e of less. product_marks t.opening s i.opening xs ys (part xs ys zs e) of less;
   reads = λ s xs ys zs e of reads less. read_ends product t.opening s i.opening xs ys (part xs ys zs e) of reads (omega (arith, less, few_to_mark t.opening.rows i.opening.sized.some_rows));
+  ends = λ s xs ys zs e of less. ends_at_last t.opening s i.opening xs ys (part xs ys zs e) of less;
 }
   where
     part : (xs ys zs : List Event) → t.events ≡ (xs ++ ys) ++ zs → is_valid product t.opening (xs ++ ys) ≡ true

@@ -101,7 +101,7 @@ impl Trace {
     /// for it; and no row is given free while a seat is in a visit in which it has come to it.
     /// Wherever so many events stand together that are all of one seat, whatever the other seats
     /// have left half done, one of them ends its call, has replaced its full row, or goes on to the
-    /// row before.
+    /// row before; and among more of them one ends its call.
     pub fn push(&mut self, event: Event) -> Result<StepDone, Memory>
         requires seat { event.seat < self.old.opening.seats }
         requires begin { CanStep (world_of self.old) event }
