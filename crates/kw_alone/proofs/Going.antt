@@ -18,23 +18,16 @@ use Rattle.kw_alone.specs.Wins.{asks, is_below, is_leading, is_left_of, is_live,
 
 -- Tests of one row.
 
-pub live_by : (s : Status) → is_live s ≡ true → s ≡ fate.Live
+-- a row that passes the test is in the list
+live_by : (s : Status) → is_live s ≡ true → s ≡ fate.Live
 live_by fate.Live e = refl
 live_by fate.Free e = absurd (cc)
 live_by fate.Infant e = absurd (cc)
 live_by fate.Dead e = absurd (cc)
 
 -- a row of the list passes the test
-pub live_test : (s : Status) → s ≡ fate.Live → is_live s ≡ true
+live_test : (s : Status) → s ≡ fate.Live → is_live s ≡ true
 live_test s e = ap is_live e
-
-pub leading_test : (s : row.State) → IsLeader s → is_leading s ≡ true
-leading_test (row.Leader m) x = refl
-leading_test row.Free x = absurd x
-leading_test (row.Infant seat) x = absurd x
-leading_test row.Normal x = absurd x
-leading_test (row.Follower p) x = absurd x
-leading_test (row.Retired m) x = absurd x
 
 -- an engaged row is not one that nobody has engaged
 pub engaged_led : (s : row.State) → IsEngaged s → is_unled s ≡ true → ⊥
@@ -45,6 +38,7 @@ engaged_led (row.Infant seat) x e = x
 engaged_led row.Normal x e = x
 engaged_led (row.Retired m) x e = x
 
+-- a key is below the end of a range, if it has one
 below_by : (key : ℕ) (u : Option ℕ) → is_below key u ≡ true → (n : ℕ) → u ≡ Some n → key < n
 below_by key (Some m) e n f = let x : m ≡ n = same_Some m n f in grind (arith, nat_tests)
 below_by key None e n f = absurd (cc)
@@ -53,6 +47,7 @@ below_test : (key : ℕ) (u : Option ℕ) → ((n : ℕ) → u ≡ Some n → ke
 below_test key (Some m) f = let x : key < m = f m refl in grind (arith, nat_tests)
 below_test key None f = refl
 
+-- comparisons
 at_most_by : (x y : ℕ) → nat_le x y ≡ true → x ≤ y
 at_most_by x y e = grind (arith, nat_tests)
 
@@ -66,6 +61,7 @@ less_test : (x y : ℕ) → x < y → nat_lt x y ≡ true
 less_test x y e = grind (arith, nat_tests)
 
 module _ (v : Words) (g : Ledger) where
+  -- the range of the row has the key
   range_by : (x key : ℕ) → is_of_range v g x key ≡ true → HoldsKey (rows_in v) g x key
   range_by x key e =
       let p = and_parts (nat_le (least_in v x) key) (is_below key (g.fates x).upper) e in
@@ -76,6 +72,7 @@ module _ (v : Words) (g : Ledger) where
 
   -- Rows left of a key.
 
+  -- a row that passes the test is in the list, left of the key
   pub left_by : (lower x : ℕ) → is_left_of v g lower x ≡ true → IsLive g x × (least_in v x < lower)
   left_by lower x e =
       let p = and_parts (is_live (g.fates x).status) (nat_lt (least_in v x) lower) e in
@@ -97,6 +94,7 @@ abbrev pub IsToGo : Sizes → Words → Ledger → Activity → Local → ℕ �
 IsToGo z v g a l x = IsLive g x × ((is_leading ((rows_in v).state x) ≡ true) ⊎ (asks a l ≡ true) × IsToEngage z v g (first_key l.call) x)
 
 module _ (z : Sizes) (v : Words) (g : Ledger) (a : Activity) (l : Local) where
+  -- a row that passes the test is to go
   pub going_by : (x : ℕ) → is_to_go z v g a l x ≡ true → IsToGo z v g a l x
   going_by x e =
       let p = and_parts (is_live (g.fates x).status) _ e in
@@ -110,6 +108,7 @@ module _ (z : Sizes) (v : Words) (g : Ledger) (a : Activity) (l : Local) where
           let w = and_parts (nat_le z.cells (given_in v x)) _ u.1 in
           inr (q.0, record { unled = u.0; full = at_most_by z.cells (given_in v x) w.0; holds = range_by v g x (first_key l.call) w.1 })
 
+  -- and one that is to go passes it
   pub going_test : (x : ℕ) → IsToGo z v g a l x → is_to_go z v g a l x ≡ true
   going_test x k = and_from (is_live (g.fates x).status) _ (live_test (g.fates x).status k.0) (which k.1)
     where

@@ -8,7 +8,7 @@ use Rattle.kw_words.specs.declared.layout.Name.TheVariants as name
 use Rattle.kw_words.specs.declared.pend.Pend.TheVariants as pend
 use Rattle.kw_words.specs.Count.{count_of}
 use Rattle.kw_words.specs.Pend.{pend_word}
-use Rattle.kw_rows.specs.Ledger.{Ledger, IsLive}
+use Rattle.kw_rows.specs.Ledger.{IsLive}
 use Rattle.kw_rows.specs.RowState as row
 use Rattle.kw_rows.specs.RowState.{IsDecided, IsEngaged}
 use Rattle.kw_rows.specs.Rows.{HoldsKey}
@@ -38,7 +38,6 @@ use Rattle.kw_shape.proofs.LinkedRows.{holds_put, linked_count_word, was_below}
 use Rattle.kw_shape.proofs.NextCalls.{arrow_call}
 use Rattle.kw_shape.proofs.RowsKeep.{freezing}
 use Rattle.kw_laws.specs.Laws.{KeepsLaws}
-use Rattle.kw_alone.specs.Fair.{IsFair}
 use Rattle.kw_alone.specs.Wins.{asks, is_leading, is_unled}
 use Rattle.kw_alone.proofs.Asking.{HasLostCell, asked_before, lost_frozen, no_cell}
 use Rattle.kw_alone.proofs.Going.{IsToEngage, IsToGo, engaged_led}
@@ -53,7 +52,8 @@ add_not_built : (a : Activity) → IsBuilding a → IsAdd a → ⊥
 add_not_built (Activity.Rebalance _) y x = x
 add_not_built _ y x = y
 
-pub decided_engaged : (s : row.State) → IsDecided s → IsEngaged s
+-- a decided group is one at which a rebalance is at work
+decided_engaged : (s : row.State) → IsDecided s → IsEngaged s
 decided_engaged (row.Leader m) x = tt
 decided_engaged (row.Follower p) x = tt
 decided_engaged row.Free x = x
@@ -61,12 +61,14 @@ decided_engaged (row.Infant seat) x = x
 decided_engaged row.Normal x = x
 decided_engaged (row.Retired m) x = x
 
+-- the seat is about to make its row a leader, or is not
 pub lead_or_not : (a : Activity) → IsLead a ⊎ (IsLead a → ⊥)
 lead_or_not (Activity.Rebalance (Rebalance.Engage Engage.Lead)) = inl tt
 lead_or_not (Activity.Rebalance (Rebalance.Engage _)) = inr (λ x. x)
 lead_or_not (Activity.Rebalance _) = inr (λ x. x)
 lead_or_not _ = inr (λ x. x)
 
+-- a seat that is in its call is not about to leave
 pub underway_stays : (a : Activity) → IsUnderway a → IsStaying a
 underway_stays Activity.Idle u = absurd u
 underway_stays (Activity.Leave answer) u = absurd u
@@ -84,17 +86,11 @@ room_by z v s choice l a k (takes_cell f) x e = absurd (no_cell l.tidies e)
 room_by z v s choice l a k (takes_full f) x e = f
 room_by z v s choice l a k _ x e = absurd x
 
--- a fair seat that has lost its cell is at a row of the list
-pub lost_live : (v : Words) (g : Ledger) (s : ℕ) (a : Activity) (l : Local) → HasLostCell v s a l → IsFair v g a l → IsLive g l.row
-lost_live v g s (Activity.Put Put.Announce) l x f = f
-lost_live v g s (Activity.Put Put.Stamp) l x f = f
-lost_live v g s a l x f = absurd x
-
 -- One world.
 
 module _ (z : Sizes) (r : Run) (i : Shape z r) where
   -- a row of the list that is frozen is engaged
-  pub frozen_led : (q : ℕ) → IsLive r.ledger.rows q → (rows_in (word z r.world)).frozen q ≡ true → is_unled ((rows_in (word z r.world)).state q) ≡ true → ⊥
+  frozen_led : (q : ℕ) → IsLive r.ledger.rows q → (rows_in (word z r.world)).frozen q ≡ true → is_unled ((rows_in (word z r.world)).state q) ≡ true → ⊥
   frozen_led q k f u = engaged_led ((rows_in (word z r.world)).state q) (decided_engaged _ ((i.rows.marks q).frozen k f).1) u
 
   -- one that nobody has engaged, and that has no room, has given all its cells

@@ -56,6 +56,7 @@ use Rattle.kw_alone.proofs.WinsLeft.{wins_stay}
 
 -- Activities.
 
+-- a rebalance begins, or the seat has moved
 abbrev IsClock : Activity → Type 0
 IsClock a = a ≡ Activity.Rebalance (Rebalance.Engage Engage.Clock)
 

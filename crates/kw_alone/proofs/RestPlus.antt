@@ -152,10 +152,7 @@ start_led z v s choice l a k (guesses q c e) x v' g' = tt
 start_led z v s choice l a k guess_fails x v' g' = tt
 start_led z v s choice l a k _ x v' g' = absurd x
 
-pub start_begun : (a : Activity) → IsStart a → wins.begins a ≡ false
-start_begun (Activity.Walk Walk.Start) x = refl
-start_begun _ x = absurd x
-
+-- and rebalances none
 pub start_walks : (a : Activity) → IsStart a → IsBalancing a → ⊥
 start_walks (Activity.Walk Walk.Start) x b = b
 start_walks _ x b = x

@@ -43,6 +43,7 @@ pub wins_there : (z : Sizes) (rows : ℕ) (v : Words) (g : Ledger) (a : Activity
 wins_there z rows v g (Activity.Leave answer) l st = absurd st
 wins_there z rows v g _ l st = refl
 
+-- the seat is about to engage its row, or is not
 engaging_or_not : (a : Activity) → IsEngaging a ⊎ (IsEngaging a → ⊥)
 engaging_or_not (Activity.Rebalance (Rebalance.Engage Engage.Clock)) = inl tt
 engaging_or_not (Activity.Rebalance (Rebalance.Engage Engage.Epoch)) = inl tt
@@ -51,6 +52,7 @@ engaging_or_not (Activity.Rebalance (Rebalance.Engage (Engage.Normal seat))) = i
 engaging_or_not (Activity.Rebalance (Rebalance.Engage Engage.Lead)) = inl tt
 engaging_or_not _ = inr (λ x. x)
 
+-- and counts one more where the row is not engaged
 engaging_is : (v : Words) (a : Activity) (l : Local) → IsEngaging a → engaging v a l ≡ one_unled ((rows_in v).state l.row)
 engaging_is v (Activity.Rebalance (Rebalance.Engage Engage.Clock)) l x = refl
 engaging_is v (Activity.Rebalance (Rebalance.Engage Engage.Epoch)) l x = refl
@@ -175,7 +177,7 @@ module _ {z : Sizes} {r r' : Run} {s : ℕ} {choice : Choice} {l l' : Local} {a 
   counts : ((q : ℕ) → IsLive r.ledger.rows q → is_leading ((rows_in v').state q) ≡ true → is_leading ((rows_in v).state q) ≡ true) → after ≤ before
   counts f = count_upto r.world.rows (is_to_go z v r.ledger.rows a l) (is_to_go z v' r'.ledger.rows l'.activity l') (λ q o e. row_back q (f q) e)
 
-  pub counts_plain : (IsLead a → ⊥) → after ≤ before
+  counts_plain : (IsLead a → ⊥) → after ≤ before
   counts_plain n = counts (λ q k e. still_leads a x.happens x.inv.shape n q k e)
 
   -- an exchange that is lost makes no leader

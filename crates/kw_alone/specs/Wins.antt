@@ -1,7 +1,7 @@
 -- The measure of how long a seat goes on alone up to the end of its call: the rows that it may yet
 -- replace, the rows to which it may yet move before it replaces one, and its rest up to the next of
 -- these events.
-use Rattle.std.specs.Prelude.{ℕ, ◌+◌, ◌*◌, ◌&&◌, ◌||◌, Bool, true, false, nat_lt, nat_le, if◌then◌else◌, Option, Some, None}
+use Rattle.std.specs.Prelude.{ℕ, ◌+◌, ◌&&◌, ◌||◌, Bool, true, false, nat_lt, nat_le, if◌then◌else◌, Option, Some, None}
 use Rattle.kw_lists.specs.Counts.{count_below}
 use Rattle.kw_rows.specs.Ledger.{Ledger, Status}
 use Rattle.kw_rows.specs.Ledger as fate
@@ -121,13 +121,6 @@ begins _ = false
 abbrev pub rest_plus : Sizes → ℕ → Words → Activity → Local → ℕ
 rest_plus z rows v a l = if begins a then most_rest z rows + rest z rows v a l else rest z rows v a l
 
+-- all three
 abbrev pub triple : Sizes → ℕ → Words → Ledger → Activity → Local → Triple
 triple z rows v g a l = record { wins = wins_left z rows v g a l; moves = moves_left rows v g a l; rest = rest_plus z rows v a l }
-
--- The bounds of them.
-
-abbrev pub most_wins : ℕ → ℕ
-most_wins rows = rows + 1
-
-abbrev pub most_plus : Sizes → ℕ → ℕ
-most_plus z rows = 2 * most_rest z rows
