@@ -266,14 +266,7 @@ module _ {z : Sizes} {r r' : Run} {s : ℕ} {choice : Choice} {l l' : Local} {a 
   sum moved = which (cases_Bool l'.tidies) (cases_Bool l.tidies)
     where
       begun : l'.tidies ≡ true → l.tidies ≡ false → IsPutClear a ⊎ (l.tidies ≡ true) → after + to_tidy v' l'.activity l' ≤ before + to_tidy v a l
-      begun e f (inl c) = omega (arith, tidy_done v' l'.activity l' e, tidy_plain v a l f, counts_plain (clear_not_lead a c), most l'.activity)
-        where
-          most : (b : Activity) → engaging v' b l' ≤ 1
-          most b = here (engaging_or_not b)
-            where
-              here : IsEngaging b ⊎ (IsEngaging b → ⊥) → engaging v' b l' ≤ 1
-              here (inl g) = omega (arith, engaging_is v' b l' g, one_most ((rows_in v').state l'.row))
-              here (inr n) = omega (arith, engaging_none v' b l' n)
+      begun e f (inl c) = omega (arith, tidy_most v' l'.activity l', tidy_plain v a l f, counts_plain (clear_not_lead a c))
       begun e f (inr g) = absurd (cc)
 
       at : IsBalancing l.activity ⊎ IsDone l.activity → IsBalancing a
