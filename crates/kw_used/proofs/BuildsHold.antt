@@ -61,7 +61,7 @@ use Rattle.kw_used.proofs.KnownKeeps.{known_keeps, known_start}
 
 -- One event more.
 
-counts-nil : (z : Sizes) (o : Opening) → counts z o [] ≡ no_counts
+pub counts-nil : (z : Sizes) (o : Opening) → counts z o [] ≡ no_counts
 unfolding counts counted
 counts-nil z o = refl
 
@@ -90,10 +90,10 @@ deads_of wins b n None = refl
 -- Lists.
 
 module _ (z : Sizes) (o : Opening) (opening : IsOpening z o) where
-  rows_are : (es : List Event) → o.rows ≡ (history z o es).world.rows
+  pub rows_are : (es : List Event) → o.rows ≡ (history z o es).world.rows
   rows_are es = sym (ap (λ (w : WorldView). w.rows) (history-world z o es) ∙ world-rows z o es)
 
-  seats_are : (es : List Event) → length (history z o es).world.locals ≡ o.seats
+  pub seats_are : (es : List Event) → length (history z o es).world.locals ≡ o.seats
   seats_are es = ap (λ (w : WorldView). length w.locals) (history-world z o es) ∙ world-seats z o es
 
   facts : (es : List Event) → is_valid z o es ≡ true → Known z (history z o es) (counts z o es) → Facts z (history z o es) (counts z o es)
@@ -126,7 +126,7 @@ module _ (z : Sizes) (o : Opening) (opening : IsOpening z o) where
     abbrev choice : Choice
     choice = offered r.world.rows e.choice
 
-    come : MayCome o r.world e
+    pub come : MayCome o r.world e
     come = may_come o r.world e may
 
     abbrev l : Local
@@ -135,23 +135,23 @@ module _ (z : Sizes) (o : Opening) (opening : IsOpening z o) where
     abbrev l' : Local
     l' = (followed r.world.rows (transition z l.activity e.seat choice l) (found_at z (word z r.world) l.activity e.seat choice l)).local
 
-    ok_next : is_valid z o (es ++ e ∷ []) ≡ true
+    pub ok_next : is_valid z o (es ++ e ∷ []) ≡ true
     ok_next = valid-snoc z o es e ok (subst (λ w. may_step o w e ≡ true) (history-world z o es) may)
 
     next_is : r' ≡ noted_by z r e l
     next_is = history-snoc z o es e ∙ goes_on-moved z r e l come.knows come.moves
 
-    happened : Happens z r r' e.seat choice l l' l.activity
+    pub happened : Happens z r r' e.seat choice l l' l.activity
     happened = subst (λ q. Happens z r q e.seat choice l l' l.activity) (sym next_is) (happens z r e l (inv_holds z o opening es ok).shape.sane come.begins come.knows come.moves)
 
-    counted_is : c' ≡ counts_after l.activity e.seat l (found_at z (word z r.world) l.activity e.seat choice l) r.ledger.rows c
+    pub counted_is : c' ≡ counts_after l.activity e.seat l (found_at z (word z r.world) l.activity e.seat choice l) r.ledger.rows c
     counted_is = counts-snoc z o es e ∙ counts_on-moved z r e c l come.knows come.moves
 
     known_next : Known z r c → Known z r' c'
     known_next k = let f = facts es ok k in subst (Known z r') (sym counted_is) (known_keeps z r r' e.seat choice l l' l.activity happened f.inv.shape c f.walked k)
 
     -- no update was refused before, if none is after it
-    plain_was : IsBeforeRefusals z r' → IsBeforeRefusals z r
+    pub plain_was : IsBeforeRefusals z r' → IsBeforeRefusals z r
     plain_was p = record { untidied = untidied; none = none }
       where
         grows : word z r.world name.Epoch ≤ word z r'.world name.Epoch

@@ -145,30 +145,28 @@ put_refused (Del key) e a pairs (inr f) = subst (λ b. IsRefusal (Del key) (repl
 put_refused (Get key) e a pairs f = let x : false ≡ true = e in absurd (cc)
 put_refused (Scan from upto) e a pairs f = let x : false ≡ true = e in absurd (cc)
 
--- a seat that leaves so has refused its update
-pub refuses_one : {A : Type 0} (z : Sizes) (r r' : Run) (s : ℕ) (choice : Choice) (l l' : Local) (a : Activity) → Happens z r r' s choice l l' a → Inv z r → HasNoRefusal r'.history →
-    (b : Answer) → a ≡ Activity.Leave b → is_put l.call ≡ true → (b ≡ answer.NoRows) ⊎ (b ≡ answer.Spent) → A
-refuses_one z r r' s choice l l' a h v none b e put f = absurd (none x _ within end refusal)
-  where
-    x : ℕ
-    x = (r.seats s).call
+-- a seat that leaves ends its call with this answer
+module _ (z : Sizes) (r r' : Run) (s : ℕ) (choice : Choice) (l l' : Local) (a : Activity) (h : Happens z r r' s choice l l' a) (v : Inv z r) (b : Answer) (e : a ≡ Activity.Leave b) where
+  abbrev x : ℕ
+  x = (r.seats s).call
 
-    own : Calling r.history s l.activity l (r.seats s)
-    own = v.positions.calling s l h.knows (subst IsBusy (sym (h.activity ∙ e)) tt)
+  own : Calling r.history s l.activity l (r.seats s)
+  own = v.positions.calling s l h.knows (subst IsBusy (sym (h.activity ∙ e)) tt)
 
-    log : CallLog
-    log = record (called r.history x) { end = Some (record { at = length r.history.log; reply = reply_of b l.pairs }); answer = answering l.call l (r.seats s); draw = drawing b l (r.seats s) }
+  abbrev log : CallLog
+  log = record (called r.history x) { end = Some (record { at = length r.history.log; reply = reply_of b l.pairs }); answer = answering l.call l (r.seats s); draw = drawing b l (r.seats s) }
 
-    is : called r'.history x ≡ log
-    is =
-        let n = subst (λ y. r'.history ≡ noted r.history (logged s (transition z a s choice l).operation.kind (word z r.world name.Clock)) (change_of z y s choice l (found_at z (word z r.world) a s choice l) (r.seats s) r.origin)) e h.history in
-        called_set_same r.history r'.history x log (ap (λ (y : History). y.calls) n) own.within
+  log_is : called r'.history x ≡ log
+  log_is =
+      let n = subst (λ y. r'.history ≡ noted r.history (logged s (transition z a s choice l).operation.kind (word z r.world name.Clock)) (change_of z y s choice l (found_at z (word z r.world) a s choice l) (r.seats s) r.origin)) e h.history in
+      called_set_same r.history r'.history x log (ap (λ (y : History). y.calls) n) own.within
 
-    end : (called r'.history x).end ≡ Some (record { at = length r.history.log; reply = reply_of b l.pairs })
-    end = ap (λ (d : CallLog). d.end) is
+  pub call_ends : (called r'.history (r.seats s).call).end ≡ Some (record { at = length r.history.log; reply = reply_of b l.pairs })
+  call_ends = ap (λ (d : CallLog). d.end) log_is
 
-    within : x < length r'.history.calls
-    within = ended_within r'.history x _ end
-
-    refusal : IsRefusal (called r'.history x).call (reply_of b l.pairs)
-    refusal = subst (λ c. IsRefusal c (reply_of b l.pairs)) (sym (ap (λ (d : CallLog). d.call) is)) (put_refused (called r.history x).call (ap is_put (sym own.call) ∙ put) b l.pairs f)
+  -- so it has refused an update
+  pub refuses_one : {A : Type 0} → HasNoRefusal r'.history → is_put l.call ≡ true → (b ≡ answer.NoRows) ⊎ (b ≡ answer.Spent) → A
+  refuses_one none put f = absurd (none x _ (ended_within r'.history x _ call_ends) call_ends refusal)
+    where
+      refusal : IsRefusal (called r'.history x).call (reply_of b l.pairs)
+      refusal = subst (λ c. IsRefusal c (reply_of b l.pairs)) (sym (ap (λ (d : CallLog). d.call) log_is)) (put_refused (called r.history x).call (ap is_put (sym own.call) ∙ put) b l.pairs f)

@@ -14,3 +14,5 @@ pub mod KnownKeeps
 pub mod AnyEvent
 pub mod GoesLeftKeeps
 pub mod BuildsHold
+pub mod NoRowsLeft
+pub mod TidyingLate

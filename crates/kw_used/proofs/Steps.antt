@@ -224,7 +224,7 @@ module _ (z : Sizes) (r r' : Run) (s : ℕ) (choice : Choice) (l l' : Local) (a 
     where
       which : (leaving answer l.call ≡ Elsewhere) ⊎ (is_put l.call ≡ true) × ((answer ≡ NoRows) ⊎ (answer ≡ Spent)) → E
       which (inl q) = rests_elsewhere (ap (λ b. stage_at c.wins begun b l) e ∙ q) y
-      which (inr q) = refuses_one z r r' s choice l l' a h f.inv plain'.none answer e q.0 q.1
+      which (inr q) = refuses_one z r r' s choice l l' a h f.inv answer e plain'.none q.0 q.1
 
   -- it goes on to its leader
   shifts_left : IsGoingLeft a → (a ≡ Activity.Rebalance (Rebalance.Left Left.Start)) ⊎ (a ≡ Activity.Rebalance (Rebalance.Left Left.Next)) × (next_in (word z r.world) (row_or_first l.rebalance.before) ≡ Some l.row) → now ≡ Asking (row_or_first l.rebalance.before) → E

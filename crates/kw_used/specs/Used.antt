@@ -63,20 +63,6 @@ HasRoom z o es price = o.seats * (price * all_updates z o es) + 1 < o.rows
 abbrev pub TidyingIsLate : Sizes → Opening → ℕ → ℕ → Type 0
 TidyingIsLate z o share updates = TIDY_SHARE * (share * o.epoch + MOST_GROUP * updates) ≤ share * o.rows
 
--- no clock and no epoch comes to its end by so many scans and updates
-pub record IsBeforeEnd (z : Sizes) (o : Opening) (es : List Event) (share : ℕ) : Type 0 where
-  pub clock : o.clock + z.seats * all_scans z o es < SPENT
-  pub epoch : share * o.epoch + MOST_GROUP * all_updates z o es < share * SPENT
-
--- a list of few enough updates
-pub record HasFewUpdates (z : Sizes) (o : Opening) (es : List Event) (build share price : ℕ) : Type 0 where
-  pub paid : IsPriceOf z build share price
-  pub room : HasRoom z o es price
-  pub late : TidyingIsLate z o share (all_updates z o es)
-  pub ends : IsBeforeEnd z o es share
-  pub some : 1 ≤ share
-
--- no seat is about to refuse an update
-pub record RefusesNone (r : Run) : Type 0 where
-  pub no_rows : (t : ℕ) (l : Local) → slice_get r.world.locals t ≡ Some l → l.activity ≡ Activity.Leave NoRows → ⊥
-  pub spent : (t : ℕ) (l : Local) → slice_get r.world.locals t ≡ Some l → l.activity ≡ Activity.Leave Spent → IsPutCall l.call → ⊥
+-- no seat is about to refuse an update for want of rows, as long as none was refused
+pub record HasNoneShort (z : Sizes) (r : Run) : Type 0 where
+  pub none : IsBeforeRefusals z r → (t : ℕ) (l : Local) → slice_get r.world.locals t ≡ Some l → l.activity ≡ Activity.Leave NoRows → ⊥

@@ -2,16 +2,18 @@
 //!
 //! Nothing runs here: the functions' clauses are the statements. What is said of those who make
 //! rows lead, and of the updates that pay for rows, is a premise here (`AreEngaged`, `AreBanked`).
-ghost use Rattle.std.specs.Prelude.{◌≡◌, true, List, ℕ};
+ghost use Rattle.std.specs.Prelude.{◌≡◌, ◌≤◌, true, List, ℕ};
 ghost use Rattle.kw_world.specs.declared.event.Event.{Event};
 ghost use Rattle.kw_world.specs.declared.opening.Opening.{Opening};
 ghost use Rattle.kw_world.specs.Opening.{IsOpening};
 ghost use Rattle.kw_world.specs.Sizes.{Sizes};
 ghost use Rattle.kw_core.specs.Events.{is_valid};
 ghost use Rattle.kw_core.specs.Run.{history};
+ghost use Rattle.kw_full.specs.Shares.{IsUntidied};
+ghost use Rattle.kw_counts.specs.Bank.{IsShare, all_updates};
 ghost use Rattle.kw_counts.specs.Builds.{IsMostOfBuild};
 ghost use Rattle.kw_counts.specs.Counts.{counts};
-ghost use Rattle.kw_used.specs.Used.{AreBanked, AreEngaged, KeepsFewBuilds, KeepsUsed};
+ghost use Rattle.kw_used.specs.Used.{AreBanked, AreEngaged, HasNoneShort, HasRoom, IsPriceOf, KeepsFewBuilds, KeepsUsed, TidyingIsLate};
 
 /// After every valid list of events from an opening, as long as no update was refused and none is
 /// offered to tidy its row: of the builds of a seat that took a row since a row was replaced last,
@@ -24,4 +26,18 @@ pub fn used_laws()
     ensures rows { (z : Sizes) (o : Opening) (events : List Event) → IsOpening z o →
         AreEngaged z o → AreBanked z o → is_valid z o events ≡ true →
         KeepsUsed z o (history z o events) (counts z o events) }
+{}
+
+/// As long as no update was refused and none is offered to tidy its row, no seat is about to refuse
+/// its update for want of rows, where at this price the updates that were begun leave a row. And
+/// none is offered to tidy its row as long as the updates are so few.
+pub fn room_laws()
+    ensures no_rows { (z : Sizes) (o : Opening) (events : List Event) (build share price : ℕ) →
+        IsOpening z o → AreEngaged z o → AreBanked z o → IsPriceOf z build share price →
+        is_valid z o events ≡ true → HasRoom z o events price →
+        HasNoneShort z (history z o events) }
+    ensures untidied { (z : Sizes) (o : Opening) (events : List Event) (share : ℕ) →
+        IsOpening z o → AreBanked z o → IsShare z share → 1 ≤ share →
+        is_valid z o events ≡ true → TidyingIsLate z o share (all_updates z o events) →
+        IsUntidied z (history z o events).world }
 {}

@@ -1,0 +1,9 @@
+use Rattle.kw_used.proofs.NoRowsLeft.{none_is_short}
+use Rattle.kw_used.proofs.TidyingLate.{untidied_holds}
+use Rattle.kw_used.proofs.laws.room_laws.Goals as goal
+
+pub returns : goal.returns
+returns c = record {
+  no_rows = λ z o es build share price i engaged banked cost v room. record { none = λ p t l g e. none_is_short z o i es v t l g e engaged banked build share price cost room p };
+  untidied = λ z o es share i banked cells some v late. untidied_holds z o share some i cells banked es v late;
+}
