@@ -1,7 +1,6 @@
 -- Each event of a valid list is one of the laws of windows.
-use Rattle.std.proofs.Common.{ℕ, ◌≡◌, ◌≢◌, ◌⊎◌, inl, inr, ◌+◌, false, None, Some, arith, refl, sym, ◌∙◌, ap, subst, length, eq-eqb, ne_eqb}
+use Rattle.std.proofs.Common.{ℕ, ◌≡◌, ◌⊎◌, inl, inr, ◌+◌, false, None, Some, arith, refl, sym, ◌∙◌, ap, subst, length, eq-eqb, ne_eqb}
 use Rattle.std.proofs.lemmas.Bool.{cases_eq}
-use Rattle.kw_words.specs.declared.layout.Name.TheVariants as name
 use Rattle.kw_words.specs.declared.state.State.TheVariants.{Free}
 use Rattle.kw_words.specs.Link.{link_of, link_word}
 use Rattle.kw_words.specs.State.{state_word}
@@ -24,7 +23,7 @@ use Rattle.kw_core.proofs.Happens.{Happens, found_at}
 use Rattle.kw_shape.specs.Shape.{Shape}
 use Rattle.kw_shape.proofs.LinkedRows.{ComesNow, found_open}
 use Rattle.kw_counts.specs.Builds.{IsMostOfBuild, KeepsBuilds}
-use Rattle.kw_counts.specs.Counts.{Counts, counts_after, has_replaced, one_more_at, wins_after}
+use Rattle.kw_counts.specs.Counts.{Counts, counts_after, one_more_at, wins_after}
 use Rattle.kw_counts.specs.Refusals.{IsBeforeRefusals}
 use Rattle.kw_counts.proofs.LiveRows.{lives_or_wins}
 use Rattle.kw_full.specs.Shares.{IsUntidied}

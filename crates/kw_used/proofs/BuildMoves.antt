@@ -1,7 +1,6 @@
 -- How a seat that builds new rows comes to give them back and move left, and that as long as it
 -- takes none it has as many as before.
-use Rattle.std.proofs.Common.{ℕ, ◌≡◌, ◌⊎◌, inl, inr, ◌+◌, ◌==◌, ◌<◌, ◌≤◌, Bool, true, false, Option, None, Some, arith, refl, sym, ◌∙◌, ap, subst, slice_get, length, if◌then◌else◌, eq-eqb}
-use Rattle.std.proofs.lemmas.Bool.{cases_eq}
+use Rattle.std.proofs.Common.{ℕ, ◌≡◌, ◌⊎◌, inl, inr, Bool, true, false, Option, None, Some, refl, sym, ◌∙◌, ap, subst, length, eq-eqb}
 use Rattle.std.proofs.lemmas.Option.{same_Some}
 use Rattle.kw_words.specs.declared.layout.Name.TheVariants as name
 use Rattle.kw_words.specs.declared.state.State.TheVariants.{Free}
@@ -17,7 +16,7 @@ use Rattle.kw_world.specs.declared.local.Local.{Local}
 use Rattle.kw_world.specs.declared.rebalance.Afterwards.{Afterwards}
 use Rattle.kw_world.specs.declared.rebalance.Afterwards.TheVariants.{MoveLeft, Refuse, TryAgain}
 use Rattle.kw_world.specs.ReplaceTransitions.{replaced_link}
-use Rattle.kw_world.specs.SeekTransitions.{seeking, with_row}
+use Rattle.kw_world.specs.SeekTransitions.{seeking}
 use Rattle.kw_world.specs.Sizes.{Sizes}
 use Rattle.kw_world.specs.Step.{word}
 use Rattle.kw_world.specs.Transition.{row_linked, row_or_first}
@@ -26,17 +25,15 @@ use Rattle.kw_core.specs.Words.{Words}
 use Rattle.kw_core.proofs.Building.{Building, IsBuilding, begins_before, first_is_taken, gives_last_back, gives_one_back, is_marked_before, is_replaced, leads_nowhere, leads_on_marked, loses_row, pass_is_old, pass_is_young, retires_and_leaves, retires_row, sought_is_taken, takes_head_before, takes_row, walks_past, writes_after, writes_entry, writes_first, writes_no_cell}
 use Rattle.kw_core.proofs.Happens.{Happens, found_at}
 use Rattle.kw_core.proofs.NextBuilt.{GivenBack, NextBack, NextBefore, NextNewCell, NextNewEntry, NextNewRow, NextPass, NextSeek, NextTaken, asks, empties, fills, gives_back, has_asked, has_cells, has_enough, has_entries, has_looked, has_none, has_written, is_behind, is_first, is_refused_rows, looks_on, moves_left, tries_again, wants_more, was_done, was_served, writes_idle, writes_row}
-use Rattle.kw_shape.specs.ReachedRows.{IsReached}
 use Rattle.kw_shape.specs.Shape.{Shape}
 use Rattle.kw_shape.proofs.Comings.{Comes, comes, goes_on, seeks, stays_out}
 use Rattle.kw_shape.proofs.LinkedRows.{reached_live, search_at}
-use Rattle.kw_counts.specs.Counts.{Builds, Counts, build_taking, builds_after, has_begun, is_live, with_at, with_build}
-use Rattle.kw_counts.specs.Walks.{HasSought, IsAtBefore, IsSeeking, KeepsWalks, is_before}
+use Rattle.kw_counts.specs.Counts.{Builds, Counts, build_taking, builds_after, has_begun, is_live, with_build}
+use Rattle.kw_counts.specs.Walks.{IsAtBefore, IsSeeking, KeepsWalks, is_before}
 use Rattle.kw_counts.proofs.Updates.{at_set}
 use Rattle.kw_used.proofs.Calls.{after_building}
-use Rattle.kw_used.proofs.Facts.{IsMoveLeft, IsMoving, Known}
-use Rattle.kw_used.proofs.Lasting.{CountsNone, TakesNone, counts_none}
-use Rattle.kw_used.proofs.Turns.{begun_after}
+use Rattle.kw_used.proofs.Facts.{IsMoving, Known}
+use Rattle.kw_used.proofs.Lasting.{TakesNone, counts_none}
 
 -- How many rows it has.
 

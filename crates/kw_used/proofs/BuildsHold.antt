@@ -53,7 +53,7 @@ use Rattle.kw_counts.proofs.LinksKeep.{links_hold}
 use Rattle.kw_counts.proofs.SpentHold.{counted-append}
 use Rattle.kw_full.specs.Shares.{IsUntidied}
 use Rattle.kw_used.specs.Seats.{builder_of, in_window, limits_of, windows_of}
-use Rattle.kw_used.specs.Used.{AreBanked, AreEngaged, IsPriceOf, KeepsFewBuilds, KeepsUsed}
+use Rattle.kw_used.specs.Used.{AreBanked, AreEngaged, IsPriceOf, KeepsFewBuilds}
 use Rattle.kw_used.proofs.AnyEvent.{any_event}
 use Rattle.kw_used.proofs.Facts.{Facts, Known}
 use Rattle.kw_used.proofs.GoesLeftKeeps.{goes_left_holds}

@@ -1,12 +1,10 @@
 -- Which calls a seat makes that rebalances, reads, or is refused; and that a seat which tidies, or
 -- has refused an update, is none where no update was refused and none is offered to tidy.
-use Rattle.std.proofs.Common.{ℕ, ◌≡◌, ◌⊎◌, inl, inr, ◌+◌, ◌*◌, ◌<◌, ◌≤◌, Bool, true, false, Option, None, Some, List, arith, refl, sym, ◌∙◌, ap, subst, slice_get, length, length-set}
+use Rattle.std.proofs.Common.{ℕ, ◌≡◌, ◌⊎◌, inl, inr, ◌*◌, ◌≤◌, Bool, true, false, Option, None, Some, List, arith, refl, sym, ◌∙◌, ap, subst, slice_get, length}
 use Rattle.std.proofs.Math.Nat.{mul-le-mul_left}
-use Rattle.std.proofs.lemmas.Option.{same_Some}
 use Rattle.kw_words.specs.declared.layout.Name.TheVariants as name
 use Rattle.kw_model.specs.declared.call.Call.{Call}
 use Rattle.kw_model.specs.declared.call.Call.TheVariants.{Del, Get, Put, Scan}
-use Rattle.kw_model.specs.declared.call.Reply.TheVariants as reply
 use Rattle.kw_windows.specs.Builders.{Elsewhere}
 use Rattle.kw_world.specs.declared.activity.Activity.{Activity}
 use Rattle.kw_world.specs.declared.activity.rebalance.Rebalance.TheVariants as Rebalance

@@ -1,10 +1,8 @@
 -- A seat that goes left from a row of the list names no row but such as were in the list with the
 -- leader of that, by induction over the events.
-use Rattle.std.proofs.Common.{ℕ, ◌≡◌, ◌≢◌, ◌⊎◌, inl, inr, ◌+◌, ◌<◌, ◌≤◌, true, Option, None, Some, List, arith, refl, sym, ◌∙◌, ap, subst, slice_get, length}
+use Rattle.std.proofs.Common.{ℕ, ◌≡◌, ◌≢◌, ◌⊎◌, inl, inr, ◌≤◌, true, Some, List, arith, refl, sym, ◌∙◌, ap, subst, slice_get, length}
 use Rattle.std.proofs.lemmas.Bool.{cases_eq}
 use Rattle.std.proofs.lemmas.Option.{same_Some}
-use Rattle.kw_words.specs.declared.layout.Name.TheVariants as name
-use Rattle.kw_words.specs.State.{state_of}
 use Rattle.kw_rows.specs.Events.{Event, SetsState, begins, decides, ends, engages, engages_next, fills, freezes, gives_back, marks, normalises, numbers, reclaims, replaces, rests, retires, takes}
 use Rattle.kw_rows.specs.Ledger.{Dead, Fate, IsDead, IsFresh, IsHeld, IsLive, Ledger, Live}
 use Rattle.kw_rows.specs.Ledger as fate
@@ -23,7 +21,7 @@ use Rattle.kw_world.specs.declared.opening.Opening.{Opening}
 use Rattle.kw_world.specs.Opening.{IsOpening, opened}
 use Rattle.kw_world.specs.Sizes.{Sizes}
 use Rattle.kw_world.specs.Step.{word}
-use Rattle.kw_world.specs.Transition.{row_linked, row_or_first}
+use Rattle.kw_world.specs.Transition.{row_or_first}
 use Rattle.kw_world.specs.WalkTransitions.{offered}
 use Rattle.kw_core.specs.Events.{is_valid, may_step}
 use Rattle.kw_core.specs.Ledger.{ledger_at_first}

@@ -1,20 +1,17 @@
 -- A seat gives its row up, or lets it be, only where that has gone from the list.
-use Rattle.std.proofs.Common.{ℕ, ◌≡◌, ◌⊎◌, inl, inr, ◌==◌, Bool, true, false, Option, None, Some, refl, sym, ◌∙◌, ap, subst, if◌then◌else◌, slice_get, eq-eqb}
+use Rattle.std.proofs.Common.{ℕ, ◌≡◌, Option, None, Some, sym, ◌∙◌, ap, subst, eq-eqb}
 use Rattle.kw_words.specs.declared.layout.Name.TheVariants as name
 use Rattle.kw_words.specs.declared.state.State.{State}
 use Rattle.kw_words.specs.declared.state.State.TheVariants.{Follower, Free, Infant, Leader, Normal, Retired}
 use Rattle.kw_words.specs.State.{state_of}
 use Rattle.kw_rows.specs.Ledger.{IsLive, Ledger}
-use Rattle.kw_rows.specs.Group.{Group}
 use Rattle.kw_rows.specs.Rows.{Rows}
 use Rattle.kw_rows.specs.RowState.{IsClaimable, IsLed}
 use Rattle.kw_rows.specs.States.{HasState, IsLiveState}
 use Rattle.kw_world.specs.declared.activity.Activity.{Activity}
 use Rattle.kw_world.specs.declared.activity.rebalance.Rebalance.TheVariants as Rebalance
 use Rattle.kw_world.specs.declared.activity.rebalance.claim.Claim.{Claim}
-use Rattle.kw_world.specs.declared.activity.rebalance.claim.Claim.TheVariants as Claim
 use Rattle.kw_world.specs.declared.activity.rebalance.engage.Engage.{Engage}
-use Rattle.kw_world.specs.declared.activity.rebalance.engage.Engage.TheVariants as Engage
 use Rattle.kw_world.specs.declared.activity.rebalance.freeze.Freeze.{Freeze}
 use Rattle.kw_world.specs.declared.activity.rebalance.left.Left.{Left}
 use Rattle.kw_world.specs.declared.event.Choice.{Choice}

@@ -1,10 +1,7 @@
 -- What is known of the builds, by induction over the events.
-use Rattle.std.proofs.Common.{ℕ, zero, suc, ◌≡◌, ◌≢◌, ◌⊎◌, inl, inr, ◌+◌, ◌==◌, ◌<◌, ◌≤◌, Bool, true, false, Option, None, Some, arith, refl, sym, ◌∙◌, ap, subst, slice_get, length, if◌then◌else◌, ne_eqb}
+use Rattle.std.proofs.Common.{ℕ, zero, suc, ◌≡◌, ◌≢◌, ◌⊎◌, inl, inr, ◌+◌, ◌==◌, ◌≤◌, Bool, true, false, None, Some, arith, refl, sym, ◌∙◌, ap, subst, slice_get, length, if◌then◌else◌, ne_eqb}
 use Rattle.std.proofs.lemmas.Bool.{cases_eq}
-use Rattle.std.proofs.lemmas.Option.{same_Some}
-use Rattle.kw_words.specs.declared.layout.Name.TheVariants as name
 use Rattle.kw_words.specs.declared.state.State.TheVariants.{Free}
-use Rattle.kw_words.specs.Link.{link_of}
 use Rattle.kw_words.specs.State.{state_word}
 use Rattle.kw_rows.specs.Ledger as fate
 use Rattle.kw_rows.specs.Ledger.{Dead, Fate, IsDead, IsLive, Ledger, Live}
@@ -20,10 +17,9 @@ use Rattle.kw_world.specs.Sizes.{Sizes}
 use Rattle.kw_world.specs.Step.{word}
 use Rattle.kw_core.specs.Ledger.{ledger_at_first}
 use Rattle.kw_core.specs.Run.{Run, start}
-use Rattle.kw_core.proofs.Building.{Building, IsBuilding}
+use Rattle.kw_core.proofs.Building.{IsBuilding}
 use Rattle.kw_core.proofs.Happens.{Happens, each_seat, found_at}
 use Rattle.kw_shape.specs.Shape.{Shape}
-use Rattle.kw_shape.proofs.Comings.{Comes, comes, goes_on, seeks, stays_out}
 use Rattle.kw_shape.proofs.LinkedRows.{GoesNow, dead_before}
 use Rattle.kw_shape.proofs.ShapeOpens.{each_rests}
 use Rattle.kw_reads.specs.Contents.{HasRow}

@@ -5,7 +5,7 @@ use Rattle.std.proofs.lemmas.Bool.{and_parts, cases_eq}
 use Rattle.kw_words.specs.declared.state.State.TheVariants.{Free}
 use Rattle.kw_words.specs.State.{state_word}
 use Rattle.kw_rows.specs.Ledger.{IsLive, Ledger}
-use Rattle.kw_windows.specs.Builders.{Builder, Elsewhere, Stage, at_stage}
+use Rattle.kw_windows.specs.Builders.{Builder, Stage, at_stage}
 use Rattle.kw_windows.specs.Windows.{Limits, Windows}
 use Rattle.kw_windows.specs.Events.{Counts, Event, Goes, UsesNone, Within, rests}
 use Rattle.kw_world.specs.declared.activity.Activity.{Activity}
@@ -22,8 +22,7 @@ use Rattle.kw_reads.specs.Inv.{Inv}
 use Rattle.kw_counts.specs.Counts as ledger
 use Rattle.kw_counts.specs.Counts.{Builds, build_taking, builds_after, counts_after, ever_after, is_live, with_at}
 use Rattle.kw_counts.proofs.BeforeKeep.{builds_other}
-use Rattle.kw_counts.proofs.Updates.{at_set}
-use Rattle.kw_used.specs.Seats.{builder_at, builder_of, held_at, in_window, limits_of, stage_at, windows_of}
+use Rattle.kw_used.specs.Seats.{builder_at, builder_of, held_at, in_window, stage_at, windows_of}
 use Rattle.kw_used.proofs.RowsStay.{leads_same, least_same, live_same}
 use Rattle.kw_used.proofs.Turns.{begun_after}
 

@@ -1,11 +1,9 @@
 -- A seat finds too few rows free only where the updates may have used them all.
-use Rattle.std.proofs.Common.{ℕ, ◌≡◌, ◌⊎◌, inl, inr, ◌+◌, ◌*◌, ◌&&◌, ◌<◌, ◌≤◌, Bool, true, false, nat_lt, Some, List, [], ◌∷◌, ◌++◌, arith, refl, sym, ◌∙◌, ap, subst, slice_get, length}
+use Rattle.std.proofs.Common.{ℕ, ◌≡◌, ◌*◌, ◌<◌, ◌≤◌, true, false, nat_lt, Some, List, [], ◌∷◌, ◌++◌, arith, refl, sym, ◌∙◌, ap, slice_get, length}
 use Rattle.std.proofs.Math.Nat.{mul-le-mul_left}
 use Rattle.std.proofs.lemmas.Bool.Decides.{nat_tests}
 use Rattle.std.proofs.lemmas.Option.{same_Some, slice_get_within}
-use Rattle.kw_lists.specs.Counts.{count_below}
 use Rattle.kw_windows.proofs.Counting.{count_left_out}
-use Rattle.kw_model.specs.declared.call.Reply.TheVariants as reply
 use Rattle.kw_world.specs.declared.activity.Activity.{Activity}
 use Rattle.kw_world.specs.declared.answer.Answer.TheVariants.{NoRows}
 use Rattle.kw_world.specs.declared.event.Choice.TheVariants.{Go}
@@ -15,12 +13,12 @@ use Rattle.kw_world.specs.declared.opening.Opening.{Opening}
 use Rattle.kw_world.specs.Answers.{reply_of}
 use Rattle.kw_world.specs.Opening.{IsOpening}
 use Rattle.kw_world.specs.Sizes.{Sizes}
-use Rattle.kw_world.specs.Step.{is_skipped, word}
+use Rattle.kw_world.specs.Step.{word}
 use Rattle.kw_world.specs.WalkTransitions.{offered}
 use Rattle.kw_world.specs.WorldView.{WorldView}
 use Rattle.kw_core.specs.Events.{event, is_made, is_valid, may_step}
 use Rattle.kw_core.specs.History.{called}
-use Rattle.kw_core.specs.Run.{Run, history}
+use Rattle.kw_core.specs.Run.{history}
 use Rattle.kw_core.proofs.Happens.{found_at}
 use Rattle.kw_laws.proofs.EndedCalls.{ended_within}
 use Rattle.kw_reads.proofs.Keeps.{inv_holds}

@@ -1,8 +1,7 @@
--- Each event that replaces no row, and takes none, is one of the laws of windows: by what becomes
--- of its seat's stage.
-use Rattle.std.proofs.Common.{ℕ, ◌≡◌, ◌⊎◌, inl, inr, ◌+◌, ◌==◌, ◌<◌, ◌≤◌, Bool, true, false, Option, None, Some, arith, refl, sym, ◌∙◌, ap, subst, slice_get, length, eq-eqb}
+-- Each event that replaces no row, and takes none, is one of the laws of windows: by what becomes of
+-- its seat's stage.
+use Rattle.std.proofs.Common.{ℕ, ◌≡◌, ◌⊎◌, inl, inr, ◌==◌, ◌<◌, ◌≤◌, Bool, true, false, Option, None, Some, arith, refl, sym, ◌∙◌, ap, subst, length}
 use Rattle.std.proofs.lemmas.Bool.Decides.{nat_tests}
-use Rattle.kw_words.specs.declared.layout.Name.TheVariants as name
 use Rattle.kw_words.specs.Link.{link_of}
 use Rattle.kw_words.specs.State.{state_word}
 use Rattle.kw_words.specs.declared.state.State.TheVariants.{Free}
@@ -22,7 +21,7 @@ use Rattle.kw_world.specs.declared.local.Local.{Local}
 use Rattle.kw_world.specs.declared.rebalance.Afterwards.TheVariants.{MoveLeft, TryAgain}
 use Rattle.kw_world.specs.Sizes.{Sizes}
 use Rattle.kw_world.specs.Step.{word}
-use Rattle.kw_world.specs.Transition.{row_linked, row_or_first}
+use Rattle.kw_world.specs.Transition.{row_or_first}
 use Rattle.kw_core.specs.Run.{Run}
 use Rattle.kw_core.specs.Stages.{IsAtRow, IsBalancing, is_put}
 use Rattle.kw_core.specs.Words.{least_in, next_in}
@@ -35,7 +34,7 @@ use Rattle.kw_shape.proofs.Comings.{IsGoingLeft}
 use Rattle.kw_shape.proofs.LinkedRows.{ComesNow, balance_at, infants_at, live_reached, reached_live, search_at}
 use Rattle.kw_shape.proofs.RowsKeep.{kinds_at}
 use Rattle.kw_reads.proofs.Later.{at_row_has}
-use Rattle.kw_laws.specs.Laws.{IsLeavingBefore, IsReachingNext, IsStated}
+use Rattle.kw_laws.specs.Laws.{IsLeavingBefore, IsReachingNext}
 use Rattle.kw_laws.proofs.ReachedStates.{first_leads_by}
 use Rattle.kw_counts.specs.Counts as ledger
 use Rattle.kw_counts.specs.Counts.{counts_after, is_live}
@@ -50,7 +49,7 @@ use Rattle.kw_used.proofs.Gone.{gone_by}
 use Rattle.kw_used.proofs.Lasting.{TakesNone, goes, rests_event, stage_was, was}
 use Rattle.kw_used.proofs.LeftLeaders.{led_by_left}
 use Rattle.kw_used.proofs.RowsStay.{live_true, test_live}
-use Rattle.kw_used.proofs.Turns.{Turn, begun_after, comes_to, ends_call, finds_gone, finds_spent, goes_left, goes_on, goes_past, is_done, is_head, leaves_reading, none_left, stays, turn}
+use Rattle.kw_used.proofs.Turns.{Turn, begun_after, comes_to, ends_call, finds_gone, finds_spent, goes_left, goes_on, goes_past, is_done, is_head, leaves_reading, none_left, stays}
 
 -- a row that is not in the list, by the test
 not_live : (b : Bool) → (b ≡ true → ⊥) → b ≡ false

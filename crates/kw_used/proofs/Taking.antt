@@ -1,12 +1,12 @@
 -- A seat takes a row: as the next one of its build, or as the first one in this window.
-use Rattle.std.proofs.Common.{ℕ, ◌≡◌, ◌≢◌, ◌⊎◌, inl, inr, ◌+◌, ◌==◌, ◌<◌, ◌≤◌, ◌&&◌, Bool, true, false, Option, None, Some, arith, refl, sym, ◌∙◌, ap, subst, slice_get, length, eq-eqb}
+use Rattle.std.proofs.Common.{ℕ, ◌≡◌, ◌≢◌, ◌⊎◌, inl, inr, ◌+◌, ◌==◌, ◌≤◌, ◌&&◌, Bool, true, false, Option, None, Some, arith, refl, sym, ◌∙◌, ap, subst, length, eq-eqb}
 use Rattle.std.proofs.lemmas.Bool.{cases_eq}
 use Rattle.std.proofs.lemmas.Option.{slice_get_within}
 use Rattle.kw_words.specs.declared.layout.Name.TheVariants as name
 use Rattle.kw_words.specs.declared.state.State.TheVariants.{Free}
 use Rattle.kw_words.specs.State.{state_word}
-use Rattle.kw_rows.specs.Group.{Group, IsAlone}
-use Rattle.kw_rows.specs.Ledger.{IsDead, IsFresh, IsLive, Ledger, WasHeld}
+use Rattle.kw_rows.specs.Group.{Group}
+use Rattle.kw_rows.specs.Ledger.{IsFresh, IsLive, Ledger}
 use Rattle.kw_rows.specs.Rows.{Rows}
 use Rattle.kw_rows.specs.RowState as row
 use Rattle.kw_rows.specs.RowState.{IsLeader}
@@ -20,9 +20,8 @@ use Rattle.kw_world.specs.declared.event.Choice.{Choice}
 use Rattle.kw_world.specs.declared.local.Local.{Local}
 use Rattle.kw_world.specs.Sizes.{Sizes}
 use Rattle.kw_world.specs.Step.{word}
-use Rattle.kw_world.specs.WorldView.{WorldView}
 use Rattle.kw_core.specs.Run.{Run}
-use Rattle.kw_core.proofs.Happens.{Happens, found_at, knows_next}
+use Rattle.kw_core.proofs.Happens.{Happens, knows_next}
 use Rattle.kw_core.proofs.Building.{IsBuilding}
 use Rattle.kw_shape.specs.Balances.{Balances, led}
 use Rattle.kw_shape.specs.RowsIn.{rows_in}
@@ -31,9 +30,8 @@ use Rattle.kw_shape.proofs.LinkedRows.{ComesNow, balance_at, fresh_linked, was_b
 use Rattle.kw_counts.specs.Builds.{IsMostOfBuild, KeepsBuilds}
 use Rattle.kw_counts.specs.Counts as ledger
 use Rattle.kw_counts.specs.Counts.{Builds, build_taking, counts_after, has_begun, is_live, one_more_at, with_at}
-use Rattle.kw_counts.specs.Leaders.{is_leader, is_leading}
 use Rattle.kw_counts.proofs.Updates.{at_left, at_set}
-use Rattle.kw_used.specs.Seats.{builder_at, building, in_window, limits_of, stage_at, windows_of}
+use Rattle.kw_used.specs.Seats.{builder_at, building, in_window, limits_of, windows_of}
 use Rattle.kw_used.proofs.BuildTurns.{TakesOne}
 use Rattle.kw_used.proofs.Facts.{Facts}
 use Rattle.kw_used.proofs.Lasting.{counts_to, is, was}

@@ -1,9 +1,7 @@
 -- A seat replaces its row: a window is over, and the seats are counted anew.
-use Rattle.std.proofs.Common.{ℕ, ◌≡◌, ◌≢◌, ◌+◌, ◌==◌, ◌<◌, ◌≤◌, Bool, true, false, Option, None, Some, arith, refl, sym, ◌∙◌, ap, subst, slice_get, length, ne_eqb}
-use Rattle.kw_words.specs.Link.{link_of}
+use Rattle.std.proofs.Common.{ℕ, ◌≡◌, ◌≢◌, ◌+◌, ◌≤◌, Bool, true, false, Option, None, Some, arith, refl, sym, ◌∙◌, ap, slice_get, length, ne_eqb}
 use Rattle.kw_model.specs.declared.call.Call.{Call}
-use Rattle.kw_rows.specs.Ledger.{Ledger}
-use Rattle.kw_windows.specs.Builders.{Asking, Builder, Building, Elsewhere, Refused, Stage, anew, at_stage, stage_anew}
+use Rattle.kw_windows.specs.Builders.{Asking, Building, Elsewhere, Refused, Stage, anew, at_stage, stage_anew}
 use Rattle.kw_windows.specs.Windows.{Limits, Windows, taken}
 use Rattle.kw_windows.specs.Events.{Event, wins}
 use Rattle.kw_world.specs.declared.activity.Activity.{Activity}
@@ -18,7 +16,7 @@ use Rattle.kw_world.specs.Sizes.{Sizes}
 use Rattle.kw_world.specs.Step.{word}
 use Rattle.kw_core.specs.Run.{Run}
 use Rattle.kw_core.specs.Stages.{is_put}
-use Rattle.kw_core.proofs.Happens.{Happens, found_at, knows_next, knows_other}
+use Rattle.kw_core.proofs.Happens.{Happens, knows_next, knows_other}
 use Rattle.kw_counts.specs.Counts as ledger
 use Rattle.kw_counts.specs.Counts.{Builds, counts_after}
 use Rattle.kw_used.specs.Seats.{builder_of, building, held_at, in_window, leaving, refusing, stage_at, windows_of}

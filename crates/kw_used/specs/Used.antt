@@ -1,10 +1,10 @@
 -- What follows for the rows of a table: how few builds a seat makes in a window, and how few rows
 -- are taken for so many updates.
 use Rattle.std.specs.Prelude.{ℕ, ◌≡◌, ◌+◌, ◌*◌, ◌<◌, ◌≤◌, true, Some, List, slice_get}
-use Rattle.kw_words.specs.declared.sizes.TheConstants.{MOST_GROUP, SPENT}
+use Rattle.kw_words.specs.declared.sizes.TheConstants.{MOST_GROUP}
 use Rattle.kw_lists.specs.Counts.{count_below}
 use Rattle.kw_world.specs.declared.activity.Activity.{Activity}
-use Rattle.kw_world.specs.declared.answer.Answer.TheVariants.{NoRows, Spent}
+use Rattle.kw_world.specs.declared.answer.Answer.TheVariants.{NoRows}
 use Rattle.kw_world.specs.declared.event.Event.{Event}
 use Rattle.kw_world.specs.declared.limits.TheConstants.{TIDY_SHARE}
 use Rattle.kw_world.specs.declared.local.Local.{Local}
@@ -12,11 +12,9 @@ use Rattle.kw_world.specs.declared.opening.Opening.{Opening}
 use Rattle.kw_world.specs.Sizes.{Sizes}
 use Rattle.kw_core.specs.Events.{is_valid}
 use Rattle.kw_core.specs.Run.{Run, history}
-use Rattle.kw_shape.specs.Shape.{IsPutCall}
 use Rattle.kw_counts.specs.Bank.{IsShare, KeepsBank, all_updates, puts_in}
 use Rattle.kw_counts.specs.Builds.{IsMostOfBuild}
 use Rattle.kw_counts.specs.Counts.{Counts, counts}
-use Rattle.kw_counts.specs.Draws.{all_scans}
 use Rattle.kw_counts.specs.Engagers.{KeepsEngagers}
 use Rattle.kw_counts.specs.Leaders.{is_leading}
 use Rattle.kw_counts.specs.Refusals.{IsBeforeRefusals}

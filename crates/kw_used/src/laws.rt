@@ -13,7 +13,8 @@ ghost use Rattle.kw_full.specs.Shares.{IsUntidied};
 ghost use Rattle.kw_counts.specs.Bank.{IsShare, all_updates};
 ghost use Rattle.kw_counts.specs.Builds.{IsMostOfBuild};
 ghost use Rattle.kw_counts.specs.Counts.{counts};
-ghost use Rattle.kw_used.specs.Used.{AreBanked, AreEngaged, HasNoneShort, HasRoom, IsPriceOf, KeepsFewBuilds, KeepsUsed, TidyingIsLate};
+ghost use Rattle.kw_used.specs.Used.{AreBanked, AreEngaged, HasNoneShort, HasRoom, IsPriceOf};
+ghost use Rattle.kw_used.specs.Used.{KeepsFewBuilds, KeepsUsed, TidyingIsLate};
 
 /// After every valid list of events from an opening, as long as no update was refused and none is
 /// offered to tidy its row: of the builds of a seat that took a row since a row was replaced last,
