@@ -1,5 +1,5 @@
--- Each event that replaces no row, and takes none, is one of the laws of windows: by what becomes of
--- its seat's stage.
+-- Each event that replaces no row, and takes none, is one of the laws of windows: by what becomes
+-- of its seat's stage.
 use Rattle.std.proofs.Common.{ℕ, ◌≡◌, ◌⊎◌, inl, inr, ◌==◌, ◌<◌, ◌≤◌, Bool, true, false, Option, None, Some, arith, refl, sym, ◌∙◌, ap, subst, length}
 use Rattle.std.proofs.lemmas.Bool.Decides.{nat_tests}
 use Rattle.kw_words.specs.Link.{link_of}

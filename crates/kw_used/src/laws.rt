@@ -1,7 +1,6 @@
 //! The laws of the rows that are used.
 //!
-//! Nothing runs here: the functions' clauses are the statements. What is said of those who make
-//! rows lead, and of the updates that pay for rows, is a premise here (`AreEngaged`, `AreBanked`).
+//! Nothing runs here: the functions' clauses are the statements.
 ghost use Rattle.std.specs.Prelude.{◌≡◌, ◌≤◌, true, List, ℕ};
 ghost use Rattle.kw_world.specs.declared.event.Event.{Event};
 ghost use Rattle.kw_world.specs.declared.opening.Opening.{Opening};
@@ -13,7 +12,7 @@ ghost use Rattle.kw_full.specs.Shares.{IsUntidied};
 ghost use Rattle.kw_counts.specs.Bank.{IsShare, all_updates};
 ghost use Rattle.kw_counts.specs.Builds.{IsMostOfBuild};
 ghost use Rattle.kw_counts.specs.Counts.{counts};
-ghost use Rattle.kw_used.specs.Used.{AreBanked, AreEngaged, HasNoneShort, HasRoom, IsPriceOf};
+ghost use Rattle.kw_used.specs.Used.{HasNoneShort, HasRoom, IsPriceOf};
 ghost use Rattle.kw_used.specs.Used.{KeepsFewBuilds, KeepsUsed, TidyingIsLate};
 
 /// After every valid list of events from an opening, as long as no update was refused and none is
@@ -22,10 +21,10 @@ ghost use Rattle.kw_used.specs.Used.{KeepsFewBuilds, KeepsUsed, TidyingIsLate};
 /// the rows that were ever in use are the first one, and no more than the stamped updates paid for.
 pub fn used_laws()
     ensures builds { (z : Sizes) (o : Opening) (events : List Event) (build : ℕ) → IsOpening z o →
-        AreEngaged z o → IsMostOfBuild z build → is_valid z o events ≡ true →
+        IsMostOfBuild z build → is_valid z o events ≡ true →
         KeepsFewBuilds z (history z o events) (counts z o events) }
     ensures rows { (z : Sizes) (o : Opening) (events : List Event) → IsOpening z o →
-        AreEngaged z o → AreBanked z o → is_valid z o events ≡ true →
+        is_valid z o events ≡ true →
         KeepsUsed z o (history z o events) (counts z o events) }
 {}
 
@@ -34,11 +33,11 @@ pub fn used_laws()
 /// none is offered to tidy its row as long as the updates are so few.
 pub fn room_laws()
     ensures no_rows { (z : Sizes) (o : Opening) (events : List Event) (build share price : ℕ) →
-        IsOpening z o → AreEngaged z o → AreBanked z o → IsPriceOf z build share price →
+        IsOpening z o → IsPriceOf z build share price →
         is_valid z o events ≡ true → HasRoom z o events price →
         HasNoneShort z (history z o events) }
     ensures untidied { (z : Sizes) (o : Opening) (events : List Event) (share : ℕ) →
-        IsOpening z o → AreBanked z o → IsShare z share → 1 ≤ share →
+        IsOpening z o → IsShare z share → 1 ≤ share →
         is_valid z o events ≡ true → TidyingIsLate z o share (all_updates z o events) →
         IsUntidied z (history z o events).world }
 {}
