@@ -20,7 +20,7 @@ use Rattle.kw_counts.specs.Leaders.{is_leading}
 use Rattle.kw_counts.specs.Refusals.{IsBeforeRefusals}
 use Rattle.kw_used.specs.Seats.{in_window}
 
--- Premises that have proofs of their own.
+-- What it follows from, which the laws of the bank say of every valid list (`kw_counts`).
 
 -- every valid list keeps what is said of those who make rows lead
 abbrev pub AreEngaged : Sizes → Opening → Type 0
