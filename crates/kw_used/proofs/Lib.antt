@@ -16,3 +16,6 @@ pub mod GoesLeftKeeps
 pub mod BuildsHold
 pub mod NoRowsLeft
 pub mod TidyingLate
+pub mod RefusedNow
+pub mod NeverRefused
+pub mod AtProduct

@@ -43,7 +43,7 @@ updates_still [] ds x = omega arith
 updates_still (c ∷ cs) [] x = absurd x
 updates_still (c ∷ cs) (d ∷ ds) x = omega (arith, ap update_one x.0.call, updates_still cs ds x.1)
 
-updates_grow : (z : Sizes) (o : Opening) → IsOpening z o → (xs ys : List Event) → is_valid z o (xs ++ ys) ≡ true → all_updates z o xs ≤ all_updates z o (xs ++ ys)
+pub updates_grow : (z : Sizes) (o : Opening) → IsOpening z o → (xs ys : List Event) → is_valid z o (xs ++ ys) ≡ true → all_updates z o xs ≤ all_updates z o (xs ++ ys)
 updates_grow z o opening xs ys ok = sum_grows z.seats (updates_by z o xs) (updates_by z o (xs ++ ys)) (λ t w. updates_still _ _ (calls_last z o t xs ys opening ok))
 
 -- Numbers.
@@ -60,7 +60,7 @@ cancel s x y some less = which (cases_lt y x)
 
 module _ (z : Sizes) (o : Opening) (share : ℕ) (some : 1 ≤ share) where
   -- so many exchanges, each paid for by a share of so many updates, leave the table rows enough
-  rows_enough : (epoch wins updates : ℕ) → epoch ≤ o.epoch + MOST_GROUP * wins → wins * share ≤ updates → TidyingIsLate z o share updates → TIDY_SHARE * epoch ≤ o.rows
+  pub rows_enough : (epoch wins updates : ℕ) → epoch ≤ o.epoch + MOST_GROUP * wins → wins * share ≤ updates → TidyingIsLate z o share updates → TIDY_SHARE * epoch ≤ o.rows
   rows_enough epoch wins updates drawn paid late = cancel share (TIDY_SHARE * epoch) o.rows some (omega (arith, first, same, second, late))
     where
       first : share * (TIDY_SHARE * epoch) ≤ share * (TIDY_SHARE * (o.epoch + MOST_GROUP * wins))
@@ -79,7 +79,7 @@ module _ (z : Sizes) (o : Opening) (share : ℕ) (some : 1 ≤ share) where
       second = mul-le-mul_left TIDY_SHARE fourth
 
   -- fewer updates leave as many
-  late_before : (n m : ℕ) → n ≤ m → TidyingIsLate z o share m → TidyingIsLate z o share n
+  pub late_before : (n m : ℕ) → n ≤ m → TidyingIsLate z o share m → TidyingIsLate z o share n
   late_before n m less late =
       let more : MOST_GROUP * n ≤ MOST_GROUP * m = mul-le-mul_left MOST_GROUP less in
       let both : share * o.epoch + MOST_GROUP * n ≤ share * o.epoch + MOST_GROUP * m = omega (arith, more) in

@@ -2,16 +2,18 @@
 //!
 //! Nothing runs here: the functions' clauses are the statements.
 ghost use Rattle.std.specs.Prelude.{◌≡◌, ◌≤◌, true, List, ℕ};
+ghost use Rattle.kw_words.specs.declared.sizes.TheConstants.{MOST_NEW_ROWS};
 ghost use Rattle.kw_world.specs.declared.event.Event.{Event};
 ghost use Rattle.kw_world.specs.declared.opening.Opening.{Opening};
 ghost use Rattle.kw_world.specs.Opening.{IsOpening};
-ghost use Rattle.kw_world.specs.Sizes.{Sizes};
+ghost use Rattle.kw_world.specs.Sizes.{Sizes, product};
 ghost use Rattle.kw_core.specs.Events.{is_valid};
 ghost use Rattle.kw_core.specs.Run.{history};
 ghost use Rattle.kw_full.specs.Shares.{IsUntidied};
 ghost use Rattle.kw_counts.specs.Bank.{IsShare, all_updates};
 ghost use Rattle.kw_counts.specs.Builds.{IsMostOfBuild};
 ghost use Rattle.kw_counts.specs.Counts.{counts};
+ghost use Rattle.kw_used.specs.Few.{HasEnough, HasEnoughNew, RefusesNone, update_price, update_share};
 ghost use Rattle.kw_used.specs.Used.{HasNoneShort, HasRoom, IsPriceOf};
 ghost use Rattle.kw_used.specs.Used.{KeepsFewBuilds, KeepsUsed, TidyingIsLate};
 
@@ -40,4 +42,18 @@ pub fn room_laws()
         IsOpening z o → IsShare z share → 1 ≤ share →
         is_valid z o events ≡ true → TidyingIsLate z o share (all_updates z o events) →
         IsUntidied z (history z o events).world }
+{}
+
+/// Where the table has enough for the calls that were begun, no put and no delete was ever refused,
+/// and no seat is about to refuse one for want of rows. At the product's sizes `update_price` rows
+/// for each seat that acts pay for an update: a new table that has so many for the updates that were
+/// begun, and some more, refuses none.
+pub fn few_laws()
+    ensures never { (z : Sizes) (o : Opening) (events : List Event) (build share price : ℕ) →
+        IsOpening z o → IsPriceOf z build share price → is_valid z o events ≡ true →
+        HasEnough z o events share price → RefusesNone (history z o events) }
+    ensures pays { IsPriceOf product MOST_NEW_ROWS update_share update_price }
+    ensures product { (o : Opening) (events : List Event) → IsOpening product o → o.clock ≡ 1 →
+        o.epoch ≡ 1 → is_valid product o events ≡ true → HasEnoughNew o events →
+        RefusesNone (history product o events) }
 {}
