@@ -48,9 +48,9 @@ some_share z build share price cost = which (cases_lt 0 share)
         absurd (omega (arith, cost.pays, free, some))
 
 -- fewer updates leave a row too
-room_before : (seats rows price n m : ℕ) → n ≤ m → seats * (price * m) + 1 < rows → seats * (price * n) + 1 < rows
-room_before seats rows price n m less room =
-    let more : seats * (price * n) ≤ seats * (price * m) = mul-le-mul_left seats (mul-le-mul_left price less) in
+room_before : (z : Sizes) (o : Opening) (price : ℕ) (es ds : List Event) → all_updates z o es ≤ all_updates z o ds → HasRoom z o ds price → HasRoom z o es price
+room_before z o price es ds less room =
+    let more : o.seats * (price * all_updates z o es) ≤ o.seats * (price * all_updates z o ds) = mul-le-mul_left o.seats (mul-le-mul_left price less) in
     omega (arith, more, room)
 
 module _ (z : Sizes) (o : Opening) (opening : IsOpening z o) (build share price : ℕ) (cost : IsPriceOf z build share price) (engaged : AreEngaged z o) (banked : AreBanked z o) where
@@ -87,7 +87,7 @@ module _ (z : Sizes) (o : Opening) (opening : IsOpening z o) (build share price 
     run_is = history-snoc z o es e ∙ ap (λ q. run.goes_on z q e) u.run_is;
     none = λ room late unspent x d w is refused.
         let grows = updates_grow z o opening es (e ∷ []) next in
-        let had = room_before o.seats o.rows price (all_updates z o es) (all_updates z o (es ++ e ∷ [])) grows room in
+        let had = room_before z o price es (es ++ e ∷ []) grows room in
         let was = late_before z o share some (all_updates z o es) (all_updates z o (es ++ e ∷ [])) grows late in
         let none = u.none had was (unspent_was unspent) in
         let at = come z o opening es e u.valid now in

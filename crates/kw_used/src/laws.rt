@@ -13,7 +13,8 @@ ghost use Rattle.kw_full.specs.Shares.{IsUntidied};
 ghost use Rattle.kw_counts.specs.Bank.{IsShare, all_updates};
 ghost use Rattle.kw_counts.specs.Builds.{IsMostOfBuild};
 ghost use Rattle.kw_counts.specs.Counts.{counts};
-ghost use Rattle.kw_used.specs.Few.{HasEnough, HasEnoughNew, RefusesNone, update_price, update_share};
+ghost use Rattle.kw_used.specs.Few.{HasEnough, HasEnoughNew, RefusesNone};
+ghost use Rattle.kw_used.specs.Few.{update_price, update_share};
 ghost use Rattle.kw_used.specs.Used.{HasNoneShort, HasRoom, IsPriceOf};
 ghost use Rattle.kw_used.specs.Used.{KeepsFewBuilds, KeepsUsed, TidyingIsLate};
 
@@ -46,7 +47,7 @@ pub fn room_laws()
 
 /// Where the table has enough for the calls that were begun, no put and no delete was ever refused,
 /// and no seat is about to refuse one for want of rows. At the product's sizes `update_price` rows
-/// for each seat that acts pay for an update: a new table that has so many for the updates that were
+/// for each seat that acts pay for an update: a new table that has so many for those that were
 /// begun, and some more, refuses none.
 pub fn few_laws()
     ensures never { (z : Sizes) (o : Opening) (events : List Event) (build share price : ℕ) →

@@ -1,5 +1,5 @@
-use Rattle.kw_world.specs.Sizes as sizes
 use Rattle.kw_words.specs.declared.sizes.TheConstants.{MOST_NEW_ROWS}
+use Rattle.kw_world.specs.Sizes as sizes
 use Rattle.kw_counts.proofs.BankHold.{bank_holds}
 use Rattle.kw_counts.proofs.EngagersHold.{engagers_hold}
 use Rattle.kw_used.specs.Few.{update_price, update_share}
