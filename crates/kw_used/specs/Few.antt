@@ -41,9 +41,8 @@ update_share = CELLS - BUILT - SEATS
 abbrev pub update_price : ℕ
 update_price = 3
 
--- a new table has enough for the calls that were begun: at that price the updates leave as many
--- rows as the first number takes before any update is offered to tidy; and each seat has begun no
--- more scans than it may begin calls
+-- a new table has enough for the calls that were begun: at that price the updates leave so many
+-- rows that none is offered to tidy, and the scans are no more than the seats may begin calls
 pub record HasEnoughNew (o : Opening) (es : List Event) : Type 0 where
   pub rows : o.seats * (update_price * all_updates product o es) + TIDY_SHARE ≤ o.rows
   pub scans : all_scans product o es ≤ SEATS * MOST_CALLS
