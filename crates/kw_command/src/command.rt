@@ -27,7 +27,7 @@ pub const DEFAULT_WORKERS: u32 = 1;
 pub const FEWEST_ROWS: u32 = 64;
 
 /// How many rows the table of a map has where none are asked for.
-pub const DEFAULT_ROWS: u32 = 16_384;
+pub const DEFAULT_ROWS: u32 = 32_768;
 
 /// How many rows the table of a simulated map has where none are asked for.
 pub const SIMULATED_ROWS: u32 = 64;

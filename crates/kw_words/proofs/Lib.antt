@@ -1,6 +1,5 @@
 pub mod Places
 pub mod Inequalities
-pub mod EventCounts
 pub mod Bits
 pub mod Refusals
 pub mod PendWords

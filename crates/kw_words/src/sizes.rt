@@ -5,13 +5,13 @@
 //! requires them.
 
 /// How many seats the map has: how many threads may call it at once.
-pub const SEATS: usize = 8;
+pub const SEATS: usize = 16;
 
 /// How many cells a row has.
-pub const CELLS: usize = 64;
+pub const CELLS: usize = 128;
 
 /// How many cells of a new row a rebalance fills.
-pub const BUILT: usize = 32;
+pub const BUILT: usize = 64;
 
 /// `SEATS`, as seats are counted in words.
 pub const SEAT_COUNT: u32 = SEATS as u32;
