@@ -1,6 +1,6 @@
 //! A new row, written from its first word to its last.
 //!
-//! A seat makes some hundred and fifty events for a new row: they store its count, its least key,
+//! A seat makes some three hundred events for a new row: they store its count, its least key,
 //! the link after it and the first link of its list, its entries, and then four words for each cell
 //! that it has and one for each other place. Nobody else reads the row before it is linked, and of
 //! what the seat knows nothing changes in between but which of these words is the next one. So the
