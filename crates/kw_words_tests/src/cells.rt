@@ -5,6 +5,7 @@ ghost use Rattle.kw_cells.specs.InOrder.{AreBelow, AreInOrder};
 use kw_cells::cell::{Cell, best, next_pair};
 use kw_cells::in_order::{first_fit, index_in, is_behind, next_in_order};
 use kw_cells::limits::{MOST_GATHERED, MOST_NEEDED, MOST_STARTS};
+use kw_words::sizes::{CELLS, SEATS};
 
 fn put(key: u32, version: u64, place: u32, value: u64) -> Cell {
     Cell {
@@ -201,8 +202,11 @@ fn a_cell_belongs_behind_those_before_it(rt: HostRuntime) {
     assert_eq!(rt; (places, behind), ([1, 0, 4, 6], [true, false, true]));
 }
 
-// two rows of 64 cells, a version for each of 8 seats, and the 7 rows that a rebuild makes at most
+// the cells of two rows, a version for each seat, and the 7 rows that a rebuild makes at most
 #[test]
 fn the_room_of_a_rebuild(rt: HostRuntime) {
-    assert_eq!(rt; [MOST_GATHERED, MOST_NEEDED, MOST_STARTS], [128, 8, 7]);
+    assert_eq!(rt;
+        [MOST_GATHERED, MOST_NEEDED, MOST_STARTS],
+        [2 * CELLS, SEATS, 7]
+    );
 }

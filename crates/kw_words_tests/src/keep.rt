@@ -117,18 +117,25 @@ fn tombstones_below_all_values_go_and_others_stay(rt: HostRuntime) -> Result<(),
     expect_kept(&rt, &cells, &[3, 5], &[])
 }
 
+// more versions of a key than twice as many as may be needed
+const MANY_VERSIONS: usize = 2 * MOST_NEEDED + 4;
+
+// the best cells of as many versions as may be needed, and the newest one
+const MOST_BEST: usize = MOST_NEEDED + 1;
+
 #[test]
 fn each_needed_version_keeps_its_best_cell(rt: HostRuntime) -> Result<(), Fail> {
-    let mut cells = [put(7, 0, 0); 20];
-    for place in 0..20 {
+    let mut cells = [put(7, 0, 0); MANY_VERSIONS];
+    for place in 0..MANY_VERSIONS {
         cells[place] = put(7, place as u64 + 1, place as u32);
     }
-    // as many versions as there may be
-    let needed: [u64; MOST_NEEDED] = [2, 4, 6, 8, 10, 12, 14, 16];
-    let best = [
-        cells[1], cells[3], cells[5], cells[7], cells[9], cells[11], cells[13], cells[15],
-        cells[19],
-    ];
+    // every second version is needed, as many as may be, and the newest one is kept besides
+    let mut needed = [0; MOST_NEEDED];
+    let mut best = [put(7, MANY_VERSIONS as u64, MANY_VERSIONS as u32 - 1); MOST_BEST];
+    for nth in 0..MOST_NEEDED {
+        needed[nth] = 2 * nth as u64 + 2;
+        best[nth] = put(7, 2 * nth as u64 + 2, 2 * nth as u32 + 1);
+    }
     expect_kept(&rt, &cells, &needed, &best)
 }
 
@@ -164,9 +171,11 @@ fn of_one_key_few_cells_are_kept(rt: HostRuntime) -> Result<(), Fail> {
     for place in 0..MOST_GATHERED {
         cells[place] = put(9, (MOST_GATHERED - place) as u64, 1);
     }
-    let few = [put(9, 1, 1), put(9, 64, 1), put(9, 128, 1)];
-    expect_kept(&rt, &cells, &[64, 1], &few)?;
-    expect_kept(&rt, &cells, &[], &[put(9, 128, 1)])
+    let newest = MOST_GATHERED as u64;
+    let middle = newest / 2;
+    let few = [put(9, 1, 1), put(9, middle, 1), put(9, newest, 1)];
+    expect_kept(&rt, &cells, &[middle, 1], &few)?;
+    expect_kept(&rt, &cells, &[], &[put(9, newest, 1)])
 }
 
 // so many keys of one cell each
@@ -185,45 +194,97 @@ fn no_cells_have_one_row(rt: HostRuntime) -> Result<(), Fail> {
     expect_starts(&rt, &[], &[], 0, &[0])
 }
 
+// one cell more than a new row takes
+const ONE_MORE: usize = BUILT + 1;
+
+// a quarter of a new row more
+const A_QUARTER_MORE: usize = BUILT + BUILT / 4;
+
+// what two new rows take, and one cell more than that
+const TWO_ROWS: usize = 2 * BUILT;
+
+const MORE_THAN_TWO: usize = 2 * BUILT + 1;
+
+// what three new rows take, and an eighth of one more
+const MORE_THAN_THREE: usize = 3 * BUILT + BUILT / 8;
+
+// As few rows as can be are one, two, two, two, three, four and four. The shortest longest row has
+// that part of the cells, rounded up, which goes into each row but the last.
 #[test]
 fn rows_are_as_few_and_as_even_as_can_be(rt: HostRuntime) -> Result<(), Fail> {
-    expect_starts(&rt, &keys::<BUILT>(), &[], 32, &[0])?;
-    expect_starts(&rt, &keys::<33>(), &[], 33, &[0, 17])?;
-    expect_starts(&rt, &keys::<40>(), &[], 40, &[0, 20])?;
-    expect_starts(&rt, &keys::<64>(), &[], 64, &[0, 32])?;
-    expect_starts(&rt, &keys::<65>(), &[], 65, &[0, 22, 44])?;
-    expect_starts(&rt, &keys::<100>(), &[], 100, &[0, 25, 50, 75])?;
-    expect_starts(&rt, &keys::<MOST_GATHERED>(), &[], 128, &[0, 32, 64, 96])
+    let half = BUILT / 2;
+    let third = (MORE_THAN_TWO + 2) / 3;
+    let quarter = MORE_THAN_THREE / 4;
+    let in_three = [0, third, 2 * third];
+    let in_four = [0, quarter, 2 * quarter, 3 * quarter];
+    let all_full = [0, BUILT, 2 * BUILT, 3 * BUILT];
+    expect_starts(&rt, &keys::<BUILT>(), &[], BUILT, &[0])?;
+    expect_starts(&rt, &keys::<ONE_MORE>(), &[], ONE_MORE, &[0, half + 1])?;
+    expect_starts(
+        &rt,
+        &keys::<A_QUARTER_MORE>(),
+        &[],
+        A_QUARTER_MORE,
+        &[0, half + BUILT / 8],
+    )?;
+    expect_starts(&rt, &keys::<TWO_ROWS>(), &[], TWO_ROWS, &[0, BUILT])?;
+    expect_starts(&rt, &keys::<MORE_THAN_TWO>(), &[], MORE_THAN_TWO, &in_three)?;
+    expect_starts(
+        &rt,
+        &keys::<MORE_THAN_THREE>(),
+        &[],
+        MORE_THAN_THREE,
+        &in_four,
+    )?;
+    expect_starts(&rt, &keys::<MOST_GATHERED>(), &[], MOST_GATHERED, &all_full)
 }
 
 #[test]
 fn a_key_stays_whole(rt: HostRuntime) -> Result<(), Fail> {
-    // a key in the middle has a second cell: behind 16 cells it goes into the second row, so that
-    // both have 17 at most, and behind 15 into the first one
-    let mut cells = keys::<33>();
-    cells[32] = put(16, 2, 40);
-    expect_starts(&rt, &cells, &[1], 33, &[0, 16])?;
-    cells[32] = put(15, 2, 40);
-    expect_starts(&rt, &cells, &[1], 33, &[0, 17])?;
+    // a key in the middle has a second cell: behind half of what a row takes it goes into the
+    // second row, so that both have at most one more than that, and behind one cell fewer into the
+    // first one
+    let half = BUILT / 2;
+    let mut cells = keys::<ONE_MORE>();
+    cells[BUILT] = put(half as u32, 2, 40);
+    expect_starts(&rt, &cells, &[1], ONE_MORE, &[0, half])?;
+    cells[BUILT] = put(half as u32 - 1, 2, 40);
+    expect_starts(&rt, &cells, &[1], ONE_MORE, &[0, half + 1])?;
     // with one key fewer one row takes them all
-    cells[0] = put(15, 2, 40);
-    expect_starts(&rt, &cells, &[1], 32, &[0])
+    cells[0] = put(half as u32 - 1, 2, 40);
+    expect_starts(&rt, &cells, &[1], BUILT, &[0])
 }
+
+// four keys of one cell, and between them three keys of as many cells as a row takes
+const ALONE: usize = 3 * BUILT + 4;
+
+// one version fewer than that
+const ONE_FEWER: usize = BUILT - 1;
 
 #[test]
 fn seven_rows_are_the_most(rt: HostRuntime) -> Result<(), Fail> {
-    // the odd keys have 32 versions and the even ones have one: beside a full row none has room
-    let mut cells = [put(0, 1, 0); 100];
-    let mut needed = [0; 31];
-    for version in 0..31 {
+    // the odd keys have as many versions as a row takes and the even ones have one: beside a full
+    // row none has room
+    let mut cells = [put(0, 1, 0); ALONE];
+    let mut needed = [0; ONE_FEWER];
+    for version in 0..ONE_FEWER {
         needed[version] = version as u64 + 1;
     }
-    for place in 0..100 {
-        let key = place / 33 * 2;
-        cells[place] = match place % 33 {
+    for place in 0..ALONE {
+        let key = place / ONE_MORE * 2;
+        cells[place] = match place % ONE_MORE {
             0 => put(key as u32, 1, 0),
             version => put(key as u32 + 1, version as u64, 0),
         };
     }
-    expect_starts(&rt, &cells, &needed, 100, &[0, 1, 33, 34, 66, 67, 99])
+    let starts = [
+        0,
+        1,
+        BUILT + 1,
+        BUILT + 2,
+        2 * BUILT + 2,
+        2 * BUILT + 3,
+        3 * BUILT + 3,
+    ];
+    expect_starts(&rt, &cells, &needed, ALONE, &starts)
 }

@@ -18,14 +18,17 @@ use kw_words::scan::ScanWord;
 use kw_words::sizes::{CELLS, NUMBER_END, SEATS, SPENT, VERSION_END};
 use kw_words::state::State;
 
+// The product's words are four and three for each seat, and of each of 64 rows five, one for each
+// seat and four for each cell.
 #[test]
 fn tables_have_their_sizes(rt: HostRuntime) {
     let product = Layout::<SEATS, CELLS>::words(64);
     let sizes = [
         (Layout::<8, 64>::words(64), 17_244),
+        (Layout::<16, 128>::words(64), 34_164),
         (Layout::<16, 128>::words(65_536), 34_930_740),
         (Layout::<1, 1>::words(1), 17),
-        (product, 17_244),
+        (product, 4 + 3 * SEATS + 64 * (5 + SEATS + 4 * CELLS)),
     ];
     for (size, wanted) in sizes {
         assert_eq!(rt; size, wanted);
@@ -46,8 +49,38 @@ fn clocks_and_epochs_are_spent_at_their_bound(rt: HostRuntime) {
     );
 }
 
+// Before row 9 stand four words and three for each seat, and nine rows of five words, one for each
+// seat and four for each cell. Of its own words five and one for each seat come before its cells.
 #[test]
 fn words_of_the_product_lie_in_place(rt: HostRuntime) {
+    let row = 4 + 3 * SEATS + 9 * (5 + SEATS + 4 * CELLS);
+    let cell = row + 5 + SEATS + 4 * 37;
+    let places = [
+        (Name::Clock, 0),
+        (Name::Epoch, 1),
+        (Name::Head, 2),
+        (Name::Turn, 3),
+        (Name::Pass(5), 4 + 5),
+        (Name::Scan(5), 4 + SEATS + 5),
+        (Name::Pin(5), 4 + 2 * SEATS + 5),
+        (Name::State(9), row),
+        (Name::Count(9), row + 1),
+        (Name::Least(9), row + 2),
+        (Name::Next(9), row + 3),
+        (Name::First(9), row + 4),
+        (Name::Pend(9, 5), row + 5 + 5),
+        (Name::Key(9, 37), cell),
+        (Name::Value(9, 37), cell + 1),
+        (Name::Version(9, 37), cell + 2),
+        (Name::After(9, 37), cell + 3),
+    ];
+    for (name, place) in places {
+        assert_eq!(rt; Layout::<SEATS, CELLS>::place(64, name), place);
+    }
+}
+
+#[test]
+fn words_of_smaller_rows_lie_in_place(rt: HostRuntime) {
     let places = [
         (Name::Clock, 0),
         (Name::Epoch, 1),
