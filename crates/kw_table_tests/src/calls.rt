@@ -16,6 +16,7 @@ use kw_model::call::{Call, Reply};
 use kw_model::memory::Memory;
 use kw_model::pair_list::PairList;
 use kw_table::{Pass, Shared, make, meet};
+use kw_words::sizes::{SEAT_COUNT, SEATS};
 use kw_world::event::{Choice, StepDone};
 use kw_world::local::Local;
 use std::alloc::Global;
@@ -173,7 +174,7 @@ fn a_pass_counts_the_links_of_rows_that_it_loads(rt: HostRuntime) -> Result<(), 
 
 #[test]
 fn passes_are_numbered(rt: HostRuntime) -> Result<(), Fail> {
-    let (shared, passes) = Shared::open(rt.alloc(), 64, 8, 1, 1)?;
+    let (shared, passes) = Shared::open(rt.alloc(), 64, SEAT_COUNT, 1, 1)?;
     // how many passes have the number of their place
     let mut number = 0;
     for pass in &passes {
@@ -181,6 +182,9 @@ fn passes_are_numbered(rt: HostRuntime) -> Result<(), Fail> {
             number += 1;
         }
     }
-    assert_eq!(rt; (shared.rows(), passes.len(), number), (64, 8, 8));
+    assert_eq!(rt;
+        (shared.rows(), passes.len(), number),
+        (64, SEATS, SEAT_COUNT)
+    );
     Ok(())
 }

@@ -28,6 +28,7 @@ use kw_table::{
     store_version, store_waiting, take_row,
 };
 use kw_words::kind::Kind;
+use kw_words::sizes::{SEAT_COUNT, SEATS};
 use kw_world::activity::Activity;
 use kw_world::event::Choice;
 use kw_world::local::Local;
@@ -440,10 +441,8 @@ const PUT_UNTIL_ITS_STAMP: [(Kind, u64); 9] = [
 
 // A scan from 0 to 9 that comes then. Its scan word waits for the clock 1, which is 5, until it is
 // settled. It finds the put's entry, which is 1 as a pending one of cell 0, and whose key is in its
-// range, and stamps it with the clock 2. The other entries are idle, and the row's list has no cell
-// yet, since the put has not inserted its own: the scan loads the key and the value of the cell
-// that it helped, and ends.
-const SCAN_THAT_HELPS: [(Kind, u64); 23] = [
+// range, and stamps it with the clock 2.
+const SCAN_UNTIL_IT_HELPED: [(Kind, u64); 11] = [
     (Kind::StorePass, 0),
     (Kind::LoadClock, 1),
     (Kind::StoreWaiting, 0),
@@ -455,13 +454,11 @@ const SCAN_THAT_HELPS: [(Kind, u64); 23] = [
     (Kind::LoadKey, 5),
     (Kind::LoadClock, 2),
     (Kind::HelpStamp, 1),
-    (Kind::LoadPend, 0),
-    (Kind::LoadPend, 0),
-    (Kind::LoadPend, 0),
-    (Kind::LoadPend, 0),
-    (Kind::LoadPend, 0),
-    (Kind::LoadPend, 0),
-    (Kind::LoadPend, 0),
+];
+
+// The entries of the other seats are idle, and the row's list has no cell yet, since the put has
+// not inserted its own: the scan loads the key and the value of the cell that it helped, and ends.
+const SCAN_TO_ITS_END: [(Kind, u64); 5] = [
     (Kind::LoadAfter, 0),
     (Kind::LoadKey, 5),
     (Kind::LoadValue, 9223372036854775818),
@@ -490,6 +487,8 @@ fn a_put_and_the_scan_that_helps_it_find_the_words_of_their_kinds(
         (Who::First, Turn::Put(5, 10)),
         (Who::First, Turn::Go(9)),
         (Who::Second, Turn::Scan(0, 9)),
+        (Who::Second, Turn::Go(11)),
+        (Who::Second, Turn::Go(SEAT_COUNT - 1)),
         (Who::Second, Turn::Go(ALL)),
         (Who::First, Turn::Go(ALL)),
     ];
@@ -497,25 +496,20 @@ fn a_put_and_the_scan_that_helps_it_find_the_words_of_their_kinds(
         (0, [(Kind::LoadEpoch, 1)].as_slice()),
         (1, PUT_UNTIL_ITS_STAMP.as_slice()),
         (2, [(Kind::LoadEpoch, 1)].as_slice()),
-        (3, SCAN_THAT_HELPS.as_slice()),
-        (4, PUT_FROM_ITS_STAMP.as_slice()),
+        (3, SCAN_UNTIL_IT_HELPED.as_slice()),
+        (4, [(Kind::LoadPend, 0); SEATS - 1].as_slice()),
+        (5, SCAN_TO_ITS_END.as_slice()),
+        (6, PUT_FROM_ITS_STAMP.as_slice()),
     ];
     Ok(expect_told(&rt, rt.alloc(), &turns, &table)?)
 }
 
-// A get that guesses row 0, whose least key is 0. It finds the entries idle and the put's cell 0 as
-// the list's first, which is 1 as a link, and the key, version and value that the put stored.
-const GET_BY_ITS_GUESS: [(Kind, u64); 14] = [
-    (Kind::LoadLeast, 0),
-    (Kind::LoadLink, 0),
-    (Kind::LoadPend, 0),
-    (Kind::LoadPend, 0),
-    (Kind::LoadPend, 0),
-    (Kind::LoadPend, 0),
-    (Kind::LoadPend, 0),
-    (Kind::LoadPend, 0),
-    (Kind::LoadPend, 0),
-    (Kind::LoadPend, 0),
+// A get that guesses row 0, whose least key is 0. It finds the entries of all seats idle, and then
+// the put's cell 0 as the list's first, which is 1 as a link, and the key, version and value that
+// the put stored.
+const GET_BY_ITS_GUESS: [(Kind, u64); 2] = [(Kind::LoadLeast, 0), (Kind::LoadLink, 0)];
+
+const GET_OF_ITS_CELL: [(Kind, u64); 4] = [
     (Kind::LoadAfter, 1),
     (Kind::LoadKey, 5),
     (Kind::LoadVersion, 1),
@@ -530,11 +524,15 @@ fn a_get_that_guesses_its_row_finds_what_a_put_stored(rt: HostRuntime) -> Result
         (Who::Second, Turn::Get(5)),
         (Who::Second, Turn::Go(1)),
         (Who::Second, Turn::Guess(0)),
-        (Who::Second, Turn::Go(14)),
+        (Who::Second, Turn::Go(2)),
+        (Who::Second, Turn::Go(SEAT_COUNT)),
+        (Who::Second, Turn::Go(4)),
     ];
     let table = [
         (4, [(Kind::LoadState, 2)].as_slice()),
         (5, GET_BY_ITS_GUESS.as_slice()),
+        (6, [(Kind::LoadPend, 0); SEATS].as_slice()),
+        (7, GET_OF_ITS_CELL.as_slice()),
     ];
     Ok(expect_told(&rt, rt.alloc(), &turns, &table)?)
 }
