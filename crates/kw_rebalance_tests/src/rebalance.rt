@@ -15,6 +15,7 @@ use kw_step_rebal::resume::rebalance_resume;
 use kw_step_rebal::step::rebalance_step;
 use kw_words::kind::Kind;
 use kw_words::layout::Name;
+use kw_words::sizes::SEAT_COUNT;
 use kw_world::activity::Activity;
 use kw_world::activity::rebalance::Rebalance;
 use kw_world::activity::rebalance::engage::Engage;
@@ -162,7 +163,7 @@ fn at_a_scan(alloc: Global) -> Local
     ensures part { part_of Choice.Go result ≡ Part.Rebalance }
 {
     let mut local = Local::idle(alloc);
-    local.activity = Activity::Rebalance(Rebalance::Freeze(Freeze::Settle(7)));
+    local.activity = Activity::Rebalance(Rebalance::Freeze(Freeze::Settle(SEAT_COUNT - 1)));
     local.rebalance.waiting = 4;
     local.rebalance.drawn = 6;
     local
@@ -311,7 +312,7 @@ fn the_pass_of_each_seat_is_looked_at(rt: HostRuntime) {
         [
             after_asking(rt.alloc(), Seek::Pass(2), 0),
             after_asking(rt.alloc(), Seek::Pass(2), 7),
-            after_asking(rt.alloc(), Seek::Pass(7), 7)
+            after_asking(rt.alloc(), Seek::Pass(SEAT_COUNT - 1), 7)
         ],
         [
             (seeks(Seek::Pass(3)), 1, 2, 6),
@@ -326,7 +327,7 @@ fn a_pass_up_to_the_number_keeps_the_row_from_use(rt: HostRuntime) {
     assert_eq!(rt;
         [
             after_asking(rt.alloc(), Seek::Pass(2), 6),
-            after_asking(rt.alloc(), Seek::Pass(7), 5)
+            after_asking(rt.alloc(), Seek::Pass(SEAT_COUNT - 1), 5)
         ],
         [(seeks(Seek::Next), 2, 3, 6); 2]
     );
