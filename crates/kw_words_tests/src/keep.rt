@@ -256,21 +256,21 @@ fn a_key_stays_whole(rt: HostRuntime) -> Result<(), Fail> {
 }
 
 // four keys of one cell, and between them three keys of as many cells as a row takes
-const ALONE: usize = 3 * BUILT + 4;
+const OF_SEVEN_ROWS: usize = 3 * BUILT + 4;
 
-// one version fewer than that
+// one version fewer than a row takes cells
 const ONE_FEWER: usize = BUILT - 1;
 
 #[test]
 fn seven_rows_are_the_most(rt: HostRuntime) -> Result<(), Fail> {
     // the odd keys have as many versions as a row takes and the even ones have one: beside a full
     // row none has room
-    let mut cells = [put(0, 1, 0); ALONE];
+    let mut cells = [put(0, 1, 0); OF_SEVEN_ROWS];
     let mut needed = [0; ONE_FEWER];
     for version in 0..ONE_FEWER {
         needed[version] = version as u64 + 1;
     }
-    for place in 0..ALONE {
+    for place in 0..OF_SEVEN_ROWS {
         let key = place / ONE_MORE * 2;
         cells[place] = match place % ONE_MORE {
             0 => put(key as u32, 1, 0),
@@ -286,5 +286,5 @@ fn seven_rows_are_the_most(rt: HostRuntime) -> Result<(), Fail> {
         2 * BUILT + 3,
         3 * BUILT + 3,
     ];
-    expect_starts(&rt, &cells, &needed, ALONE, &starts)
+    expect_starts(&rt, &cells, &needed, OF_SEVEN_ROWS, &starts)
 }
