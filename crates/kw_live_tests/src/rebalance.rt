@@ -1,7 +1,7 @@
 //! Whole puts whose row is full, put together from `rebalance` and the functions of `kw_live`.
 //!
-//! A row has 64 cells, and a new one is built with 32 at most. Of a key that is put again and again
-//! only the newest cell goes into a new row.
+//! A row has `CELLS` cells, and a new one is built with `BUILT` at most. Of a key that is put again
+//! and again only the newest cell goes into a new row.
 ghost use Rattle.std.specs.Prelude.{◌≡◌, ◌<◌, true, false, IfNone, IfSome};
 ghost use Rattle.kw_words.specs.declared.sizes.TheConstants.{VALUE_END};
 ghost use Rattle.kw_core.specs.Stages.{is_put};
@@ -15,7 +15,7 @@ use kw_live::{TryPut, enter, enter_anew, get, leave, locate, try_put};
 use kw_live_rebal::{Rebalanced, rebalance};
 use kw_model::call::{Call, Reply};
 use kw_table::{Pass, Shared};
-use kw_words::sizes::{CELL_COUNT, SPENT};
+use kw_words::sizes::{BUILT_COUNT, CELL_COUNT, CELLS, SPENT};
 use kw_world::activity::Activity;
 use kw_world::activity::rebalance::Rebalance;
 use kw_world::activity::rebalance::engage::Engage;
@@ -93,8 +93,11 @@ fn put<R: Wait + Abort>(
     Some((full, row))
 }
 
-// Puts the values from this one to 200 for key 7, until one of them replaces its row. Its value,
-// and both rows.
+// The cells of a row, as values are counted.
+const ROW: u64 = CELLS as u64;
+
+// Puts the values from this one on for key 7, below the number of cells of three rows, until one of
+// them replaces its row. Its value, and both rows.
 fn put_until_replaced<R: Wait + Abort>(
     rt: &R,
     shared: &Shared,
@@ -111,7 +114,7 @@ fn put_until_replaced<R: Wait + Abort>(
     ensures idle { activity_in pass.new ≡ Activity.Idle }
     ensures rests { local.new ≡ resting 0 }
 {
-    for value in from..201 {
+    for value in from..3 * ROW {
         if let Some(rows) = put(rt, shared, index, hints, pass, local, 7, value) {
             return Some((value, rows));
         }
@@ -173,8 +176,8 @@ fn refusal<R: Wait + Abort>(
     }
 }
 
-// Of the two rows one takes the place of the other. The 65th put is the second one in row 1, and 62
-// more fill that.
+// Of the two rows one takes the place of the other. The put behind those that fill row 0 is the
+// second one in row 1, and two fewer than a row has cells fill that.
 #[test]
 fn a_put_replaces_its_row(rt: HostRuntime) -> Result<(), Fail> {
     let (shared, mut passes) = Shared::open(rt.alloc(), 2, 1, 1, 1)?;
@@ -185,10 +188,18 @@ fn a_put_replaces_its_row(rt: HostRuntime) -> Result<(), Fail> {
     };
     let mut local = Local::idle(rt.alloc());
     let first = put_until_replaced(&rt, &shared, &index, &mut hints, &mut pass, &mut local, 1);
-    let second = put_until_replaced(&rt, &shared, &index, &mut hints, &mut pass, &mut local, 66);
+    let second = put_until_replaced(
+        &rt,
+        &shared,
+        &index,
+        &mut hints,
+        &mut pass,
+        &mut local,
+        ROW + 2,
+    );
     let found = get(&shared, &mut pass, &mut local, 7, None);
-    let replaced = (Some((65, (0, 1))), Some((128, (1, 0))));
-    assert_eq!(rt; ((first, second), found), (replaced, Some(128)));
+    let replaced = (Some((ROW + 1, (0, 1))), Some((2 * ROW, (1, 0))));
+    assert_eq!(rt; ((first, second), found), (replaced, Some(2 * ROW)));
     Ok(())
 }
 
@@ -237,8 +248,8 @@ fn a_row_that_is_not_enough_is_given_back(rt: HostRuntime) -> Result<(), Fail> {
     Ok(())
 }
 
-// With two free rows each gets half of the keys, and the put of a greater key comes to the second
-// one.
+// With two free rows each gets half of the keys, as many as a new row takes, and the put of a
+// greater key comes to the second one. The last key of the first one is found.
 #[test]
 fn a_row_of_many_keys_is_split(rt: HostRuntime) -> Result<(), Fail> {
     let (shared, mut passes) = Shared::open(rt.alloc(), 3, 1, 1, 1)?;
@@ -252,7 +263,7 @@ fn a_row_of_many_keys_is_split(rt: HostRuntime) -> Result<(), Fail> {
     let rows = put(
         &rt, &shared, &index, &mut hints, &mut pass, &mut local, CELL_COUNT, 1,
     );
-    let found = get(&shared, &mut pass, &mut local, 31, None);
+    let found = get(&shared, &mut pass, &mut local, BUILT_COUNT - 1, None);
     assert_eq!(rt; (rows, found), (Some((0, 2)), Some(1)));
     Ok(())
 }
