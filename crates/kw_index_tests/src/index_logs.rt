@@ -5,13 +5,14 @@ use crate::index_edits::{change, entries_of, entry};
 use kw_index::entries::{Entries, IndexEntry};
 use kw_index::log::{CHANGES_BEFORE_RENEWAL, CHANGES_KEPT, Log};
 use kw_model::memory::Memory;
+use kw_words::sizes::SEAT_COUNT;
 use std::alloc::Global;
 use std::test::Fail;
 
-// A renewal is begun while there is room for a change of each of eight callers.
+// A renewal is begun while there is room for a change of each caller, one for each seat.
 #[test]
 fn the_base_is_renewed_before_the_changes_behind_it_are_lost(rt: HostRuntime) {
-    assert!(rt; CHANGES_BEFORE_RENEWAL + 8 <= CHANGES_KEPT);
+    assert!(rt; CHANGES_BEFORE_RENEWAL + SEAT_COUNT <= CHANGES_KEPT);
 }
 
 /// Adds a change, and tells whether the log took it.
