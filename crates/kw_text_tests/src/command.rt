@@ -72,13 +72,13 @@ const fn rollup(bucket: u32, workers: u32, rows: u32) -> Command {
 #[test]
 fn options_that_do_not_stand_have_their_defaults(rt: HostRuntime) -> Result<(), Fail> {
     let table = [
-        ("replay", replay(1, 16_384)),
-        ("replay|--workers|8", replay(8, 16_384)),
+        ("replay", replay(1, 32_768)),
+        ("replay|--workers|16", replay(16, 32_768)),
         ("replay|--rows|64", replay(1, 64)),
         ("simulate", simulate(64, false)),
         ("judge", Command::Judge),
-        ("gen|0|1", generated(0, 1, 1, 16_384)),
-        ("rollup|--bucket|60", rollup(60, 1, 16_384)),
+        ("gen|0|1", generated(0, 1, 1, 32_768)),
+        ("rollup|--bucket|60", rollup(60, 1, 32_768)),
     ];
     Ok(expect_commands(&rt, rt.alloc(), &table)?)
 }
@@ -123,11 +123,11 @@ fn a_flag_stands_before_or_after_an_option(rt: HostRuntime) -> Result<(), Fail> 
 
 #[test]
 fn numbers_reach_to_the_ends_of_their_ranges(rt: HostRuntime) -> Result<(), Fail> {
-    let most = generated(4_294_967_295, 1_000_000, 8, 65_536);
+    let most = generated(4_294_967_295, 1_000_000, 16, 65_536);
     let table = [
-        ("gen|4294967295|1000000|--workers|8|--rows|65536", most),
-        ("rollup|--bucket|1", rollup(1, 1, 16_384)),
-        ("rollup|--bucket|1048576", rollup(1_048_576, 1, 16_384)),
+        ("gen|4294967295|1000000|--workers|16|--rows|65536", most),
+        ("rollup|--bucket|1", rollup(1, 1, 32_768)),
+        ("rollup|--bucket|1048576", rollup(1_048_576, 1, 32_768)),
     ];
     Ok(expect_commands(&rt, rt.alloc(), &table)?)
 }
@@ -156,7 +156,7 @@ const OTHER_WORDS: [&str; 78] = [
     "replay|--workers",
     "replay|--workers|",
     "replay|--workers|0",
-    "replay|--workers|9",
+    "replay|--workers|17",
     "replay|--workers|+1",
     "replay|--workers|-1",
     "replay|--workers| 1",
