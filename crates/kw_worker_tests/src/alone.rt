@@ -76,7 +76,7 @@ fn one_worker_replies_as_the_plain_list_does(rt: HostRuntime) -> Result<(), Fail
         text: String::new(rt.alloc()),
     };
     let mut plain = Plain::new(rt.alloc());
-    for item in &generate(rt.alloc(), 1, 4000)? {
+    for item in &generate(rt.alloc(), 1, 8000)? {
         lines.push(&mut plain, item)?;
     }
     let input = lines.input.as_bytes();
