@@ -2,6 +2,7 @@
 //! an update that is refused changes none.
 use crate::runs::{NO_FAULTS, expect_end, ran};
 use kw_app::outcome::Status;
+use kw_words::sizes::{BUILT_COUNT, CELL_COUNT};
 use std::test::Fail;
 
 const INPUT: &[u8] =
@@ -15,7 +16,7 @@ const TABLES: &[u8] =
 
 #[test]
 fn the_tables_are_the_same_for_any_number_of_workers(rt: HostRuntime) -> Result<(), Fail> {
-    for (case, workers) in ["1", "2", "3", "8"].into_iter().enumerate() {
+    for (case, workers) in ["1", "2", "3", "16"].into_iter().enumerate() {
         let words = [
             "rollup",
             "--bucket",
@@ -32,19 +33,27 @@ fn the_tables_are_the_same_for_any_number_of_workers(rt: HostRuntime) -> Result<
     Ok(())
 }
 
-// Rising keys fill half of each row, so 64 rows of 64 cells take 2,048 of them.
+// Rising keys fill half of each row, but the last one, which is full before it would be split. So
+// 64 rows take this many of them: there are 62 splits, and the next one needs two rows.
+const MOST_KEYS: u32 = CELL_COUNT + 62 * BUILT_COUNT;
+
 #[test]
 fn an_update_that_is_refused_changes_no_table_and_is_counted(rt: HostRuntime) -> Result<(), Fail> {
     let mut input = String::new(rt.alloc());
-    for minute in 1..=2049 {
+    for minute in 1..=MOST_KEYS + 1 {
         write!(input, "put 0 {minute} 1\n")?;
     }
     input.push_str("table\nput 0 1 3\ntable\n")?;
     let words = ["rollup", "--bucket", "1048576", "--rows", "64"];
     let ended = ran(&rt, rt.alloc(), &words, input.as_bytes(), NO_FAULTS)?;
-    let text =
-        b"0 0 count 2048 sum 2048 least 1 greatest 1\nend 1\n0 0 count 2048 sum 2050 least 1 greatest 3\nend 1\n";
-    expect_end(&rt, &ended, Status::Refused, 0, text, 0);
+    let mut text = String::new(rt.alloc());
+    for (sum, greatest) in [(MOST_KEYS, 1), (MOST_KEYS + 2, 3)] {
+        write!(
+            text,
+            "0 0 count {MOST_KEYS} sum {sum} least 1 greatest {greatest}\nend 1\n"
+        )?;
+    }
+    expect_end(&rt, &ended, Status::Refused, 0, text.as_bytes(), 0);
     Ok(())
 }
 
