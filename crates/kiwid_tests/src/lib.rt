@@ -1,10 +1,9 @@
-//! Tests of whole sessions, and of seats that serve them, over streams in memory, by the public
-//! calls of `kiwid` alone. What is expected was worked out by hand.
+//! Tests of whole runs of the server, and of seats that serve sessions, over links in memory and
+//! over TCP, by the public calls of `kiwid` alone. What is expected was worked out by hand.
 //!
-//! `sources` has a source that gives its bytes in pieces of chosen sizes, and `ends` the ends of a
-//! connection whose second line waits for another one; `sessions` and `seats` have the tests. They
-//! stand in a crate of their own, since a crate that has tests is proved twice, with them and
-//! without.
+//! `ends` has the ends of a connection whose second line waits for another one; `seats`, `runs` and
+//! `clients` have the tests. They stand in a crate of their own, since a crate that has tests is
+//! proved twice, with them and without; those of single sessions stand in `kiwid_session_tests`.
 #![tactic(auto)]
 
 #[cfg(test)]
@@ -15,7 +14,3 @@ mod ends;
 mod runs;
 #[cfg(test)]
 mod seats;
-#[cfg(test)]
-mod sessions;
-#[cfg(test)]
-mod sources;

@@ -29,7 +29,7 @@ fn bad_words_bind_nothing(rt: HostRuntime) -> Result<(), Fail> {
         &["0", "1", "1"],
         &["65536", "1", "1"],
         &["4000", "0", "1"],
-        &["4000", "9", "1"],
+        &["4000", "17", "1"],
         &["4000", "1", "0"],
         &["4000", "1", "1000001"],
         &["00000004000", "1", "1"],
@@ -78,14 +78,17 @@ fn links_in_memory_are_served(rt: HostRuntime) -> Result<(), Fail> {
     Ok(())
 }
 
+// One listener is there, and two are asked for, or as many as may be.
 #[test]
 fn a_bind_that_fails_is_told(rt: HostRuntime) -> Result<(), Fail> {
     let alloc = rt.alloc();
-    let words = words_of(alloc, &["4000", "2", "1"])?;
-    let mut binder = binder_of(alloc, &[b"get 5", b"get 5"])?;
-    let end = kiwid_run(&rt, alloc, &words, &mut binder);
-    assert_eq!(rt; end.status, Status::Failed);
-    assert_eq!(rt; end.served.len(), 0);
+    for seats in ["2", "16"] {
+        let words = words_of(alloc, &["4000", seats, "1"])?;
+        let mut binder = binder_of(alloc, &[b"get 5", b"get 5"])?;
+        let end = kiwid_run(&rt, alloc, &words, &mut binder);
+        assert_eq!(rt; end.status, Status::Failed, "with {seats} seats");
+        assert_eq!(rt; end.served.len(), 0, "with {seats} seats");
+    }
     Ok(())
 }
 
