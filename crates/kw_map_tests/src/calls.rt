@@ -8,6 +8,7 @@ ghost use Rattle.kw_map.specs.Kiwi.{IsIdle};
 use crate::gatherers::Roomy;
 use kw_map::{CountGather, Kiwi, Pass, PutEnd, ScanEnd, Stop, SumGather};
 use kw_model::memory::Memory;
+use kw_words::sizes::{BUILT_COUNT, CELL_COUNT};
 use std::alloc::Global;
 use std::sync::Wait;
 use std::test::Fail;
@@ -15,16 +16,19 @@ use std::test::Fail;
 /// The clock and the epoch from which on they are spent.
 const SPENT: u64 = 281474976710656;
 
-/// How many cells a row has.
-const ROW: u32 = 64;
+/// How many puts fill a row that has no cell.
+const ROW: u32 = CELL_COUNT;
+
+/// How many cells each of the two rows is built with that replace a full one of different keys, and
+/// so how many more puts fill each of them.
+const BUILT: u32 = BUILT_COUNT;
+
+/// So many rising keys stand in six rows: from the first one on the last row is filled and split
+/// five times.
+const MANY: u32 = ROW + 4 * BUILT + 8;
 
 /// A map of so many rows, whose clock and epoch begin here, and its one pass.
-pub(crate) fn open_one(
-    alloc: Global,
-    rows: u32,
-    clock: u64,
-    epoch: u64,
-) -> Result<(Kiwi, Pass), Memory>
+fn open_one(alloc: Global, rows: u32, clock: u64, epoch: u64) -> Result<(Kiwi, Pass), Memory>
     requires { IsOpening product
         (record { rows = rows; seats = 1; clock = clock; epoch = epoch }) }
     ensures { IfOk result (λ made. IsIdle made.0 made.1) }
@@ -37,7 +41,7 @@ pub(crate) fn open_one(
 }
 
 /// Puts this value for each key from `from` to below `end`, up to the first refusal.
-pub(crate) fn put_each<R: Wait>(
+fn put_each<R: Wait>(
     rt: &R,
     kiwi: &Kiwi,
     pass: &mut Pass,
@@ -91,7 +95,7 @@ fn delete_each<R: Wait>(
 }
 
 /// The sum of the values of a range.
-pub(crate) fn sum_of(kiwi: &Kiwi, pass: &mut Pass, from: u32, upto: u32) -> Result<u128, ScanEnd>
+fn sum_of(kiwi: &Kiwi, pass: &mut Pass, from: u32, upto: u32) -> Result<u128, ScanEnd>
     requires { IsIdle kiwi.now pass.old }
     ensures { IsIdle kiwi.now pass.new }
 {
@@ -101,7 +105,7 @@ pub(crate) fn sum_of(kiwi: &Kiwi, pass: &mut Pass, from: u32, upto: u32) -> Resu
 }
 
 /// How many keys of a range have a value.
-pub(crate) fn count_of(kiwi: &Kiwi, pass: &mut Pass, from: u32, upto: u32) -> Result<u64, ScanEnd>
+fn count_of(kiwi: &Kiwi, pass: &mut Pass, from: u32, upto: u32) -> Result<u64, ScanEnd>
     requires { IsIdle kiwi.now pass.old }
     ensures { IsIdle kiwi.now pass.new }
 {
@@ -115,22 +119,27 @@ pub(crate) fn count_of(kiwi: &Kiwi, pass: &mut Pass, from: u32, upto: u32) -> Re
 fn a_full_row_is_split(rt: HostRuntime) -> Result<(), Fail> {
     let (kiwi, mut pass) = open_one(rt.alloc(), 64, 1, 1)?;
     let put = put_each(&rt, &kiwi, &mut pass, 0, ROW + 1, 7);
-    let found = [kiwi.get(&mut pass, 0), kiwi.get(&mut pass, 64)];
+    let found = [kiwi.get(&mut pass, 0), kiwi.get(&mut pass, ROW)];
     let all = sum_of(&kiwi, &mut pass, 0, 4294967295);
-    assert_eq!(rt; (put, found, all), (Ok(()), [Some(7), Some(7)], Ok(455)));
+    let sums = [u128::from(7 * ROW + 7), u128::from(7 * ROW)];
+    assert_eq!(rt;
+        (put, found, all),
+        (Ok(()), [Some(7), Some(7)], Ok(sums[0]))
+    );
     let deleted = kiwi.delete(&rt, &mut pass, 1);
     let rest = sum_of(&kiwi, &mut pass, 0, 4294967295);
-    assert_eq!(rt; (deleted, rest), (Ok(()), Ok(448)));
+    assert_eq!(rt; (deleted, rest), (Ok(()), Ok(sums[1])));
     Ok(())
 }
 
-// A row that is full of one key is replaced by one that has its last value: the puts 65, 128 and
-// 191 do so.
+// A row that is full of one key is replaced by one that has its last value. The put after `ROW`
+// ones does so, and then twice another one, each `ROW - 1` puts later.
 #[test]
 fn puts_of_one_key_never_end(rt: HostRuntime) -> Result<(), Fail> {
     let (kiwi, mut pass) = open_one(rt.alloc(), 64, 1, 1)?;
-    let put = put_again(&rt, &kiwi, &mut pass, 7, 1, 201);
-    assert_eq!(rt; (put, kiwi.get(&mut pass, 7)), (Ok(()), Some(200)));
+    let put = put_again(&rt, &kiwi, &mut pass, 7, 1, 3 * ROW + 9);
+    let last = u64::from(3 * ROW + 8);
+    assert_eq!(rt; (put, kiwi.get(&mut pass, 7)), (Ok(()), Some(last)));
     Ok(())
 }
 
@@ -143,29 +152,31 @@ fn a_delete_is_refused_at_a_full_row_no_more(rt: HostRuntime) -> Result<(), Fail
     assert_eq!(rt; (put, deleted), (Ok(()), Ok(())));
     let found = kiwi.get(&mut pass, 1);
     let rest = sum_of(&kiwi, &mut pass, 0, 4294967295);
-    assert_eq!(rt; (found, rest), (None, Ok(441)));
+    assert_eq!(rt; (found, rest), (None, Ok(u128::from(7 * ROW - 7))));
     Ok(())
 }
 
-// After 62 splits 63 of the 64 rows are live, and the next split needs two. Whoever asks for no new
-// row is not refused.
+// Puts that fill the first row, and then 62 rows that were built, make 62 splits. So 63 of the 64
+// rows are live, the last one is full, and its split needs two. Whoever asks for no new row is not
+// refused.
 #[test]
 fn no_rows_are_left(rt: HostRuntime) -> Result<(), Fail> {
     let (kiwi, mut pass) = open_one(rt.alloc(), 64, 1, 1)?;
-    let put = put_each(&rt, &kiwi, &mut pass, 1, 2049, 1);
+    let keys = ROW + 62 * BUILT;
+    let put = put_each(&rt, &kiwi, &mut pass, 1, keys + 1, 1);
     let more = [
-        kiwi.put(&rt, &mut pass, 2049, 1),
-        kiwi.put(&rt, &mut pass, 2049, 1),
+        kiwi.put(&rt, &mut pass, keys + 1, 1),
+        kiwi.put(&rt, &mut pass, keys + 1, 1),
     ];
     assert_eq!(rt;
         (put, more),
         (Ok(()), [Err(PutEnd::NoRows), Err(PutEnd::NoRows)])
     );
-    let found = kiwi.get(&mut pass, 2048);
+    let found = kiwi.get(&mut pass, keys);
     let count = count_of(&kiwi, &mut pass, 0, 4294967295);
-    assert_eq!(rt; (found, count), (Some(1), Ok(2048)));
+    assert_eq!(rt; (found, count), (Some(1), Ok(u64::from(keys))));
     let deleted = [
-        kiwi.delete(&rt, &mut pass, 2049),
+        kiwi.delete(&rt, &mut pass, keys + 1),
         kiwi.delete(&rt, &mut pass, 5),
     ];
     let found = kiwi.get(&mut pass, 5);
@@ -173,51 +184,53 @@ fn no_rows_are_left(rt: HostRuntime) -> Result<(), Fail> {
     Ok(())
 }
 
-// In a table of three rows the keys from 0 to 31 stand in one row, and those from 32 to 64 in the
-// next. With 31 deletes that one is full, and the put of 33 replaces it by one of three cells, of
-// 32 and 33. With 31 deletes and a put the first one is full, and the next put of 0 takes its small
-// neighbour along: one row has the three keys, in four cells. So 60 more keys fit in it, and the
-// 61st splits it. That needs two rows, and both others are free by then: had the full row gone
-// alone, one would be, and the last put would be refused.
+// In a table of three rows the keys below `BUILT` stand in one row, and those from `BUILT` to `ROW`
+// in the next. With `BUILT - 1` deletes that one is full, and the put of `BUILT + 1` replaces it by
+// one of three cells, of `BUILT` and `BUILT + 1`. With as many deletes and a put the first one is
+// full, and the next put of 0 takes its small neighbour along: one row has the three keys, in four
+// cells. So `ROW - 4` more keys fit in it, and the next one splits it. That needs two rows, and
+// both others are free by then. Had the full row gone alone, one would be: its neighbour, of three
+// cells, would be full one key later, and the last put would be refused.
 #[test]
 fn a_full_row_takes_its_small_neighbour_along(rt: HostRuntime) -> Result<(), Fail> {
     let (kiwi, mut pass) = open_one(rt.alloc(), 3, 1, 1)?;
     let made = [
         put_each(&rt, &kiwi, &mut pass, 0, ROW + 1, 1),
-        delete_each(&rt, &kiwi, &mut pass, 34, ROW + 1),
-        kiwi.put(&rt, &mut pass, 33, 2),
-        delete_each(&rt, &kiwi, &mut pass, 1, 32),
+        delete_each(&rt, &kiwi, &mut pass, BUILT + 2, ROW + 1),
+        kiwi.put(&rt, &mut pass, BUILT + 1, 2),
+        delete_each(&rt, &kiwi, &mut pass, 1, BUILT),
         put_again(&rt, &kiwi, &mut pass, 0, 2, 4),
     ];
     let together = (
         sum_of(&kiwi, &mut pass, 0, 4294967295),
         count_of(&kiwi, &mut pass, 0, 4294967295),
     );
-    let more = put_each(&rt, &kiwi, &mut pass, 100, 161, 10);
+    let more = put_each(&rt, &kiwi, &mut pass, 2 * ROW, 3 * ROW - 2, 10);
     let all = sum_of(&kiwi, &mut pass, 0, 4294967295);
+    let sum = u128::from(10 * (ROW - 2) + 6);
     assert_eq!(rt;
         (made, together, (more, all)),
-        ([Ok(()); 5], (Ok(6), Ok(3)), (Ok(()), Ok(616)))
+        ([Ok(()); 5], (Ok(6), Ok(3)), (Ok(()), Ok(sum)))
     );
     let found = [
         kiwi.get(&mut pass, 0),
-        kiwi.get(&mut pass, 31),
-        kiwi.get(&mut pass, 32),
-        kiwi.get(&mut pass, 33),
-        kiwi.get(&mut pass, 34),
+        kiwi.get(&mut pass, BUILT - 1),
+        kiwi.get(&mut pass, BUILT),
+        kiwi.get(&mut pass, BUILT + 1),
+        kiwi.get(&mut pass, BUILT + 2),
     ];
     assert_eq!(rt; found, [Some(3), None, Some(1), Some(2), None]);
     Ok(())
 }
 
-// In a row that no other follows, and in one that others follow: a new row has at most 32 keys, so
-// the 41st pair, which there is no room for, stands in a later row than the first one, and others
+// In a row that no other follows, and in one that others follow: a new row has at most `BUILT`
+// keys, so the pair that there is no room for stands in a later row than the first one, and others
 // come after it.
 #[test]
 fn a_scan_stops_where_the_gatherer_stops(rt: HostRuntime) -> Result<(), Fail> {
     for (first, end, upto, room, last, greatest) in [
         (10, 15, 100, 3, 12, 14),
-        (0, 200, 199, 40, 39, 199),
+        (0, MANY, MANY - 1, BUILT + 8, BUILT + 7, MANY - 1),
     ] {
         let (kiwi, mut pass) = open_one(rt.alloc(), 64, 1, 1)?;
         let put = put_each(&rt, &kiwi, &mut pass, first, end, 1);
@@ -231,38 +244,43 @@ fn a_scan_stops_where_the_gatherer_stops(rt: HostRuntime) -> Result<(), Fail> {
     Ok(())
 }
 
-// 200 keys in several rows, of which 40 have a second value, 3, and one of these was deleted. Of
-// the 171 keys of the range 131 have 1 and 39 have 3.
+// Keys in several rows, of which 40 have a second value, 3, and one of these was deleted. Of the
+// `MANY - 29` keys of the range 39 have 3, and the others but the deleted one have 1.
 #[test]
 fn a_scan_over_rows_takes_each_key_as_it_is_last(rt: HostRuntime) -> Result<(), Fail> {
     let (kiwi, mut pass) = open_one(rt.alloc(), 64, 1, 1)?;
     let made = [
-        put_each(&rt, &kiwi, &mut pass, 0, 200, 1),
-        put_each(&rt, &kiwi, &mut pass, 50, 90, 3),
-        kiwi.delete(&rt, &mut pass, 60),
+        put_each(&rt, &kiwi, &mut pass, 0, MANY, 1),
+        put_each(&rt, &kiwi, &mut pass, ROW - 14, ROW + 26, 3),
+        kiwi.delete(&rt, &mut pass, ROW - 4),
     ];
-    let sum = sum_of(&kiwi, &mut pass, 10, 180);
-    let count = count_of(&kiwi, &mut pass, 10, 180);
-    assert_eq!(rt;
-        (made, sum, count),
-        ([Ok(()), Ok(()), Ok(())], Ok(248), Ok(170))
+    let sum = sum_of(&kiwi, &mut pass, 10, MANY - 20);
+    let count = count_of(&kiwi, &mut pass, 10, MANY - 20);
+    let (ones, threes) = (MANY - 69, 39);
+    let wanted = (
+        Ok(u128::from(ones + 3 * threes)),
+        Ok(u64::from(ones + threes)),
     );
+    assert_eq!(rt; (made, (sum, count)), ([Ok(()), Ok(()), Ok(())], wanted));
     Ok(())
 }
 
 // Clock and epoch begin at their end or one before it. One before its end the clock serves one
 // scan, and the epoch one replacement of a row. A put needs neither as long as its row has room: a
-// row has room for 64 puts, and one that is replaced for 63 more of the same key.
+// row has room for `ROW` puts, and one that is replaced for `ROW - 1` more of the same key. Their
+// values count on from 50.
 #[test]
 fn counters_at_their_end_refuse_only_what_needs_them(rt: HostRuntime) -> Result<(), Fail> {
     let spent = Err(ScanEnd::Spent);
+    let (once, twice) = (50 + ROW, 49 + 2 * ROW);
+    let (last_once, last_twice) = (u128::from(once - 1), u128::from(twice - 1));
     for (clock, epoch, before, first_refused, after) in [
-        (SPENT, 1, spent, 114, spent),
-        (SPENT - 1, 1, Ok(0), 114, spent),
-        (1, SPENT, Ok(0), 114, Ok(113)),
-        (1, SPENT - 1, Ok(0), 177, Ok(176)),
-        (SPENT - 1, SPENT - 1, Ok(0), 114, spent),
-        (SPENT, SPENT, spent, 114, spent),
+        (SPENT, 1, spent, once, spent),
+        (SPENT - 1, 1, Ok(0), once, spent),
+        (1, SPENT, Ok(0), once, Ok(last_once)),
+        (1, SPENT - 1, Ok(0), twice, Ok(last_twice)),
+        (SPENT - 1, SPENT - 1, Ok(0), once, spent),
+        (SPENT, SPENT, spent, once, spent),
     ] {
         assert!(rt; 1 <= clock && clock <= SPENT && 1 <= epoch && epoch <= SPENT);
         let (kiwi, mut pass) = open_one(rt.alloc(), 64, clock, epoch)?;

@@ -3,9 +3,10 @@ ghost use Rattle.std.specs.Prelude.{◌<◌, All, IfOk};
 ghost use Rattle.kw_words.specs.declared.sizes.TheConstants.{VALUE_END};
 ghost use Rattle.kw_map.specs.Kiwi.{IsIdle};
 
-use crate::calls::{count_of, put_each, sum_of};
+use crate::passes::{count_of, put_each, sum_of};
 use kw_map::{Kiwi, Pass, PutEnd, SumGather};
 use kw_model::memory::Memory;
+use kw_words::sizes::{BUILT_COUNT, SEAT_COUNT};
 use std::alloc::Global;
 use std::sync::Wait;
 use std::sync::atomic::{AtomicBool, Ordering};
@@ -93,6 +94,12 @@ fn what_two_threads_put_is_one_map(rt: HostRuntime) -> Result<(), Fail> {
 /// How often all keys are summed.
 const SUMS: u32 = 50;
 
+/// How many keys each of two threads puts: they split some thirty rows.
+const EACH: u32 = 32 * BUILT_COUNT;
+
+/// The first key of the second thread.
+const SECOND: u32 = 2 * EACH;
+
 /// A map of 16,384 rows, and its three passes.
 fn open_three(alloc: Global) -> Result<(Kiwi, Pass, Pass, Pass), Memory>
     ensures { IfOk result (λ made. IsIdle made.0 made.1 × IsIdle made.0 made.2 × IsIdle made.0 made.3) }
@@ -114,15 +121,15 @@ fn sum_often(kiwi: &Kiwi, pass: Pass) -> (Pass, bool)
     let mut fell = false;
     for _ in 0..SUMS {
         let mut sum = SumGather::new();
-        let told = kiwi.scan(&mut pass, 0, 20_000, &mut sum);
+        let told = kiwi.scan(&mut pass, 0, SECOND + EACH, &mut sum);
         fell = fell || told.is_err() || sum.total() < last;
         last = sum.total();
     }
     (pass, fell)
 }
 
-/// Puts this value for a thousand keys from this one on.
-fn put_thousand<R: Wait>(
+/// Puts this value for `EACH` keys from this one on.
+fn put_part<R: Wait>(
     rt: &R,
     kiwi: &Kiwi,
     pass: Pass,
@@ -134,11 +141,11 @@ fn put_thousand<R: Wait>(
     ensures { IsIdle kiwi.now result.0 }
 {
     let mut pass = pass;
-    let told = put_each(rt, kiwi, &mut pass, from, from.saturating_add(1_000), value);
+    let told = put_each(rt, kiwi, &mut pass, from, from.saturating_add(EACH), value);
     (pass, told)
 }
 
-/// Two threads put a thousand keys each. Gives their passes, and whether all was put.
+/// Two threads put `EACH` keys each. Gives their passes, and whether all was put.
 fn put_both<R: Threads + Wait + Sync>(
     rt: &R,
     kiwi: &Kiwi,
@@ -151,8 +158,8 @@ fn put_both<R: Threads + Wait + Sync>(
 {
     let ((first, low), (second, high)) = thread::join(
         rt,
-        || put_thousand(rt, kiwi, first, 0, 1),
-        || put_thousand(rt, kiwi, second, 10_000, 2),
+        || put_part(rt, kiwi, first, 0, 1),
+        || put_part(rt, kiwi, second, SECOND, 2),
     );
     (first, second, low.is_ok() && high.is_ok())
 }
@@ -168,8 +175,8 @@ fn sums_never_fall_while_two_put(rt: HostRuntime) -> Result<(), Fail> {
     );
     kiwi.meet(&mut third, &mut first);
     kiwi.meet(&mut third, &mut second);
-    let sum = sum_of(&kiwi, &mut third, 0, 20_000);
-    assert_eq!(rt; (put, fell, sum), (true, false, Ok(3_000)));
+    let sum = sum_of(&kiwi, &mut third, 0, SECOND + EACH);
+    assert_eq!(rt; (put, fell, sum), (true, false, Ok(u128::from(3 * EACH))));
     Ok(())
 }
 
@@ -179,11 +186,12 @@ const PUTS: u32 = 500;
 /// The keys that all threads put.
 const KEYS: u32 = 16;
 
-/// A map of 64 rows, seven passes for threads, and one that reads.
-fn open_eight(alloc: Global) -> Result<(Kiwi, Vec<Pass>, Pass), Memory>
+/// A map of 64 rows, with as many passes as there are seats: one that reads, and the others for
+/// threads.
+fn open_all(alloc: Global) -> Result<(Kiwi, Vec<Pass>, Pass), Memory>
     ensures { IfOk result (λ made. All (IsIdle made.0) made.1.items × IsIdle made.0 made.2) }
 {
-    let (kiwi, mut passes) = Kiwi::open(alloc, 64, 8)?;
+    let (kiwi, mut passes) = Kiwi::open(alloc, 64, SEAT_COUNT)?;
     let Some(reader) = passes.pop() else {
         unreachable!()
     };
@@ -204,8 +212,8 @@ fn put_in_turn<R: Wait>(rt: &R, kiwi: &Kiwi, pass: Pass) -> Result<(), PutEnd>
 // One row is replaced all the time. Whichever thread was last at a key, it put the same value there
 // last.
 #[test]
-fn seven_put_the_same_keys(rt: HostRuntime) -> Result<(), Fail> {
-    let (kiwi, passes, mut reader) = open_eight(rt.alloc())?;
+fn all_seats_but_one_put_the_same_keys(rt: HostRuntime) -> Result<(), Fail> {
+    let (kiwi, passes, mut reader) = open_all(rt.alloc())?;
     let job = &|pass: Pass|
         requires { IsIdle kiwi pass }
     { put_in_turn(&rt, &kiwi, pass) };
