@@ -10,13 +10,14 @@ ghost use Rattle.kw_words.specs.declared.sizes.TheConstants.{CELLS};
 
 use crate::shared::Shared;
 use kw_words::layout::Name;
-use kw_words::plain::{unpack_cell_link, unpack_key, unpack_value};
+use kw_words::plain::{unpack_built, unpack_cell_link, unpack_key, unpack_value};
 use kw_words::sizes::CELL_COUNT;
 use kw_words::state::State;
 use kw_world::limits::TIDY_SHARE;
 
-/// At each so many-th cell of a row a delete asks whether the row is to be tidied: so many puts and
-/// deletes stand against each tidying of a row.
+/// At each so many-th cell of a row a delete asks whether the row is to be tidied, and at so many
+/// first ones behind those that the row was built with: so many puts and deletes stand against each
+/// tidying of a row, or a rebalance of it.
 pub const TIDY_EACH: u32 = 8;
 
 /// A row with more keys than this that have a value is not tidied. They are fewer than the cells
@@ -36,8 +37,8 @@ impl Shared {
     /// there may well tidy the row. Its search for a free row would begin at the row `free`.
     #[inline]
     pub fn pays_to_tidy(&self, row: u32, cell: u32, epoch: u64, free: u32) -> bool {
-        cell % TIDY_EACH == TIDY_EACH - 1
-            && u64::from(self.opening.rows) < u64::from(TIDY_SHARE).saturating_mul(epoch)
+        u64::from(self.opening.rows) < u64::from(TIDY_SHARE).saturating_mul(epoch)
+            && self.is_asked_at(row, cell)
             && self.has_small_pair(row, epoch, free)
     }
 
@@ -52,6 +53,15 @@ impl Shared {
             }
         }
         in_use
+    }
+
+    // Whether a delete that was given this cell asks: at each so many-th cell, and at as many of
+    // the first that are given after the row was built. A row may be built full of deleted keys,
+    // which scans that are on still need, and of few others: no cell but these is given in it then.
+    fn is_asked_at(&self, row: u32, cell: u32) -> bool {
+        cell % TIDY_EACH == TIDY_EACH - 1
+            || row < self.opening.rows
+                && cell < unpack_built(self.peek(Name::Least(row))).saturating_add(TIDY_EACH)
     }
 
     // Whether the row has few keys; it and the one after it are in use, and nobody rebalances them
@@ -91,20 +101,33 @@ impl Shared {
         State::unpack(self.peek(Name::State(row))) == Some(State::Normal)
     }
 
-    // Whether one of the first rows from this one on is free, or was retired before a visit of this
-    // epoch began. Where a search finds no row, the tidied row and the one after it are left
-    // frozen, and the next put there is refused though it had room. So it is asked before. Others
-    // may take the row meanwhile, or still have a visit on that began before it went: then the
-    // search goes on, and most often finds another.
+    // Whether one of the first rows from this one on may be taken; behind the last row of the table
+    // comes the first one, as in a search. Where a search finds no row, the tidied row and the one
+    // after it are left frozen, and the next put there is refused though it had room. So it is
+    // asked before. Others may take the row meanwhile, or still have a visit on that began before
+    // it went: then the search goes on, and most often finds another.
     fn finds_free(&self, free: u32, epoch: u64) -> bool {
-        for row in free..free.saturating_add(TIDY_LOOKS).min(self.opening.rows) {
-            match State::unpack(self.peek(Name::State(row))) {
-                Some(State::Free) => return true,
-                Some(State::Retired(number)) if number < epoch => return true,
-                _ => {}
+        let mut row = free;
+        for _ in 0..TIDY_LOOKS {
+            if self.may_take(row, epoch) {
+                return true;
+            }
+            row = row.saturating_add(1);
+            if row >= self.opening.rows {
+                row = 0;
             }
         }
         false
+    }
+
+    // Whether the row is one of the table, and free or retired before a visit of this epoch began.
+    fn may_take(&self, row: u32, epoch: u64) -> bool {
+        row < self.opening.rows
+            && match State::unpack(self.peek(Name::State(row))) {
+                Some(State::Free) => true,
+                Some(State::Retired(number)) => number < epoch,
+                _ => false,
+            }
     }
 
     // Whether the row's list shows few keys that have a value. It is by rising key, and of each key
