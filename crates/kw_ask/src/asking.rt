@@ -11,7 +11,7 @@ ghost use Rattle.kw_line.specs.Line.{FitsCall, IsCallOf};
 ghost use Rattle.kw_follow.specs.Calling.{Calls};
 ghost use Rattle.kw_follow.specs.Following.{GoesTo};
 ghost use Rattle.kw_map.specs.Kiwi.{IsIdle};
-ghost use Rattle.kw_ask.specs.Asking.{LineAnswered};
+ghost use Rattle.kw_ask.specs.Asking.{HasCause, LineAnswered};
 
 use kw_line::answer::{Answer, number_or_nothing};
 use kw_line::item::Form;
@@ -27,8 +27,11 @@ use std::sync::Wait;
 /// Makes this call, as a line of this form asks for it, and gives the line's answer.
 ///
 /// The call is one of the form, and its numbers are in range. The pass is one of this map and idle,
-/// as it is afterwards. The only error is the want of memory, and it comes only at a line that
-/// lists pairs; its call was made and has ended, and its reply is that it was stopped.
+/// as it is afterwards. `NoRows` comes only where the last search of this call asked for each row
+/// of the map and took too few, and `Spent` only where a load of this call found the clock or the
+/// epoch at `SPENT` or above. The only error is the want of memory, and it comes only at a line
+/// that lists pairs; its call was made and has ended, and its reply is that it was stopped.
+#[tactic(auto, using(crate::proofs::Causes::has_cause))]
 pub fn ask<R: Wait>(
     rt: &R,
     alloc: Global,
@@ -42,6 +45,7 @@ pub fn ask<R: Wait>(
     ensures idle { IsIdle kiwi.now pass.new }
     ensures goes { GoesTo kiwi.now pass.old pass.new }
     ensures answers { IfOk result (λ answer. LineAnswered pass.old pass.new call form answer) }
+    ensures cause { IfOk result (λ answer. HasCause pass.old pass.new call form answer) }
     ensures stopped { OnErr result (Calls pass.old pass.new call reply.Stopped) }
     ensures lists { OnErr result (form ≡ Form.List) }
 {
