@@ -6,7 +6,7 @@
   tools/compare_keep.py 10000 --model FILE
       a Python file with the same `Cell`, `keep` and `even_rows`
 
-A list has up to 128 cells of few or many keys and up to 31 needed versions. Half of them stand in
+A list has up to 256 cells of few or many keys and up to 63 needed versions. Half of them stand in
 the order of a row's list, as a rebalance gives them, the others in any. A program of one crate,
 which is made in a folder of its own beside copies of kw_cells and what it stands on, answers the
 lists under `rt try`, so nothing is proved here. The last line says how many agreed; the status is 1
@@ -23,8 +23,11 @@ import tempfile
 from pathlib import Path
 from typing import NamedTuple
 
+from simulator.words import BUILT, CELLS
+
 TOP = Path(__file__).resolve().parent.parent
-GATHERED, BUILT = 128, 32
+# A rebalance gathers the cells of two rows at most.
+GATHERED = 2 * CELLS
 LISTS_A_CASE = 50
 PROGRAM = """//! Answers lists of cells: what a rebuild keeps of them, and where its rows start.
 #![tactic(auto)]
@@ -119,12 +122,12 @@ def even_rows(kept, built):
 
 
 def random_list(rng):
-    keys = rng.choice((1, 2, 5, 20, 60, 2**32))
+    keys = rng.choice((1, 2, 5, 20, CELLS, 2**32))
     versions = rng.choice((2, 12, 40, 2**49, 2**64))
-    places = rng.choice((2, 64, 2**32))
+    places = rng.choice((2, CELLS, 2**32))
     tombstones = rng.choice((0.0, 0.2, 0.6))
     cells = {}
-    for _ in range(rng.choice((0, 3, 33, 100, GATHERED, rng.randrange(GATHERED + 1)))):
+    for _ in range(rng.choice((0, 3, BUILT + 1, 3 * BUILT, GATHERED, rng.randrange(GATHERED + 1)))):
         key, version, place = (rng.randrange(most) for most in (keys, versions, places))
         value = None if rng.random() < tombstones else rng.randrange(2**63)
         cells[key, version, place] = Cell(key, version, place, value)

@@ -8,15 +8,15 @@
       another program, and another maker of scripts
   tools/compare_record.py --folder FOLDER
       each file of a folder is a script
-  tools/compare_record.py .. --without 'until [0-7] (KIND|KIND)'
+  tools/compare_record.py .. --without 'until [0-9]+ (KIND|KIND)'
       lines of scripts that are left out
   tools/compare_record.py .. --program 'COMMAND' --judge 'COMMAND'
       in place of `./kiwi simulate --record` and `./kiwi judge`
 
 The other program writes the record of a script on standard input as `simulate --record` does
-(docs/SCRIPTS.md), on the same event table with the same sizes (8 seats, 64 cells a row); it is
-written apart from this one. Both records must be the same byte for byte, and the statuses too. Each
-record that is written is then judged, and the verdict must be `yes`, with status 0. A command of
+(docs/SCRIPTS.md), on the same event table with the same sizes (16 seats, 128 cells a row); it
+is written apart from this one. Both records must be the same byte for byte, and the statuses too.
+Each record that is written is then judged, and the verdict must be `yes`, with status 0. A command of
 --scripts writes a script to standard output, and {seed} in it is the seed. The last line says how
 many agreed; the status is 1 where one did not, or where a script could not be had."""
 

@@ -8,13 +8,13 @@
       another program, and another maker of scripts
   tools/compare_simulate.py --folder FOLDER
       each file of a folder is a script
-  tools/compare_simulate.py .. --without 'until [0-7] (KIND|KIND)'
+  tools/compare_simulate.py .. --without 'until [0-9]+ (KIND|KIND)'
       lines of scripts that are left out
   tools/compare_simulate.py .. --program 'COMMAND'
       in place of `./kiwi simulate`
 
-The other program is a simulator of the same event table with the same sizes (8 seats, 64 cells a
-row), written apart from this one: it reads a script on standard input, prints a line as each call
+The other program is a simulator of the same event table with the same sizes (16 seats, 128 cells
+a row), written apart from this one: it reads a script on standard input, prints a line as each call
 ends and then the order line, and ends with status 0, or with 3 at a bad script (docs/SCRIPTS.md).
 Both programs get a script on standard input. Their outputs must be the same byte for byte, and
 their statuses too. A command of --scripts writes a script to standard output, and {seed} in it is

@@ -18,10 +18,10 @@ use std::sync::Barrier;
 use std::thread;
 use std::time::{Duration, Instant};
 
-const SEATS: usize = 8;
-const CELLS: usize = 64;
+const SEATS: usize = 16;
+const CELLS: usize = 128;
 /// How many cells of a row are filled when it is built.
-const BUILT: usize = 32;
+const BUILT: usize = 64;
 /// What the number of built cells is multiplied by in the word of a least key.
 const BUILT_UNIT: u64 = 1 << 32;
 

@@ -25,7 +25,7 @@ PAGES = (TOP / "docs" / "PERFORMANCE.md", TOP / "README.md")
 COLUMNS = ("table", "map", "what", "of", "round", "figure")
 THREADS = (1, 2, 4)
 # How many cells a row has, and with how many it is built.
-CELLS, BUILT = 64, 32
+CELLS, BUILT = 128, 64
 # The keys that a map holds whose rows were filled by rising keys, for so many rows.
 FILLED = {rows: rows * BUILT for rows in (1_024, 4_096, 16_384)}
 # What begins a line on a map of many rows, by the program that prints it and by the map.

@@ -22,6 +22,8 @@ use std::{env, thread};
 
 const KEYS: u32 = 65_536;
 const SUMMED: u32 = 1_000;
+/// With how many keys rising ones fill each row of a map of rows.
+const BUILT: u32 = 64;
 /// A sum takes as long as many puts, so one is made where so many puts are.
 const PUTS_A_SUM: u32 = 10;
 const INPUT_BYTES: usize = 16 << 20;
@@ -157,7 +159,7 @@ fn print_fill<M: Map>(name: &str, word: &str, mut map: M, key: fn(u32) -> u32, c
     print!("{name:<7}{word:<8}");
     let mut put = |from: u32, to: u32| timed(|| (from..to.min(calls)).for_each(|number| map.put(key(number), 1)));
     let (mut begun, mut took) = (0, 0);
-    for keys in [1_024, 4_096, 16_384].map(|rows| rows * 32) {
+    for keys in [1_024, 4_096, 16_384].map(|rows| rows * BUILT) {
         let start = keys - keys / 4;
         took += put(begun, start);
         let last = put(start, keys);

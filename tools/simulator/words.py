@@ -6,7 +6,7 @@ from enum import Enum
 from typing import Callable, NamedTuple, Optional
 
 # How many seats there are, how many cells a row has, and how many of a new row are filled.
-SEATS, CELLS, BUILT = 8, 64, 32
+SEATS, CELLS, BUILT = 16, 128, 64
 # From this clock or epoch on nothing begins that would raise it.
 SPENT = 2**48
 # A full row takes the row after it along where that has given no more cells than this.
