@@ -52,17 +52,18 @@ REFUSED = b"done 0.1 0 5 put 5 10: no rows\ndone 0.2 6 9 get 5: none\norder 0.1 
 
 # A get that has announced its epoch and stands still, beside puts of one key: each full row is
 # replaced by another, and none that was retired is used again, so that rows run out. Once the get
-# has left, one is, and the put is done. The first `until` gives up after 100,000 steps, in the
-# 3,848th put.
+# has left, one is, and the put is done. The first two `until` give up after 100,000 steps each, in
+# the 4,019th put and in the 7,936th.
 STILL = (
-    b"call 0 get 5\nuntil 0 load_head\nputs 1 4034 5 9\nuntil 1 reclaim\nuntil 1 reclaim\ngo 0 1000\n"
-    b"call 1 put 5 9\nuntil 1 reclaim\ngo 1 100000\n"
+    b"call 0 get 5\nuntil 0 load_head\nputs 1 8130 5 9\nuntil 1 reclaim\nuntil 1 reclaim\nuntil 1 reclaim\n"
+    b"go 0 1000\ncall 1 put 5 9\nuntil 1 reclaim\ngo 1 100000\n"
 )
-STILL_LINES = [b"1.%d put 5 9: ok" % number for number in range(1, 4034)]
-STILL_LINES[3847:3847] = [b"missed"]
-STILL_LINES += [b"1.4034 put 5 9: no rows", b"missed", b"0.1 get 5: 9", b"1.4035 put 5 9: ok"]
-STILL_NAMES = [b"1.%d" % number for number in range(1, 4036)]
-STILL_NAMES[64:64] = [b"0.1"]
+STILL_LINES = [b"1.%d put 5 9: ok" % number for number in range(1, 8130)]
+for number in (7935, 4018):
+    STILL_LINES[number:number] = [b"missed"]
+STILL_LINES += [b"1.8130 put 5 9: no rows", b"missed", b"0.1 get 5: 9", b"1.8131 put 5 9: ok"]
+STILL_NAMES = [b"1.%d" % number for number in range(1, 8132)]
+STILL_NAMES[128:128] = [b"0.1"]
 STILL_PRINTED = b"\n".join([*STILL_LINES, b" ".join([b"order", *STILL_NAMES]), b""])
 
 # Lines of `replay`: each form of a range; three of the greatest values and their sum; keys put out
@@ -71,19 +72,19 @@ STILL_PRINTED = b"\n".join([*STILL_LINES, b" ".join([b"order", *STILL_NAMES]), b
 RANGES = b"sum 1 3\ncount 1 3\nleast 1 3\ngreatest 1 3\nlist 1 3\n"
 GREATEST = b"".join(b"put %d 9223372036854775807\n" % key for key in (0, 7, 4294967295)) + b"sum 0 4294967295\n"
 PAIRS = b"put 9 90\nput 4294967295 1\nput 3 30\nput 7 70\nput 0 5\nput 7 71\nlist 0 4294967295\nlist 3 7\nlist 9 3\n"
-ONE = b"".join(b"put 7 %d\n" % value for value in range(1, 201)) + b"get 7\n"
-MANY = b"".join(b"put %d %d\n" % (key, key) for key in range(1, 66)) + b"sum 1 65\nlist 1 65\n"
-ALL = b" ".join(b"%d=%d" % (key, key) for key in range(1, 66))
+ONE = b"".join(b"put 7 %d\n" % value for value in range(1, 401)) + b"get 7\n"
+MANY = b"".join(b"put %d %d\n" % (key, key) for key in range(1, 130)) + b"sum 1 129\nlist 1 129\n"
+ALL = b" ".join(b"%d=%d" % (key, key) for key in range(1, 130))
 
 # More puts of one key than all rows of a small map have cells. Rising keys, which fill half of each
 # row but the last, on a map whose rows run out; and lines behind them, of which those are refused
 # that would have to go into a row that is full.
 AGAIN = b"".join(b"put 7 %d\n" % value for value in range(1, 10001)) + b"get 7\n"
-RISING = b"".join(b"put %d %d\n" % (key, key) for key in range(1, 2050))
-RISING_PRINTED = 2048 * b"ok\n" + b"no rows\n"
-LATER = b"get 2049\nput 1 5\nget 1\nput 2049 1\ndel 2048\nget 2048\ncount 0 4294967295\n"
-GONE, GONE_PRINTED = b"get 2048\nget 2049\ndel 7\nget 7\ncount 0 9999\n", b"2048\nnone\nok\nnone\n2047\n"
-LATER_PRINTED = b"none\nok\n5\nno rows\nno rows\n2048\n2048\n"
+RISING = b"".join(b"put %d %d\n" % (key, key) for key in range(1, 4098))
+RISING_PRINTED = 4096 * b"ok\n" + b"no rows\n"
+LATER = b"get 4097\nput 1 5\nget 1\nput 4097 1\ndel 4096\nget 4096\ncount 0 4294967295\n"
+GONE, GONE_PRINTED = b"get 4096\nget 4097\ndel 7\nget 7\ncount 0 9999\n", b"4096\nnone\nok\nnone\n4095\n"
+LATER_PRINTED = b"none\nok\n5\nno rows\nno rows\n4096\n4096\n"
 
 # Many keys, which split rows, and few of them, of which rows are rebuilt: what is asked after all
 # puts is the same for any workers.
@@ -117,8 +118,8 @@ QUIET_PRINTED = 24 * b"ok\n" + b"none\n90\n1000\n8\n90\n160\n15=150 16=160\n"
 POINTS = b"put 1 0 5\nput 1 9 7\nput 1 10 1\nput 2 3 4\ntable\ndel 1 9\ntable\n"
 BUCKETS = b"1 10 count 1 sum 1 least 1 greatest 1\n2 0 count 1 sum 4 least 4 greatest 4\nend 0\n"
 POINTS_TABLES = b"1 0 count 2 sum 12 least 5 greatest 7\n" + BUCKETS + b"1 0 count 1 sum 5 least 5 greatest 5\n" + BUCKETS
-MANY_POINTS = b"".join(b"put 0 %d 1\n" % minute for minute in range(1, 2050)) + b"table\n"
-MANY_TABLE = b"0 0 count 2048 sum 2048 least 1 greatest 1\nend 1\n"
+MANY_POINTS = b"".join(b"put 0 %d 1\n" % minute for minute in range(1, 4098)) + b"table\n"
+MANY_TABLE = b"0 0 count 4096 sum 4096 least 1 greatest 1\nend 1\n"
 
 # What the examples print: sums of series of values as some expire, their buckets, and a put that is
 # stamped by a scan whose version is below its own.
@@ -143,14 +144,14 @@ EXAMPLES = (
 # What is said where a line was refused.
 SOME = b"some calls were refused\n"
 
-# The summaries of three lines, of forty, of eighty, of a thousand and of ten thousand, and of these
-# on a map of few rows, where 2,522 lines are refused.
+# The summaries of three lines, of forty, of eighty, of a thousand and of ten thousand, and of twenty
+# thousand on a map of few rows, where 1,226 lines are refused.
 THREE = b"puts 2\ndels 0\ngets 1\nfound 0\ncount 2\nsum 21839\nleast 5627\ngreatest 16212\n"
 FORTY = b"puts 25\ndels 6\ngets 9\nfound 0\ncount 25\nsum 405429\nleast 985\ngreatest 32572\n"
 EIGHTY = b"puts 48\ndels 9\ngets 23\nfound 0\ncount 47\nsum 827435\nleast 1414\ngreatest 32434\n"
 THOUSAND = b"puts 610\ndels 126\ngets 264\nfound 24\ncount 560\nsum 8968157\nleast 30\ngreatest 32724\n"
 TEN_THOUSAND = b"puts 6209\ndels 1273\ngets 2518\nfound 1140\ncount 2815\nsum 45459495\nleast 0\ngreatest 32724\n"
-FEW_ROWS = b"puts 6209\ndels 1273\ngets 2518\nfound 1050\ncount 2303\nsum 37059906\nleast 0\ngreatest 32757\n"
+FEW_ROWS = b"puts 12499\ndels 2489\ngets 5012\nfound 3056\ncount 3307\nsum 54466083\nleast 3\ngreatest 32767\n"
 
 Case = namedtuple("Case", "name words given output printed said status", defaults=(b"", None, b"", b"", 0))
 
@@ -166,17 +167,17 @@ CASES = (
     Case("no line feed at the end", "replay", b"put 1 5\nput 2 3\ncount 2 9", printed=b"ok\nok\n1\n"),
     Case("a sum past 64 bits", "replay", GREATEST, printed=b"ok\nok\nok\n27670116110564327421\n"),
     Case("pairs in the order of their keys", "replay", PAIRS, printed=6 * b"ok\n" + b"0=5 3=30 7=71 9=90 4294967295=1\n3=30 7=71\nempty\n"),
-    Case("many puts of one key", "replay", ONE, printed=200 * b"ok\n" + b"200\n"),
-    Case("more keys than one row holds", "replay", MANY, printed=65 * b"ok\n" + b"2145\n" + ALL + b"\n"),
+    Case("many puts of one key", "replay", ONE, printed=400 * b"ok\n" + b"400\n"),
+    Case("more keys than one row holds", "replay", MANY, printed=129 * b"ok\n" + b"8385\n" + ALL + b"\n"),
     Case("many keys by workers", "replay --workers 4", KEYS, printed=20000 * b"ok\n" + b"200010000\n20000\n1\n"),
-    Case("few keys by workers", "replay --workers 8", FEW, printed=8000 * b"ok\n" + FEW_LIST + b"\n127864\n"),
+    Case("few keys by workers", "replay --workers 16", FEW, printed=8000 * b"ok\n" + FEW_LIST + b"\n127864\n"),
     Case("rows that are used again", "replay --rows 64", AGAIN, printed=10000 * b"ok\n" + b"10000\n"),
     Case("rows that run out", "replay --rows 64", RISING, printed=RISING_PRINTED, said=SOME, status=8),
     Case("a deletion that wants no new row where rows have run out", "replay --rows 64", RISING + GONE, printed=RISING_PRINTED + GONE_PRINTED, said=SOME, status=8),
     Case("refused lines change nothing", "replay --rows 64", RISING + LATER, printed=RISING_PRINTED + LATER_PRINTED, said=SOME, status=8),
-    Case("workers and rows", "replay --rows 64 --workers 8", b"put 5 50\nwait\nsum 0 9\n", printed=b"ok\n50\n"),
+    Case("workers and rows", "replay --rows 64 --workers 16", b"put 5 50\nwait\nsum 0 9\n", printed=b"ok\n50\n"),
     Case("each form, of keys that are there and that are not", "replay", FORMS, printed=FORMS_PRINTED),
-    *(Case(f"empty blocks by {it} workers: {given}", f"replay --workers {it}", given, printed=printed) for it in (1, 3, 8) for given, printed in EMPTY),
+    *(Case(f"empty blocks by {it} workers: {given}", f"replay --workers {it}", given, printed=printed) for it in (1, 3, 16) for given, printed in EMPTY),
     Case("a block sees what one worker put before it", "replay", BLOCK, printed=24 * b"ok\n" + b"516\n24\n100=10 101=11\n"),
     Case("a block sees what all workers put before it", "replay --workers 4", BLOCK, printed=24 * b"ok\n" + b"516\n24\n100=10 101=11\n"),
     Case("quiet lines by one worker", "replay", QUIET, printed=QUIET_PRINTED),
@@ -198,15 +199,15 @@ CASES = (
     Case("a record with a refused put", "judge", REFUSED, printed=b"yes\n"),
     Case("a summary", "gen 7 3", printed=b"puts 3\ndels 0\ngets 0\nfound 0\ncount 3\nsum 22218\nleast 3365\ngreatest 10868\n"),
     Case("a summary of three lines", "gen 1 3", printed=THREE),
-    Case("a summary with options before and behind its numbers", "gen --workers 8 1 3 --rows 64", printed=THREE),
+    Case("a summary with options before and behind its numbers", "gen --workers 16 1 3 --rows 64", printed=THREE),
     Case("a summary of forty lines", "gen 5 40", printed=FORTY),
     Case("a summary of eighty lines by two workers", "gen 1 80 --workers 2", printed=EIGHTY),
     Case("a summary of eighty lines by workers", "gen 1 80 --workers 4", printed=EIGHTY),
     Case("a summary of many lines", "gen 1 1000", printed=THOUSAND),
     Case("a summary of many lines by workers", "gen 1 1000 --workers 4", printed=THOUSAND),
     Case("a summary of more lines", "gen 1 10000", printed=TEN_THOUSAND),
-    Case("a summary of more lines by workers", "gen 1 --workers 8 10000", printed=TEN_THOUSAND),
-    Case("a summary where rows run out", "gen --rows 64 1 10000", printed=FEW_ROWS, said=SOME, status=8),
+    Case("a summary of more lines by workers", "gen 1 --workers 16 10000", printed=TEN_THOUSAND),
+    Case("a summary where rows run out", "gen --rows 64 1 20000", printed=FEW_ROWS, said=SOME, status=8),
     Case("tables of points by two workers", "rollup --bucket 10 --workers 2", POINTS, printed=POINTS_TABLES),
     Case("tables of points by one worker", "rollup --bucket 10", POINTS, printed=POINTS_TABLES),
     Case("a table of no points", "rollup --bucket 60", b"table", printed=b"end 0\n"),
@@ -216,10 +217,10 @@ CASES = (
     Case("an output that is full of tables", "rollup --bucket 60", b"table\n", FULL, said=b"write fault\n", status=5),
     Case("no such command", "table", said=b"bad words\n", status=2),
     Case("tables of buckets of no width", "rollup", said=b"bad words\n", status=2),
-    Case("a worker too many", "replay --workers 9", said=b"bad words\n", status=2),
+    Case("a worker too many", "replay --workers 17", said=b"bad words\n", status=2),
     Case("too few rows", "replay --rows 63", said=b"bad words\n", status=2),
     Case("workers named twice", "replay --workers 1 --workers 1", said=b"bad words\n", status=2),
-    Case("bad words before an input that cannot be read", "replay --workers 9", FOLDER, said=b"bad words\n", status=2),
+    Case("bad words before an input that cannot be read", "replay --workers 17", FOLDER, said=b"bad words\n", status=2),
     Case("a script recorded twice", "simulate --record --record", said=b"bad words\n", status=2),
     Case("a flag in an option's place", "simulate --rows --record 64", said=b"bad words\n", status=2),
     Case("a replay recorded", "replay --record", said=b"bad words\n", status=2),
@@ -227,8 +228,8 @@ CASES = (
     Case("a judge twice", "judge judge", said=b"bad words\n", status=2),
     Case("a bad line", "replay", b"get 1\nget\n", said=b"bad line 2\n", status=3),
     Case("the first of two bad lines of an input that several threads read", "replay --workers 4", b"".join(TWO_BAD), said=b"bad line 15000\n", status=3),
-    Case("a bad line of a script", "simulate", b"call 9 get 1\n", said=b"bad line 1\n", status=3),
-    Case("a bad line of a recorded script", "simulate --record", b"call 9 get 1\n", said=b"bad line 1\n", status=3),
+    Case("a bad line of a script", "simulate", b"call 16 get 1\n", said=b"bad line 1\n", status=3),
+    Case("a bad line of a recorded script", "simulate --record", b"call 16 get 1\n", said=b"bad line 1\n", status=3),
     Case("a bad line of a recorded script of more rows", "simulate --rows 70 --record", b"call 0 put 5 10\ngo 0 0\n", said=b"bad line 2\n", status=3),
     Case("a row that a script has not", "simulate", b"guess 0 69\n", said=b"bad line 1\n", status=3),
     Case("a record without an order", "judge", b"done 0.1 0 5 get 5: none\n", said=b"bad line 2\n", status=3),
@@ -279,7 +280,7 @@ def mixed_case():
 
 def updated_case():
     """Keys in a random order, each put twenty times, on a map of few rows: none is refused, since
-    full rows are parted evenly. Were each new row filled before the next one starts, more than 400
+    full rows are parted evenly. Were each new row filled before the next one starts, almost 200
     rows would be wanted. What is asked at the end is what a dictionary holds."""
     chance, pairs, lines = random.Random(5), {}, []
     keys = [chance.randrange(2**32) for _ in range(5000)]
@@ -289,7 +290,7 @@ def updated_case():
         lines.append(f"put {key} {number}\n")
     lines += ["count 0 4294967295\n", "sum 0 4294967295\n"]
     printed = f"{len(pairs)}\n{sum(pairs.values())}\n".encode()
-    return Case("keys that are put again and again fit few rows", "replay --rows 300", "".join(lines).encode(), printed=100_000 * b"ok\n" + printed)
+    return Case("keys that are put again and again fit few rows", "replay --rows 150", "".join(lines).encode(), printed=100_000 * b"ok\n" + printed)
 
 
 def text_cases():

@@ -16,9 +16,9 @@
 The other program writes the record of a script on standard input as `simulate --record` does
 (docs/SCRIPTS.md), on the same event table with the same sizes (16 seats, 128 cells a row); it
 is written apart from this one. Both records must be the same byte for byte, and the statuses too.
-Each record that is written is then judged, and the verdict must be `yes`, with status 0. A command of
---scripts writes a script to standard output, and {seed} in it is the seed. The last line says how
-many agreed; the status is 1 where one did not, or where a script could not be had."""
+Each record that is written is then judged, and the verdict must be `yes`, with status 0. A command
+of --scripts writes a script to standard output, and {seed} in it is the seed. The last line says
+how many agreed; the status is 1 where one did not, or where a script could not be had."""
 
 import shlex
 import sys

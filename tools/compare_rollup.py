@@ -1,9 +1,9 @@
 #!/usr/bin/env python3
 """Compares `./kiwi rollup` with a small model on random inputs, good and bad.
 
-  tools/compare_rollup.py                       1,000 inputs, each with 1, 2, 4 and 8 workers
+  tools/compare_rollup.py                       1,000 inputs, each with 1, 2, 4, 8 and 16 workers
   tools/compare_rollup.py 200 --seed 7
-  tools/compare_rollup.py 200 --workers 3,8
+  tools/compare_rollup.py 200 --workers 3,16
   tools/compare_rollup.py .. --program './kiwi rollup'
       another command; --bucket G and --workers W are put after it
 
@@ -97,7 +97,7 @@ def runs(inputs, seed, workers, program):
 
 def main():
     options = options_of(__doc__)
-    options.add_argument("--workers", default="1,2,4,8")
+    options.add_argument("--workers", default="1,2,4,8,16")
     options.add_argument("--program", help="a command to compare, if not ./kiwi rollup")
     options = options.parse_args()
     program = shlex.split(options.program) if options.program else [KIWI, "rollup"]

@@ -2,7 +2,7 @@
 """Checks each reply of `./kiwi replay --workers W` on random inputs, for several numbers of
 workers.
 
-  tools/compare_workers.py                      1,000 inputs with 1, 2, 4 and 8 workers
+  tools/compare_workers.py                      1,000 inputs with 1, 2, 4, 8 and 16 workers
   tools/compare_workers.py 200 --seed 7
   tools/compare_workers.py 200 --workers 3,8
   tools/compare_workers.py 200 --shape rows     inputs of another shape than `few`
@@ -13,7 +13,7 @@ The shape says what the rows of the map go through. Of each, blocks are of all l
 empty.
 
   few      up to 16 keys and 600 updates: rows are rebuilt, with few new ones
-  many     up to 600 keys and 600 updates: rows are split
+  many     up to 1,200 keys and 1,200 updates: rows are split
   rows     thousands of keys on a map of 64 rows: rows run out, and puts and deletes are refused
   crowded  16 keys, and 500 updates for each worker, many range lines among them: one row is
            rebuilt all the time
@@ -24,7 +24,7 @@ empty.
   series   so several series of minutes, all of a minute after those of the minute before
   disorder rising keys in disorder, and with each put the least key is deleted
 
-The last four have 64 rows, 6,000 updates and a few hundred keys at a time: rows of deleted keys
+The last four have 64 rows, 12,288 updates and a few hundred keys at a time: rows of deleted keys
 have to come back.
 
 One worker must answer as a map of one thread. With more workers each put, del and get line must
@@ -34,8 +34,8 @@ earlier updates and, for each other worker, after some first ones of its updates
 fewer than at an earlier line of the own worker. And of two range lines of a block, one must have
 seen all updates that the other saw: the calls fit one order. Where a reply leaves open how many
 updates the line saw, each worker's number is taken by itself, so that a few wrong runs pass; no
-right one fails. Range lines stand in blocks of 64 updates at most, or of none, since what one of
-them may have seen takes long to look through.
+right one fails. Range lines stand in blocks of 64 updates at most (of 32 for more than eight
+workers), or of none, since what one of them may have seen takes long to look through.
 
 In the shape `rows` a put or del line may be refused with `no rows`; it is no update then, and
 changes nothing. So it is in the last four with several workers, as a row is not used again while
@@ -58,28 +58,29 @@ import sys
 from collections import Counter, deque, namedtuple
 
 from kiwi_map import KEY_MOST, KIWI, NUMBER, RANGES, VALUE_MOST, answered, ended, inside, is_range, items_of, line_of, listed
+from simulator.words import BUILT, CELLS
 
 PAIR = re.compile(r"(\d+)=(\d+)")
 UPDATES = (b"put", b"del")
 LIST, SUM, COUNT = b"list", b"sum", b"count"
 REFUSAL = "no rows"
-NARROW = 64  # how many updates a block with range lines has at most
 MANY = 160  # with so many lines for each worker they are at work beside each other, and with few not
-NEVER = 9  # more workers than there are
-PUTS = 3300  # so many puts, and a delete for most of them, are more updates than a shape has
+NEVER = 17  # more workers than there are
+FILL = 64 * BUILT  # so many rising keys fill a map of 64 rows
+PUTS = 7 * FILL // 4  # so many puts, and a delete for most of them, are more updates than a shape has
 READERS = ("sum", "count", "least", "greatest", "list", "list")
 
 
 
 def window_updates(rng):
     """Rising keys, of which so many stay."""
-    kept, step = rng.randrange(2, 160), rng.choice((1, 1, 3, 1000))
+    kept, step = rng.randrange(2, 5 * BUILT), rng.choice((1, 1, 3, 1000))
     return windows(((0, number * step) for number in itertools.count()), kept)
 
 
 def series_updates(rng):
     """Series of minutes, of each of which so many stay."""
-    series, kept = rng.randrange(2, 8), rng.randrange(20, 61)
+    series, kept = rng.randrange(2, 8), rng.randrange(40, 121)
     minutes = [[(one, (one << 20) + minute) for one in range(series)] for minute in range(PUTS // series)]
     for points in minutes if rng.random() < 0.5 else ():
         rng.shuffle(points)
@@ -89,7 +90,7 @@ def series_updates(rng):
 def disorder_updates(rng):
     """Rising keys in disorder by some distance, of which so many stay that each was put before it
     goes."""
-    far, more = rng.randrange(2, 60), rng.randrange(2, 100)
+    far, more = rng.randrange(2, 2 * BUILT), rng.randrange(2, 3 * BUILT)
     oldest = itertools.count()
     for count, key in enumerate(sorted(range(PUTS), key=lambda number: number + rng.random() * far)):
         yield "put", key
@@ -112,16 +113,16 @@ def neighbour_updates(rng):
     """Puts keys until rows are split; then again and again empties a part of them but for a few
     keys, updates these until their row is rebuilt, and then one or two keys below them, until the
     row of those is full beside it; at last puts the part again."""
-    keys = sorted(rng.sample(range(rng.choice((400, KEY_MOST + 1))), rng.randrange(60, 300)))
+    keys = sorted(rng.sample(range(rng.choice((800, KEY_MOST + 1))), rng.randrange(120, 600)))
     yield from (("put", key) for key in rng.choice((keys, keys[::-1], rng.sample(keys, len(keys)))))
     while True:
         first = rng.randrange(1, len(keys) - 20)
-        part = keys[first : first + rng.randrange(16, 60)]
+        part = keys[first : first + rng.randrange(BUILT // 2, 2 * BUILT)]
         few = rng.sample(part, rng.randrange(1, 8))
         below = keys[max(0, first - rng.randrange(1, 20)) : first]
         yield from (("del", key) for key in part if key not in few)
-        yield from (("put", rng.choice(few)) for _ in range(rng.randrange(64)))
-        yield from (("put", rng.choice(below)) for _ in range(rng.randrange(80)))
+        yield from (("put", rng.choice(few)) for _ in range(rng.randrange(CELLS)))
+        yield from (("put", rng.choice(below)) for _ in range(rng.randrange(CELLS + BUILT // 2)))
         yield from (("put", key) for key in rng.sample(part, rng.randrange(len(part) + 1)))
 
 
@@ -133,13 +134,13 @@ Shape = namedtuple("Shape", "keys updates puts ranges narrow full options refuse
 ROWS = ("--rows", "64")
 SHAPES = {
     "few": Shape(16, 600, 3, 60, 0.6, False, (), NEVER),
-    "many": Shape(600, 600, 3, 60, 0.6, False, (), NEVER),
-    "rows": Shape(3400, 4000, 12, 6, 0.4, False, ROWS, 1),
+    "many": Shape(1200, 1200, 3, 60, 0.6, False, (), NEVER),
+    "rows": Shape(5 * FILL // 3, 2 * FILL, 12, 6, 0.4, False, ROWS, 1),
     "crowded": Shape(16, 500, 3, 40, 1.0, True, (), NEVER),
-    "neighbours": Shape(300, 6000, 3, 12, 0.6, False, ROWS, 2, neighbour_updates),
-    "window": Shape(160, 6000, 1, 12, 0.6, False, ROWS, 2, window_updates),
-    "series": Shape(420, 6000, 1, 12, 0.6, False, ROWS, 2, series_updates),
-    "disorder": Shape(160, 6000, 1, 12, 0.6, False, ROWS, 2, disorder_updates),
+    "neighbours": Shape(600, 3 * FILL, 3, 12, 0.6, False, ROWS, 2, neighbour_updates),
+    "window": Shape(320, 3 * FILL, 1, 12, 0.6, False, ROWS, 2, window_updates),
+    "series": Shape(840, 3 * FILL, 1, 12, 0.6, False, ROWS, 2, series_updates),
+    "disorder": Shape(320, 3 * FILL, 1, 12, 0.6, False, ROWS, 2, disorder_updates),
 }
 
 Line = namedtuple("Line", "number form numbers reply")
@@ -160,7 +161,8 @@ def random_block(rng, shape, left, workers):
     if left and rng.random() >= shape.narrow:
         updates, ranges = rng.randrange(1, left + 1), 0
     elif left and (shape.full or rng.random() < 0.8):
-        updates = min(left, NARROW if shape.full else rng.randrange(1, NARROW + 1))
+        narrow = 64 if workers <= 8 else 32
+        updates = min(left, narrow if shape.full else rng.randrange(1, narrow + 1))
         ranges = rng.randrange(shape.ranges + 1)
     else:
         updates, ranges = 0, rng.randrange(shape.ranges + 1)
@@ -343,7 +345,7 @@ def view_of(line, histories, bounds):
     if found is None:
         return None
     parts = parts_of(line, found, histories, bounds)
-    # Halves that are joined at the end: all sums of eight workers would be too many.
+    # Halves that are joined at the end: all sums of many workers would be too many.
     half = len(parts) // 2
     ones, others = joins_of(line.form, parts[:half]), joins_of(line.form, parts[half:])
     views = {}
@@ -436,7 +438,7 @@ def main():
     options = argparse.ArgumentParser(description=__doc__, formatter_class=argparse.RawDescriptionHelpFormatter)
     options.add_argument("inputs", nargs="?", type=int, default=1000)
     options.add_argument("--seed", type=int, default=1)
-    options.add_argument("--workers", default="1,2,4,8", help="the numbers of workers, with commas between them")
+    options.add_argument("--workers", default="1,2,4,8,16", help="the numbers of workers, with commas between them")
     options.add_argument("--shape", choices=sorted(SHAPES), default="few")
     options.add_argument("--program", help="the command that is checked, if not ./kiwi replay")
     options = options.parse_args()

@@ -5,18 +5,18 @@
 #   tools/measure.sh
 #       proves and builds the programs where that is not done, and measures
 #   tools/measure.sh --rounds 1 --calls 20000 --bytes 1000000
-#       with fewer rounds, calls of a kind and bytes of lines; no map is filled by fewer calls than
-#       700,000, so some figures are then missing
+#       with fewer rounds, calls of a kind and bytes of lines; fewer calls than 1,500,000 do not fill
+#       each map, so some figures are then missing
 #   tools/measure.sh --kiwi C --bench C --to F
 #       other commands in the place of the programs, and another folder for what is written
 #
-# Stop all else first; a round takes one to two minutes. In each every program runs once, ours and
+# Stop all else first; a round takes two to four minutes. In each every program runs once, ours and
 # those of plain Rust in turn, so that what the machine does besides meets all of them; the figures
 # are medians over the rounds. It needs the commands rt, rustc and python3. tools/plot_measures.py
 # then writes the data (measures.csv), the pictures where matplotlib is there, and the tables.
 set -euo pipefail
 top=$(cd "$(dirname "$(readlink -f "$0")")/.." && pwd)
-rounds=5 calls=1000000 bytes=16777216 kiwi= bench= to=$top/docs/figures
+rounds=5 calls=2000000 bytes=16777216 kiwi= bench= to=$top/docs/figures
 while [ $# -gt 0 ]; do
   case "$1" in
     --rounds) rounds=$2 ;;

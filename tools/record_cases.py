@@ -72,7 +72,7 @@ BAD_RECORDS = (
 
 # The same of scripts.
 BAD_SCRIPTS = (
-    ("a seat that a script has not", b"go 8 1\n", 1),
+    ("a seat that a script has not", b"go 16 1\n", 1),
     ("no steps", b"go 0 1\ngo 0 0\n", 2),
     ("too many steps", b"go 0 100001\n", 1),
     ("no puts", b"puts 0 0 1 1\n", 1),

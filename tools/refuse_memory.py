@@ -49,10 +49,10 @@ FULL = "a_put_that_finds_its_row_full_replaces_it"
 # whose pairs take memory while they are gathered. The others are many: threads read, answer and
 # print them beside each other, so another one is refused from run to run.
 RUNS = (
-    Run("replay --workers 4", BLOCK, 24 * b"ok\n" + b"516\n24\n100=10 101=11\n", 2 * MEGABYTE),
-    Run("replay --workers 8", KEYS, 20000 * b"ok\n" + b"200010000\n20000\n1\n", 8 * MEGABYTE),
-    Run("gen 1 3", b"", THREE, 2 * MEGABYTE),
-    Run("rollup --bucket 10 --workers 2", POINTS, POINTS_TABLES, 2 * MEGABYTE),
+    Run("replay --workers 4", BLOCK, 24 * b"ok\n" + b"516\n24\n100=10 101=11\n", 4 * MEGABYTE),
+    Run("replay --workers 16", KEYS, 20000 * b"ok\n" + b"200010000\n20000\n1\n", 16 * MEGABYTE),
+    Run("gen 1 3", b"", THREE, 4 * MEGABYTE),
+    Run("rollup --bucket 10 --workers 2", POINTS, POINTS_TABLES, 4 * MEGABYTE),
     Run("simulate", (SCRIPTS / "given" / FULL).read_bytes(), (SCRIPTS / "printed" / FULL).read_bytes()),
     Run("simulate --record", (SCRIPTS / "given" / FULL).read_bytes(), (SCRIPTS / "recorded" / FULL).read_bytes()),
     Run("judge", RECORD, b"yes\n"),

@@ -6,7 +6,7 @@ is checked, and none may be a refusal.
   tools/soak_expiring.py --minutes 3 --program './kiwi replay' --server 'COMMAND'
 
 A third of the time one worker answers, and a third four, on a map of 512 rows: run after run, each
-of 10,000 minutes, of which a map whose rows did not come back would take some 300. Each minute is a
+of 10,000 minutes, of which a map whose rows did not come back would take some 650. Each minute is a
 block, so that no worker is far ahead of one that the system halts. At each twentieth one stand
 sums, counts, least and greatest values, lists, and gets of keys that expired, in a block of their
 own. The last third is one map of a server, to which four clients send minute after minute, each of

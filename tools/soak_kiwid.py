@@ -1,7 +1,7 @@
 #!/usr/bin/env python3
 """Soaks a server: clients beside each other for a long while, each reply of which is checked.
 
-  tools/soak_kiwid.py                     an hour, 8 clients, by ./kiwid
+  tools/soak_kiwid.py                     an hour, 16 clients, by ./kiwid
   tools/soak_kiwid.py --minutes 2 --clients 4 --sessions 3000 --program 'COMMAND'
 
 Each client writes keys of its own, and checks every get, and every sum and count over its keys,
@@ -32,7 +32,7 @@ from collections import Counter
 from pathlib import Path
 
 KIWID = Path(__file__).resolve().parent.parent / "kiwid"
-SEATS, KEYS_EACH = 8, 1_000
+SEATS, KEYS_EACH = 16, 1_000
 # How many seconds a client waits for a reply before it says that there is none, and for the end of
 # a connection of which it takes nothing. The server ends that where a write of its own has waited
 # for ten; a write of which the system has taken a part before waits again, so half a minute goes by
@@ -260,7 +260,7 @@ def use_up(server, port, wrong):
 def main():
     options = argparse.ArgumentParser(description=__doc__, formatter_class=argparse.RawDescriptionHelpFormatter)
     options.add_argument("--minutes", type=float, default=60)
-    options.add_argument("--clients", type=int, default=8)
+    options.add_argument("--clients", type=int, default=SEATS)
     options.add_argument("--sessions", type=int, default=100_000, help="connections of each seat, enough for the time")
     options.add_argument("--seed", type=int, default=1)
     options.add_argument("--program", default=str(KIWID))

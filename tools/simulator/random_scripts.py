@@ -6,7 +6,7 @@ import random
 
 from kiwi_map import joined
 from simulator.scripts import MOST_LINES
-from simulator.words import SEATS, Kind
+from simulator.words import BUILT, CELLS, SEATS, Kind
 
 # What a seat with a call is mostly made to wait for: the steps that others' steps may meet.
 MEETING = (
@@ -29,7 +29,7 @@ def called(rng, seat, keys):
 
 def stepped(rng, seat):
     """A line by which a seat makes steps."""
-    steps = int(2 ** (rng.random() * 9))
+    steps = int((8 * CELLS) ** rng.random())
     kind = rng.choice(MEETING if rng.random() < 0.9 else KINDS)
     return [rng.choice((f"go {seat} {steps}", f"go {seat} {steps}", f"until {seat} {kind}"))]
 
@@ -38,12 +38,13 @@ def chosen(rng, seat):
     """Lines by which a seat comes to where a choice may count, and makes some."""
     guess = rng.randrange(64) if rng.random() < 0.1 else rng.randrange(6)
     choice = f"guess {seat} {guess}" if rng.random() < 0.8 else f"stop {seat}"
-    # So many words has a new row of few cells.
-    words = 76 + 3 * rng.randrange(1, 8)
+    # So many words are written of a new row of few cells: four, an entry for each seat, a version
+    # for each cell, and three more for each of those that it is built with.
+    words = 4 + SEATS + CELLS + 3 * rng.randrange(1, 8)
     before = (
         [f"until {seat} {rng.choice(BEGINNING)}"],
         [f"until {seat} take_row", f"go {seat} {words}"],
-        [f"go {seat} {rng.randrange(1, 40)}"],
+        [f"go {seat} {rng.randrange(1, 2 * SEATS + 24)}"],
     )
     return [*rng.choice(before), *rng.randrange(1, 6) * [choice]]
 
@@ -57,14 +58,14 @@ def mixed(rng, seats, keys, lines_wanted):
         if how < 0.2:
             lines += called(rng, seat, keys)
         elif how < 0.23:
-            lines.append(f"puts {seat} {rng.randrange(1, 70)} {rng.choice(keys)} 1")
+            lines.append(f"puts {seat} {rng.randrange(1, CELLS + 6)} {rng.choice(keys)} 1")
         else:
             lines += chosen(rng, seat) if how < 0.35 else stepped(rng, seat)
     return lines[:lines_wanted]
 
 
 def again(seat, count, key):
-    """A key that is put so often that rows are rebuilt, one for each 63 puts or so."""
+    """A key that is put so often that rows are rebuilt, one for each CELLS - 1 puts or so."""
     return [f"puts {seat} {count} {key} 1", f"go {seat} 100000"]
 
 
@@ -76,38 +77,44 @@ def few(rng):
 def full(rng):
     """One row that is full, or nearly so."""
     keys = list(range(rng.randrange(1, 6)))
-    return again(0, rng.randrange(56, 66), rng.choice(keys)), keys
+    return again(0, rng.randrange(CELLS - 8, CELLS + 2), rng.choice(keys)), keys
 
 
 def split(rng):
     """Rows that were split, of which the first is nearly full."""
-    keys = list(range(0, 3 * rng.randrange(30, 70), 3))
+    keys = list(range(0, 3 * rng.randrange(BUILT - 2, CELLS + 6), 3))
     first = [f"call 0 put {key} {key}" for key in rng.sample(keys, len(keys))]
-    first += again(0, rng.randrange(20, 35), keys[0])
-    return first, [*keys[:3], *keys[-3:], *keys[30:33]]
+    first += again(0, rng.randrange(BUILT - 12, BUILT + 3), keys[0])
+    return first, [*keys[:3], *keys[-3:], *keys[BUILT - 2 : BUILT + 1]]
 
 
 def neighbour(rng):
-    """A row that is full, or nearly so, before one of few cells: keys are split in two rows, most
-    of the second are deleted, that is rebuilt, and then the first is filled."""
-    keys = list(range(33))
-    first = [f"call 0 put {key} {key}" for key in keys] + again(0, 32, 1)
-    first += [f"call 0 del {key}" for key in range(21, 33)] + again(0, 37, 17)
-    first += again(0, 46 - rng.randrange(3), 1)
-    return first, [0, 1, 2, 16, 17, 18, 20, 40]
+    """A row that is full, or nearly so, before one of few cells: keys are split in two rows, all
+    but four of the second are deleted, that is rebuilt, and then the first is filled."""
+    keys, half = list(range(BUILT + 1)), BUILT // 2 + 1
+    first = [f"call 0 put {key} {key}" for key in keys] + again(0, CELLS - BUILT, 1)
+    gone = keys[half + 4 :]
+    first += [f"call 0 del {key}" for key in gone]
+    first += again(0, CELLS + 1 - len(keys[half:]) - len(gone), half)
+    first += again(0, CELLS - half - 1 - rng.randrange(3), 1)
+    return first, [0, 1, 2, half - 1, half, half + 1, half + 3, BUILT + 8]
 
 
 def tidied(rng):
     """Rows of which so many were retired that tidying is offered."""
     keys = list(range(rng.randrange(1, 40)))
-    first = again(0, 128 + rng.randrange(70), rng.choice(keys))
-    return [*first, *(f"call 1 put {key} 1" for key in keys), "go 1 9999"], keys[:4]
+    first = again(0, 2 * CELLS + rng.randrange(CELLS + 6), rng.choice(keys))
+    return [*first, *(f"call 1 put {key} 1" for key in keys), "go 1 100000"], keys[:4]
 
 
 def scarce(rng):
-    """Rows that ran out, since a call stands still."""
-    first = ["call 7 get 5", f"until 7 {rng.choice(('load_head', 'load_link', 'load_pend'))}"]
-    return [*first, *again(0, 3980 + rng.randrange(60), 5), "go 0 100000"], [4, 5, 6]
+    """Rows that ran out, or nearly so, since a call stands still: so many puts take all cells of 64
+    rows."""
+    last, puts = SEATS - 1, CELLS + 63 * (CELLS - 1)
+    first = [f"call {last} get 5"]
+    first += [f"until {last} {rng.choice(('load_head', 'load_link', 'load_pend'))}"]
+    first += again(0, puts - 53 + rng.randrange(60), 5)
+    return [*first, "go 0 100000", "go 0 100000"], [4, 5, 6]
 
 
 # The rare ones take long.
@@ -121,7 +128,7 @@ def random_lines(seed):
     seats = rng.sample(range(SEATS), rng.randrange(1, 5))
     count = rng.randrange(min(150, MOST_LINES - len(first)))
     ends = [f"go {seat} 100000" for seat in range(SEATS)] if rng.random() < 0.3 else []
-    return [*first, *mixed(rng, seats, keys, count - len(ends)), *ends]
+    return [*first, *mixed(rng, seats, keys, max(0, count - len(ends))), *ends]
 
 
 def random_script(seed):
