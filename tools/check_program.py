@@ -144,8 +144,8 @@ EXAMPLES = (
 # What is said where a line was refused.
 SOME = b"some calls were refused\n"
 
-# The summaries of three lines, of forty, of eighty, of a thousand and of ten thousand, and of twenty
-# thousand on a map of few rows, where 1,226 lines are refused.
+# The summaries of three lines, of forty, of eighty, of a thousand and of ten thousand, and of
+# twenty thousand on a map of few rows, where 1,226 lines are refused.
 THREE = b"puts 2\ndels 0\ngets 1\nfound 0\ncount 2\nsum 21839\nleast 5627\ngreatest 16212\n"
 FORTY = b"puts 25\ndels 6\ngets 9\nfound 0\ncount 25\nsum 405429\nleast 985\ngreatest 32572\n"
 EIGHTY = b"puts 48\ndels 9\ngets 23\nfound 0\ncount 47\nsum 827435\nleast 1414\ngreatest 32434\n"

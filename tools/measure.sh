@@ -5,8 +5,8 @@
 #   tools/measure.sh
 #       proves and builds the programs where that is not done, and measures
 #   tools/measure.sh --rounds 1 --calls 20000 --bytes 1000000
-#       with fewer rounds, calls of a kind and bytes of lines; fewer calls than 1,500,000 do not fill
-#       each map, so some figures are then missing
+#       with fewer rounds, calls of a kind and bytes of lines; fewer calls than 1,500,000 do not
+#       fill each map, so some figures are then missing
 #   tools/measure.sh --kiwi C --bench C --to F
 #       other commands in the place of the programs, and another folder for what is written
 #
