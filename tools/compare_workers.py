@@ -161,6 +161,7 @@ def random_block(rng, shape, left, workers):
     if left and rng.random() >= shape.narrow:
         updates, ranges = rng.randrange(1, left + 1), 0
     elif left and (shape.full or rng.random() < 0.8):
+        # (what a range line may have seen of more workers takes longer to look through)
         narrow = 64 if workers <= 8 else 32
         updates = min(left, narrow if shape.full else rng.randrange(1, narrow + 1))
         ranges = rng.randrange(shape.ranges + 1)
