@@ -20,9 +20,9 @@ use kw_world::limits::TIDY_SHARE;
 /// tidying of a row, or a rebalance of it.
 pub const TIDY_EACH: u32 = 8;
 
-/// A row with more keys than this that have a value is not tidied. They are fewer than the cells
-/// between two questions: a row whose keys go in the order in which they came is then asked for at
-/// its last keys alone, and tidied once.
+/// A row with more keys than this that have a value is not tidied, but where the one after it has
+/// none. They are fewer than the cells between two questions: a row whose keys go in the order in
+/// which they came is then asked for at its last keys alone, and tidied once.
 pub const TIDY_KEYS: u32 = TIDY_EACH - 1;
 
 /// How many rows are asked for one that a search would take, before a row is tidied.
@@ -56,7 +56,7 @@ impl Shared {
     }
 
     // Whether a delete that was given this cell asks: at each so many-th cell, and at as many of
-    // the first that are given after the row was built. A row may be built full of deleted keys,
+    // the first that are given after the row was built. A row may be built of many deleted keys,
     // which scans that are on still need, and of few others: no cell but these is given in it then.
     fn is_asked_at(&self, row: u32, cell: u32) -> bool {
         cell % TIDY_EACH == TIDY_EACH - 1
@@ -64,14 +64,25 @@ impl Shared {
                 && cell < unpack_built(self.peek(Name::Least(row))).saturating_add(TIDY_EACH)
     }
 
-    // Whether the row has few keys; it and the one after it are in use, and nobody rebalances them
-    // any more; and a search from this row on soon finds one to build in.
+    // Whether the row has few keys or the one after it none; both are in use, and nobody rebalances
+    // them any more; and a search from this row on soon finds one to build in.
     fn has_small_pair(&self, row: u32, epoch: u64, free: u32) -> bool {
         row < self.opening.rows
             && self.is_normal(row)
-            && self.has_few_keys(row)
+            && (self.has_at_most(row, TIDY_KEYS) || self.leads_to_empty(row))
             && self.comes_to_rest(row)
             && self.finds_free(free, epoch)
+    }
+
+    // Whether the row after has no key. A row may be built of deleted keys alone, which scans that
+    // are on still need: no delete comes there, so nobody asks for it but here.
+    fn leads_to_empty(&self, row: u32) -> bool
+        requires { row < self.now.opening.rows }
+    {
+        match self.row_at(self.peek(Name::Next(row))) {
+            Some(next) => self.has_at_most(next, 0),
+            None => false,
+        }
     }
 
     // Whether the row and the one after it are in use and come to be rebalanced by nobody. The row
@@ -130,9 +141,9 @@ impl Shared {
             }
     }
 
-    // Whether the row's list shows few keys that have a value. It is by rising key, and of each key
-    // by falling version: the first cell of a key tells whether it has one.
-    fn has_few_keys(&self, row: u32) -> bool
+    // Whether the row's list shows no more keys than this that have a value. It is by rising key,
+    // and of each key by falling version: the first cell of a key tells whether it has one.
+    fn has_at_most(&self, row: u32, most: u32) -> bool
         requires { row < self.now.opening.rows }
     {
         let mut link = self.peek(Name::First(row));
@@ -144,7 +155,7 @@ impl Shared {
             };
             let key = unpack_key(self.peek(Name::Key(row, cell)));
             if last != Some(key) && unpack_value(self.peek(Name::Value(row, cell))).is_some() {
-                if keys == TIDY_KEYS {
+                if keys == most {
                     return false;
                 }
                 keys = keys.saturating_add(1);
