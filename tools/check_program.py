@@ -176,6 +176,7 @@ CASES = (
     Case("a deletion that wants no new row where rows have run out", "replay --rows 64", RISING + GONE, printed=RISING_PRINTED + GONE_PRINTED, said=SOME, status=8),
     Case("refused lines change nothing", "replay --rows 64", RISING + LATER, printed=RISING_PRINTED + LATER_PRINTED, said=SOME, status=8),
     Case("workers and rows", "replay --rows 64 --workers 16", b"put 5 50\nwait\nsum 0 9\n", printed=b"ok\n50\n"),
+    Case("as many updates as are never refused", "replay --rows 664", ONE, printed=200 * b"ok\n" + b"200\n"),
     Case("each form, of keys that are there and that are not", "replay", FORMS, printed=FORMS_PRINTED),
     *(Case(f"empty blocks by {it} workers: {given}", f"replay --workers {it}", given, printed=printed) for it in (1, 3, 16) for given, printed in EMPTY),
     Case("a block sees what one worker put before it", "replay", BLOCK, printed=24 * b"ok\n" + b"516\n24\n100=10 101=11\n"),

@@ -13,7 +13,8 @@
 //! A source and a sink are those of `kw_io`, so nothing here but `tcp` knows of a network. The
 //! program `kiwid` is `kiwid_program`, which is `main` alone.
 //!
-//! The tests are in `kiwid_tests`, since a crate with tests is proved twice.
+//! The tests are in `kiwid_tests` (the server and its seats) and `kiwid_session_tests` (whole
+//! sessions), since a crate with tests is proved twice.
 #![tactic(auto)]
 
 pub mod binding;

@@ -146,3 +146,25 @@ right_refusal form.Least (Scan a b) r m i h = (λ e. absurd (scan_served form.Le
 right_refusal form.Greatest (Scan a b) r m i h = (λ e. absurd (scan_served form.Greatest a b m r h e), λ e. refl)
 right_refusal form.List (Scan a b) r m i h = (λ e. absurd (scan_served form.List a b m r h e), λ e. refl)
 right_refusal _ _ r m i h = absurd i
+
+-- a number or nothing is no refusal, nor is what a line says of pairs
+number_answers : (n : Option ℕ) → is_refused (number_or_nothing n) ≡ false
+number_answers None = refl
+number_answers (Some n) = refl
+
+pairs_answer : (f : Form) (ps : Pairs) → is_refused (answer_of_pairs f ps) ≡ false
+pairs_answer form.Sum ps = refl
+pairs_answer form.Count ps = refl
+pairs_answer form.Least ps = number_answers (least (values ps))
+pairs_answer form.Greatest ps = number_answers (greatest (values ps))
+pairs_answer _ ps = refl
+
+-- so an answer that stands for no refusal is none
+pub served_answer : (f : Form) (r : Reply) → is_refusal r ≡ false → is_refused (answer_for f r) ≡ false
+served_answer f reply.Done n = refl
+served_answer f (reply.Value v) n = refl
+served_answer f reply.Absent n = refl
+served_answer f (reply.Pairs ps) n = pairs_answer f ps
+served_answer f reply.NoRows n = absurd (false≢true (sym n))
+served_answer f reply.Spent n = absurd (false≢true (sym n))
+served_answer f reply.Stopped n = absurd (false≢true (sym n))

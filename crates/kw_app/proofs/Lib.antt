@@ -22,3 +22,7 @@ pub mod QuietGenerated
 pub mod TableLines
 pub mod Scans
 pub mod RunEnds
+pub mod PartSums
+pub mod RunCalls
+pub mod FewUpdates
+pub mod Completing

@@ -19,3 +19,5 @@ pub mod Tables
 pub mod Rolled
 pub mod Rolling
 pub mod Ends
+pub mod Few
+pub mod Completing

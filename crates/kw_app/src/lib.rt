@@ -18,7 +18,8 @@
 //! - `outcome` and `fault` say how a run ended, and `faultless` that a run on streams that never
 //!   fail is never told of a fault.
 //!
-//! The tests are in `kw_app_tests`, since a crate with tests is proved twice.
+//! The tests are in `kw_app_tests` (whole runs) and `kw_worker_tests` (the workers of a run, and
+//! the lines of `gen`), since a crate with tests is proved twice.
 #![tactic(auto)]
 
 mod asked;

@@ -4,9 +4,11 @@
 //! sink, so the same clauses hold of the process's streams, of whose bytes nothing is known, and of
 //! streams in memory, whose bytes the clauses name.
 ghost use Rattle.std.specs.Prelude.{◌≡◌, ◌⊎◌};
+ghost use Rattle.kw_model.specs.Counts.{CountRose};
 ghost use Rattle.kw_command.specs.declared.command.Command.{Command as AnyCommand};
 ghost use Rattle.kw_command.specs.declared.command.Command.TheVariants.{Judge};
 ghost use Rattle.kw_command.specs.Words.{Means};
+ghost use Rattle.kw_app.specs.Completing.{AsksFew, HasDone};
 ghost use Rattle.kw_app.specs.Ends.{AsksMap, ReadsInput, WritesPrinted, WritesText};
 
 use crate::outcome::{Outcome, Status};
@@ -61,6 +63,13 @@ pub fn run<R: Threads + Wait + Sync, S: Source, K: Sink, G: Gate + Sync>(
     ensures not_legal { result.status ≡ Status.NotLegal → Means words.now Judge }
     ensures refused { result.status ≡ Status.Refused → (command : AnyCommand)
         × Means words.now command × AsksMap command }
+
+    // Few enough updates are never refused: where the input is good and has few of them, and no
+    // stream counted a fault, all is done, unless memory was wanted.
+    ensures complete { (command : AnyCommand) → Means words.now command →
+        AsksFew command (S.left source.old) →
+        (CountRose (S.faults source.old) (S.faults source.new) → ⊥) →
+        (CountRose (K.faults sink.old) (K.faults sink.new) → ⊥) → HasDone command result.status }
 {
     match command_of(alloc, words) {
         Ok(Some(command)) => match perform(rt, alloc, command, source, gate) {

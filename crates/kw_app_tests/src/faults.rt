@@ -98,7 +98,9 @@ fn workers_fill_a_sink_as_one_does(rt: HostRuntime) -> Result<(), Fail> {
 #[test]
 fn streams_that_never_fail_end_a_run_with_all_done(rt: HostRuntime) -> Result<(), Fail> {
     let mut words = Vec::new(rt.alloc());
-    words.push(Word::new(String::from_str(rt.alloc(), "replay")?))?;
+    for text in SMALL_REPLAY {
+        words.push(Word::new(String::from_str(rt.alloc(), text)?))?;
+    }
     let mut source = NeverSource::new(Vec::from_slice(rt.alloc(), INPUT)?);
     let mut sink = NeverSink::new(Vec::with_capacity(rt.alloc(), 4)?);
     let outcome = run_without_faults(&rt, rt.alloc(), &words, &mut source, &mut sink, &NoGate);

@@ -1,7 +1,9 @@
 -- Why a line was refused. Nothing of the code is asked: what the pass has seen is valid, so each
 -- call of its record has its reason, and the line's call stands there last.
-use Rattle.std.proofs.Common.{ℕ, ◌≡◌, ◌∙◌, ◌++◌, [], ◌∷◌, Option, Some, None, ap, length, refl, sym, subst}
+use Rattle.std.proofs.Common.{ℕ, ◌∙◌, Option, Some, None, Result, Ok, Err, ap, length, refl, sym, subst}
+use Rattle.std.specs.Prelude.{IfOk}
 use Rattle.std.specs.List.{slice_get}
+use Rattle.kw_model.specs.declared.memory.Memory.{Memory}
 use Rattle.kw_model.specs.declared.call.Call.{Call}
 use Rattle.kw_model.specs.declared.call.Reply.{Reply}
 use Rattle.kw_model.specs.declared.call.Reply.TheVariants as reply
@@ -57,3 +59,8 @@ pub has_cause : (p q : Pass) (call : Call) (f : Form) (given : Answer) → HasCa
 has_cause p q call f given a =
     subst (λ (told : Answer). IsCause told (view q) call a.calls.first a.calls.last) (sym a.answer_is)
     (caused_by (view q) call a.calls.first a.calls.last a.calls.number f a.reply a.is_reply (made_reason p q call a.reply a.calls))
+
+-- and so has each that has an answer
+pub answered_has : (p q : Pass) (call : Call) (f : Form) (result : Result Answer Memory) → IfOk result (λ given. HasCause p q call f given)
+answered_has p q call f (Ok given) = has_cause p q call f given
+answered_has p q call f (Err memory) = tt

@@ -31,7 +31,6 @@ use std::sync::Wait;
 /// of the map and took too few, and `Spent` only where a load of this call found the clock or the
 /// epoch at `SPENT` or above. The only error is the want of memory, and it comes only at a line
 /// that lists pairs; its call was made and has ended, and its reply is that it was stopped.
-#[tactic(auto, using(crate::proofs::Causes::has_cause))]
 pub fn ask<R: Wait>(
     rt: &R,
     alloc: Global,

@@ -1,11 +1,13 @@
 -- Words mean one command, so what is said of it holds of each command that they mean.
-use Rattle.std.proofs.Common.{◌≡◌, ℕ, List, Option, Some, None, refl, subst}
+use Rattle.std.proofs.Common.{◌≡◌, ℕ, List, Option, Some, None, refl, sym, ◌∙◌, subst}
 use Rattle.std.specs.Prelude.{IfSome, MatchOption}
 use Rattle.kw_command.specs.declared.command.Command.{Command}
 use Rattle.kw_command.specs.Words.{AreInRange, Means}
 use Rattle.kw_command.proofs.Commands.{at_command}
+use Rattle.kw_app.specs.Completing.{HasDone}
+use Rattle.kw_app.proofs.Completing.{has_done, memory_wanted, words_are_good}
 use Rattle.kw_app.proofs.Ended.{memory_is_told}
-use Rattle.kw_app.proofs.RunEnds.{no_text_is_written, no_text_was_read, only_judge, only_map, reads_for, silent_at_bad_words, silent_at_want, silent_writes, text_is_written, text_was_read, unread_reads, writes_for}
+use Rattle.kw_app.proofs.RunEnds.{no_text_is_written, no_text_was_read, only_judge, only_map, reads_for, silent_at_bad_words, silent_at_want, silent_writes, text_ends, text_is_written, text_was_read, unread_reads, writes_for}
 use Rattle.kw_app.proofs.run.run.Goals as goal
 
 -- the command that was found is one that the words mean
@@ -76,3 +78,25 @@ pub returns-in-Err-clause-reads : goal.returns-in-Err-clause-reads
 returns-in-Err-clause-reads g c =
     let status = c.of-in-Err.ensures.status in
     unread_reads _ _ _ _ _ (λ e. cc) (λ e. cc) c.of-in-Err.ensures.line (λ other means. memory_is_told other _ c.of-in-Err.result status)
+
+pub returns-in-Ok-clause-complete : goal.returns-in-Ok-clause-complete
+returns-in-Ok-clause-complete g c = λ command meant few unfailed unbroken.
+    let means = meant_of c.args.words.now c.in-Ok-Some.field-0 c.in-Ok-Some.command c.in-Ok-Some.field-0-is c.in-Ok-Some.ensures.meant in
+    let range = in_range c.in-Ok-Some.field-0 c.in-Ok-Some.command c.in-Ok-Some.field-0-is c.in-Ok-Some.ensures.range in
+    let ends = text_ends _ _ _ _ _ _ c.written.ensures in
+    has_done _ _ _ _ (Means c.args.words.now) command _ _ _ _ _ (returns-in-Ok-clause-writes g c) (returns-in-Ok-clause-reads g c) ends.2 meant
+    (subst AreInRange (sym (only c.args.words.now c.in-Ok-Some.command means command meant)) range) few unfailed unbroken
+
+pub returns-in-Err-perform-clause-complete : goal.returns-in-Err-perform-clause-complete
+returns-in-Err-perform-clause-complete g c = λ command meant few unfailed unbroken.
+    let means = meant_of c.args.words.now c.in-Ok-Some.field-0 c.in-Ok-Some.command c.in-Ok-Some.field-0-is c.in-Ok-Some.ensures.meant in
+    let range = in_range c.in-Ok-Some.field-0 c.in-Ok-Some.command c.in-Ok-Some.field-0-is c.in-Ok-Some.ensures.range in
+    has_done _ _ _ _ (Means c.args.words.now) command _ _ _ _ _ (returns-in-Err-perform-clause-writes g c) (returns-in-Err-perform-clause-reads g c)
+    (λ is. words_are_good c.in-Err-perform.error (sym c.without_text.ensures.status ∙ is)) meant
+    (subst AreInRange (sym (only c.args.words.now c.in-Ok-Some.command means command meant)) range) few unfailed unbroken
+
+pub returns-in-Ok-None-clause-complete : goal.returns-in-Ok-None-clause-complete
+returns-in-Ok-None-clause-complete g c = λ command meant few unfailed unbroken. absurd (none_of c.args.words.now c.in-Ok-None.field-0 c.in-Ok-None.field-0-is c.in-Ok-None.ensures.meant command meant)
+
+pub returns-in-Err-clause-complete : goal.returns-in-Err-clause-complete
+returns-in-Err-clause-complete g c = λ command meant few unfailed unbroken. subst (HasDone command) (sym c.of-in-Err.ensures.status) (memory_wanted command)
