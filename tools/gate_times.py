@@ -44,7 +44,7 @@ PROOF, TESTS, BEFORE, BODIES = KINDS = ("proof", "tests", "check before", "wrong
 TICKS = os.sysconf("SC_CLK_TCK")
 LOOKS_A_SECOND = 2
 # How many crates have a line of their own in the page; the file of shares has each.
-ON_PAGE = 8
+ON_PAGE = 3
 
 
 @dataclass(frozen=True)
