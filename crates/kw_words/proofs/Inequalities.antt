@@ -1,5 +1,5 @@
--- What the sizes of a map owe each other and the encodings, as a record over the sizes, and that the
--- product's sizes pay it: other sizes are right where they have such a record.
+-- What the sizes of a map owe each other and the encodings, as a record over the sizes, and that
+-- the product's sizes pay it: other sizes are right where they have such a record.
 use Rattle.std.proofs.Common.{ℕ, ◌+◌, ◌*◌, ◌-◌, ◌/◌, ◌%◌, ◌<◌, ◌≤◌, ◌≡◌, refl, arith}
 use Rattle.kw_words.specs.declared.sizes.TheConstants.{SEATS, CELLS, BUILT, SEAT_COUNT, CELL_COUNT, BUILT_COUNT, MOST_SEATS, MOST_CELLS, MOST_ROWS, MOST_GROUP, MOST_NEW_ROWS, VERSION_END, NUMBER_END, SPENT, FROZEN_BIT}
 use Rattle.kw_words.specs.Layout.{IsSized}
