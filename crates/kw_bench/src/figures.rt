@@ -1,8 +1,8 @@
 //! Words in, figures out.
-use crate::index_timing::GuessFigure;
-use crate::lines::LineFigure;
-use crate::timing::{PutFigure, ReadFigure};
 use kw_loads::load::Load;
+use kw_timing::index_timing::GuessFigure;
+use kw_timing::lines::LineFigure;
+use kw_timing::timing::{PutFigure, ReadFigure};
 use std::{env, io};
 
 /// How many calls the program's word asks for; none where there is no such word.

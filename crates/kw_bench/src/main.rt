@@ -21,43 +21,37 @@
 //! keys, and plain slices of the same entries, by one thread and by four.
 //!
 //! All figures of a run come from that run, so its ratios can be compared where its times cannot.
-//! Without a number it says how it is used. Which calls are made is said in `kw_loads`, and here
-//! are the clock and what is printed. Nothing is promised of the figures; the calls are those of
-//! `kw_map`, `kw_line` and `kw_index`, by their contracts.
+//! Without a number it says how it is used. Which calls are made is said in `kw_loads`, and how
+//! they are timed in `kw_timing`; here is what is printed. Nothing is promised of the figures; the
+//! calls are those of `kw_map`, `kw_line` and `kw_index`, by their contracts.
 #![tactic(auto)]
 
 mod figures;
-mod fill_timing;
-mod index_timing;
-mod lines;
 mod map_figures;
-mod map_timing;
-mod moving_timing;
-mod sum_timing;
-mod timing;
 
 use crate::figures::{
     given_calls, print_guesses, print_heads, print_lines, print_puts, print_reads, print_usage,
 };
-use crate::fill_timing::time_fill;
-use crate::index_timing::time_guesses;
-use crate::lines::time_lines;
 use crate::map_figures::{
     print_fill, print_fill_heads, print_map, print_moving, print_moving_heads, print_sums,
 };
-use crate::map_timing::time_map;
-use crate::moving_timing::time_moving;
-use crate::sum_timing::time_sums;
-use crate::timing::{time_puts, time_reads};
 use kw_loads::asking::{Reading, Task};
 use kw_loads::load::{Keys, Load};
 use kw_loads::map_load::{Order, PUTS_A_SUM};
 use kw_loads::moving::Moving;
+use kw_timing::fill_timing::time_fill;
+use kw_timing::index_timing::time_guesses;
+use kw_timing::lines::time_lines;
+use kw_timing::map_timing::time_map;
+use kw_timing::moving_timing::time_moving;
+use kw_timing::sum_timing::time_sums;
+use kw_timing::timing::{time_puts, time_reads};
 use kw_words::sizes::CELL_COUNT;
 use std::io;
 use std::process::ExitCode;
 use std::sync::Wait;
 use std::thread::Threads;
+use std::time::Clock;
 
 fn main(rt: HostRuntime) -> ExitCode {
     match run(&rt, &rt) {
@@ -67,7 +61,7 @@ fn main(rt: HostRuntime) -> ExitCode {
 }
 
 /// Takes all figures and prints them, or says how the program is used.
-fn run<T: Threads + Wait + Sync>(rt: &HostRuntime, threads: &T) -> io::Result<()> {
+fn run<T: Threads + Wait + Clock + Sync>(rt: &HostRuntime, threads: &T) -> io::Result<()> {
     let Some(calls) = given_calls(rt)? else {
         return print_usage(rt);
     };
@@ -78,15 +72,15 @@ fn run<T: Threads + Wait + Sync>(rt: &HostRuntime, threads: &T) -> io::Result<()
         time_load(rt, threads, Keys::HalfBuilt, quarters, calls)?;
     }
     time_many_rows(rt, threads, calls)?;
-    print_lines(rt, time_lines(rt, calls)?)?;
-    print_guesses(rt, time_guesses(rt, threads, 10, calls)?)?;
-    print_guesses(rt, time_guesses(rt, threads, 1_000, calls)?)?;
-    print_guesses(rt, time_guesses(rt, threads, 16_384, calls)?)
+    print_lines(rt, time_lines(rt, rt.alloc(), calls)?)?;
+    print_guesses(rt, time_guesses(threads, rt.alloc(), 10, calls)?)?;
+    print_guesses(rt, time_guesses(threads, rt.alloc(), 1_000, calls)?)?;
+    print_guesses(rt, time_guesses(threads, rt.alloc(), 16_384, calls)?)
 }
 
 // Takes the figures of a row of so many quarters of its cells, and prints a line for each. No row
 // has fewer cells than it was built with, and one that has no more is given none.
-fn time_load<T: Threads + Wait + Sync>(
+fn time_load<T: Threads + Wait + Clock + Sync>(
     rt: &HostRuntime,
     threads: &T,
     keys: Keys,
@@ -110,26 +104,26 @@ fn time_load<T: Threads + Wait + Sync>(
         reading: Reading::Scans,
         calls,
     };
-    print_reads(rt, "get", load, time_reads(rt, threads, gets)?)?;
-    print_reads(rt, "scan", load, time_reads(rt, threads, scans)?)?;
+    print_reads(rt, "get", load, time_reads(threads, rt.alloc(), gets)?)?;
+    print_reads(rt, "scan", load, time_reads(threads, rt.alloc(), scans)?)?;
     if load.cells == load.built() {
         return Ok(());
     }
-    print_puts(rt, load, time_puts(rt, threads, load, calls)?)
+    print_puts(rt, load, time_puts(threads, rt.alloc(), load, calls)?)
 }
 
 // Takes the figures of maps of many rows, and prints them.
-fn time_many_rows<T: Threads + Wait + Sync>(
+fn time_many_rows<T: Threads + Wait + Clock + Sync>(
     rt: &HostRuntime,
     threads: &T,
     calls: u32,
 ) -> io::Result<()> {
-    print_map(rt, time_map(rt, threads, calls)?)?;
-    print_sums(rt, time_sums(rt, threads, calls / PUTS_A_SUM)?)?;
+    print_map(rt, time_map(threads, rt.alloc(), calls)?)?;
+    print_sums(rt, time_sums(threads, rt.alloc(), calls / PUTS_A_SUM)?)?;
     print_fill_heads(rt)?;
-    print_fill(rt, time_fill(rt, threads, Order::Rising, calls)?)?;
-    print_fill(rt, time_fill(rt, threads, Order::Falling, calls)?)?;
-    print_fill(rt, time_fill(rt, threads, Order::Random, calls)?)?;
+    print_fill(rt, time_fill(threads, rt.alloc(), Order::Rising, calls)?)?;
+    print_fill(rt, time_fill(threads, rt.alloc(), Order::Falling, calls)?)?;
+    print_fill(rt, time_fill(threads, rt.alloc(), Order::Random, calls)?)?;
     print_moving_heads(rt)?;
     time_both(rt, threads, Moving::Window, calls)?;
     time_both(rt, threads, Moving::Series, calls / 20)?;
@@ -139,12 +133,12 @@ fn time_many_rows<T: Threads + Wait + Sync>(
 
 // Takes the figures of so many puts of keys that come and go, by one thread and by four, and prints
 // a line for each.
-fn time_both<T: Threads + Wait + Sync>(
+fn time_both<T: Threads + Wait + Clock + Sync>(
     rt: &HostRuntime,
     threads: &T,
     moving: Moving,
     puts: u32,
 ) -> io::Result<()> {
-    print_moving(rt, time_moving(rt, threads, moving, 1, puts)?)?;
-    print_moving(rt, time_moving(rt, threads, moving, 4, puts)?)
+    print_moving(rt, time_moving(threads, rt.alloc(), moving, 1, puts)?)?;
+    print_moving(rt, time_moving(threads, rt.alloc(), moving, 4, puts)?)
 }

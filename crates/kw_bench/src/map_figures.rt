@@ -1,9 +1,9 @@
 //! Figures of a map of many rows, printed.
-use crate::fill_timing::{FillFigure, Stretch};
-use crate::map_timing::MapFigure;
-use crate::moving_timing::MovingFigure;
-use crate::sum_timing::{PUTTING, SumFigure};
 use kw_loads::map_load::{KEYS, ROWS, SUMMED};
+use kw_timing::fill_timing::{FillFigure, Stretch};
+use kw_timing::map_timing::MapFigure;
+use kw_timing::moving_timing::MovingFigure;
+use kw_timing::sum_timing::{PUTTING, SumFigure};
 use kw_words::layout::Layout;
 use kw_words::sizes::{CELLS, SEATS};
 use std::io;

@@ -1,4 +1,4 @@
-use Rattle.kw_bench.proofs.timing.time_threads.Goals as goal
+use Rattle.kw_timing.proofs.timing.time_threads.Goals as goal
 
 -- all passes of the map are idle
 pub read_by_each-requires-after_bounds : goal.read_by_each-requires-after_bounds

@@ -8,10 +8,11 @@ use kw_loads::map_calls::{Kind, call_by_each, put_keys};
 use kw_loads::map_load::ROWS;
 use kw_map::Pass;
 use kw_map::kiwi::Kiwi;
+use std::alloc::Global;
 use std::io;
 use std::sync::Wait;
 use std::thread::Threads;
-use std::time::Instant;
+use std::time::{Clock, Instant};
 
 /// How long calls took that threads shared, in nanoseconds: for each kind, all its calls.
 #[derive(Clone, Copy, Debug)]
@@ -38,32 +39,32 @@ pub struct MapFigure {
 }
 
 /// Times so many calls of each kind on maps of many rows that hold all keys.
-pub fn time_map<T: Threads + Wait + Sync>(
-    rt: &HostRuntime,
-    threads: &T,
+pub fn time_map<R: Threads + Wait + Clock + Sync>(
+    rt: &R,
+    alloc: Global,
     calls: u32,
 ) -> io::Result<MapFigure> {
     Ok(MapFigure {
-        one: time_shared(rt, threads, 1, calls)?,
-        two: time_shared(rt, threads, 2, calls / 2)?,
-        four: time_shared(rt, threads, 4, calls / 4)?,
+        one: time_shared(rt, alloc, 1, calls)?,
+        two: time_shared(rt, alloc, 2, calls / 2)?,
+        four: time_shared(rt, alloc, 4, calls / 4)?,
     })
 }
 
 // Times the calls of so many threads, each for so many of each kind.
-fn time_shared<T: Threads + Wait + Sync>(
-    rt: &HostRuntime,
-    threads: &T,
+fn time_shared<R: Threads + Wait + Clock + Sync>(
+    rt: &R,
+    alloc: Global,
     count: u32,
     calls: u32,
 ) -> io::Result<Times>
     requires { count < SEATS }
 {
-    let (kiwi, passes, filling) = opened(rt.alloc(), ROWS, count)?;
-    put_keys(threads, &kiwi, filling);
-    let (puts, passes) = time_kind(rt, threads, &kiwi, passes, Kind::Puts, calls)?;
-    let (gets, passes) = time_kind(rt, threads, &kiwi, passes, Kind::Gets, calls)?;
-    let (mixed, _) = time_kind(rt, threads, &kiwi, passes, Kind::Mixed, calls)?;
+    let (kiwi, passes, filling) = opened(alloc, ROWS, count)?;
+    put_keys(rt, &kiwi, filling);
+    let (puts, passes) = time_kind(rt, &kiwi, passes, Kind::Puts, calls)?;
+    let (gets, passes) = time_kind(rt, &kiwi, passes, Kind::Gets, calls)?;
+    let (mixed, _) = time_kind(rt, &kiwi, passes, Kind::Mixed, calls)?;
     Ok(Times {
         calls,
         puts,
@@ -73,9 +74,8 @@ fn time_shared<T: Threads + Wait + Sync>(
 }
 
 // Times calls of one kind, by a thread for each pass.
-fn time_kind<T: Threads + Wait + Sync>(
-    rt: &HostRuntime,
-    threads: &T,
+fn time_kind<R: Threads + Wait + Clock + Sync>(
+    rt: &R,
     kiwi: &Kiwi,
     passes: Vec<Pass>,
     kind: Kind,
@@ -85,7 +85,7 @@ fn time_kind<T: Threads + Wait + Sync>(
     ensures { IfOk result (λ timed. All (IsIdle kiwi.now) timed.1.items) }
 {
     let start = Instant::now(rt)?;
-    let Ok(done) = call_by_each(threads, kiwi, passes, kind, calls) else {
+    let Ok(done) = call_by_each(rt, kiwi, passes, kind, calls) else {
         return Err(no_memory(()));
     };
     let took = start.elapsed(rt)?.as_nanos();

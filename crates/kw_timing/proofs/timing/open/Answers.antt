@@ -2,7 +2,7 @@
 use Rattle.std.proofs.Common.{Some}
 use Rattle.std.proofs.lemmas.List.Elements.{All-pop}
 use Rattle.kw_map.specs.Kiwi.{IsIdle}
-use Rattle.kw_bench.proofs.timing.open.Goals as goal
+use Rattle.kw_timing.proofs.timing.open.Goals as goal
 
 pub returns-clause-idle : goal.returns-clause-idle
 returns-clause-idle c = (All-pop (IsIdle c.in_ok-kiwi.kiwi) _ _ (Some c.in-Some.filling) c.in-Some.ensures.items c.in_ok-kiwi.ensures.idle).0

@@ -3,10 +3,11 @@ use crate::timing::{no_memory, opened};
 use kw_loads::map_calls::put_keys;
 use kw_loads::map_load::ROWS;
 use kw_loads::sum_calls::{sum_beside, sum_keys};
+use std::alloc::Global;
 use std::io;
 use std::sync::Wait;
 use std::thread::Threads;
-use std::time::Instant;
+use std::time::{Clock, Instant};
 
 /// How many threads put beside the one that sums.
 pub const PUTTING: u32 = 3;
@@ -25,18 +26,18 @@ pub struct SumFigure {
 }
 
 /// Times so many sums, alone and then beside threads that put all the time.
-pub fn time_sums<T: Threads + Wait + Sync>(
-    rt: &HostRuntime,
-    threads: &T,
+pub fn time_sums<R: Threads + Wait + Clock + Sync>(
+    rt: &R,
+    alloc: Global,
     calls: u32,
 ) -> io::Result<SumFigure> {
-    let (kiwi, putting, filling) = opened(rt.alloc(), ROWS, PUTTING)?;
-    let pass = put_keys(threads, &kiwi, filling);
+    let (kiwi, putting, filling) = opened(alloc, ROWS, PUTTING)?;
+    let pass = put_keys(rt, &kiwi, filling);
     let start = Instant::now(rt)?;
     let pass = sum_keys(&kiwi, pass, calls);
     let alone = start.elapsed(rt)?.as_nanos();
     let start = Instant::now(rt)?;
-    let counts = sum_beside(threads, &kiwi, pass, putting, calls).map_err(no_memory)?;
+    let counts = sum_beside(rt, &kiwi, pass, putting, calls).map_err(no_memory)?;
     let beside = start.elapsed(rt)?.as_nanos();
     Ok(SumFigure {
         calls,

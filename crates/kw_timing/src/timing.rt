@@ -12,7 +12,7 @@ use std::alloc::Global;
 use std::io;
 use std::sync::Wait;
 use std::thread::Threads;
-use std::time::Instant;
+use std::time::{Clock, Instant};
 
 /// How long calls that read took, in nanoseconds.
 #[derive(Clone, Copy, Debug)]
@@ -73,41 +73,41 @@ pub(crate) fn opened(alloc: Global, rows: u32, threads: u32) -> io::Result<(Kiwi
 }
 
 /// Times calls that read, on maps with a row of the task's load, by one thread, by two and by four.
-pub fn time_reads<T: Threads + Wait + Sync>(
-    rt: &HostRuntime,
-    threads: &T,
+pub fn time_reads<R: Threads + Wait + Clock + Sync>(
+    rt: &R,
+    alloc: Global,
     task: Task,
 ) -> io::Result<ReadFigure> {
     Ok(ReadFigure {
         calls: task.calls,
-        one: time_threads(rt, threads, task, 1)?,
-        two: time_threads(rt, threads, task, 2)?,
-        four: time_threads(rt, threads, task, 4)?,
+        one: time_threads(rt, alloc, task, 1)?,
+        two: time_threads(rt, alloc, task, 2)?,
+        four: time_threads(rt, alloc, task, 4)?,
     })
 }
 
 // What so many threads take, each for the task's calls.
-fn time_threads<T: Threads + Wait + Sync>(
-    rt: &HostRuntime,
-    threads: &T,
+fn time_threads<R: Threads + Wait + Clock + Sync>(
+    rt: &R,
+    alloc: Global,
     task: Task,
     count: u32,
 ) -> io::Result<u128>
     requires { count < SEATS }
 {
-    let (kiwi, passes, filling) = opened(rt.alloc(), task.load.rows(), count)?;
-    let filling = build_row(threads, &kiwi, filling, task.load);
-    let _filling = put_cells(threads, &kiwi, filling, task.load);
+    let (kiwi, passes, filling) = opened(alloc, task.load.rows(), count)?;
+    let filling = build_row(rt, &kiwi, filling, task.load);
+    let _filling = put_cells(rt, &kiwi, filling, task.load);
     let start = Instant::now(rt)?;
-    read_by_each(threads, &kiwi, passes, task).map_err(no_memory)?;
+    read_by_each(rt, &kiwi, passes, task).map_err(no_memory)?;
     Ok(start.elapsed(rt)?.as_nanos())
 }
 
 /// Times puts into rows that fill, each with this load, until about so many puts are made. What
 /// opening the maps and building the rows takes is not in the figure.
-pub fn time_puts<T: Threads + Wait + Sync>(
-    rt: &HostRuntime,
-    threads: &T,
+pub fn time_puts<R: Threads + Wait + Clock + Sync>(
+    rt: &R,
+    alloc: Global,
     load: Load,
     calls: u32,
 ) -> io::Result<PutFigure> {
@@ -115,10 +115,10 @@ pub fn time_puts<T: Threads + Wait + Sync>(
     let maps = calls / puts.max(1);
     let mut one: u128 = 0;
     for _ in 0..maps {
-        let (kiwi, _, filling) = opened(rt.alloc(), load.rows(), 0)?;
-        let filling = build_row(threads, &kiwi, filling, load);
+        let (kiwi, _, filling) = opened(alloc, load.rows(), 0)?;
+        let filling = build_row(rt, &kiwi, filling, load);
         let start = Instant::now(rt)?;
-        put_cells(threads, &kiwi, filling, load);
+        put_cells(rt, &kiwi, filling, load);
         one = one.saturating_add(start.elapsed(rt)?.as_nanos());
     }
     Ok(PutFigure {

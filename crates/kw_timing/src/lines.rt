@@ -8,7 +8,7 @@ use kw_line::parse::{MOST_BYTES, parse};
 use kw_line::print::print;
 use std::alloc::{AllocError, Global};
 use std::io;
-use std::time::Instant;
+use std::time::{Clock, Instant};
 
 /// How long an input took, in nanoseconds.
 #[derive(Clone, Copy, Debug)]
@@ -48,14 +48,14 @@ fn numbers(alloc: Global, count: usize) -> Result<Vec<Answer>, AllocError> {
 }
 
 /// Times the reading of an input and the printing of an answer to each of its lines.
-pub fn time_lines(rt: &HostRuntime, lines: u32) -> io::Result<LineFigure> {
-    let bytes = input(rt.alloc(), lines).map_err(no_memory)?;
+pub fn time_lines<R: Clock>(rt: &R, alloc: Global, lines: u32) -> io::Result<LineFigure> {
+    let bytes = input(alloc, lines).map_err(no_memory)?;
     let start = Instant::now(rt)?;
-    let items = parse(rt.alloc(), &bytes).map_err(no_memory)?;
+    let items = parse(alloc, &bytes).map_err(no_memory)?;
     let reading = start.elapsed(rt)?.as_nanos();
-    let answers = numbers(rt.alloc(), items.len()).map_err(no_memory)?;
+    let answers = numbers(alloc, items.len()).map_err(no_memory)?;
     let start = Instant::now(rt)?;
-    print(rt.alloc(), &answers).map_err(no_memory)?;
+    print(alloc, &answers).map_err(no_memory)?;
     let printing = start.elapsed(rt)?.as_nanos();
     Ok(LineFigure {
         lines: items.len(),

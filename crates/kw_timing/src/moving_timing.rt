@@ -6,11 +6,12 @@ ghost use Rattle.kw_words.specs.declared.sizes.TheConstants.{SEATS};
 use crate::timing::{no_memory, opened};
 use kw_loads::moving::Moving;
 use kw_loads::moving_calls::{Part, move_by_each};
+use std::alloc::Global;
 use std::io;
 use std::sync::Wait;
 use std::sync::atomic::{AtomicU64, Ordering};
 use std::thread::Threads;
-use std::time::Instant;
+use std::time::{Clock, Instant};
 
 /// How long puts and deletes took, and how many rows were in use.
 #[derive(Clone, Copy, Debug)]
@@ -33,21 +34,21 @@ pub struct MovingFigure {
 
 /// Times so many puts of keys that come and go, and the deletes of those that go, shared by so many
 /// threads.
-pub fn time_moving<T: Threads + Wait + Sync>(
-    rt: &HostRuntime,
-    threads: &T,
+pub fn time_moving<R: Threads + Wait + Clock + Sync>(
+    rt: &R,
+    alloc: Global,
     moving: Moving,
     count: u32,
     puts: u32,
 ) -> io::Result<MovingFigure>
     requires { count < SEATS }
 {
-    let (kiwi, passes, _) = opened(rt.alloc(), moving.rows(), count)?;
+    let (kiwi, passes, _) = opened(alloc, moving.rows(), count)?;
     let refused = AtomicU64::new(0);
     let tenth = moving.turns(puts / 10);
     let start = Instant::now(rt)?;
     let Ok(passes) = move_by_each(
-        threads,
+        rt,
         &kiwi,
         passes,
         Part::of(moving, count, 0, tenth),
@@ -57,7 +58,7 @@ pub fn time_moving<T: Threads + Wait + Sync>(
     };
     let early = kiwi.rows_in_use();
     let rest = Part::of(moving, count, tenth, moving.turns(puts));
-    if move_by_each(threads, &kiwi, passes, rest, &refused).is_err() {
+    if move_by_each(rt, &kiwi, passes, rest, &refused).is_err() {
         return Err(no_memory(()));
     }
     Ok(MovingFigure {

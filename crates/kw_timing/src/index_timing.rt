@@ -3,9 +3,10 @@ ghost use Rattle.std.specs.Prelude.{◌≤◌};
 
 use crate::timing::no_memory;
 use kw_loads::guessing::{Asked, Crowd, ask_by_four, ask_in_a_crowd, entries_of_all, index_of_all};
+use std::alloc::Global;
 use std::io;
 use std::thread::Threads;
-use std::time::Instant;
+use std::time::{Clock, Instant};
 
 /// How long guesses took, in nanoseconds.
 #[derive(Clone, Copy, Debug)]
@@ -29,29 +30,29 @@ pub struct GuessFigure {
 }
 
 /// Times guesses of an index with an entry for each of so many rows.
-pub fn time_guesses<T: Threads + Sync>(
-    rt: &HostRuntime,
-    threads: &T,
+pub fn time_guesses<R: Threads + Clock + Sync>(
+    rt: &R,
+    alloc: Global,
     rows: u32,
     calls: u32,
 ) -> io::Result<GuessFigure>
     requires { 1 ≤ rows }
 {
-    let index = index_of_all(rt.alloc(), rows).map_err(no_memory)?;
-    let entries = entries_of_all(rt.alloc(), rows).map_err(no_memory)?;
+    let index = index_of_all(alloc, rows).map_err(no_memory)?;
+    let entries = entries_of_all(alloc, rows).map_err(no_memory)?;
     let plain = Asked::Slice(entries.list());
     let start = Instant::now(rt)?;
-    let searched = plain.for_keys(rt.alloc(), 1, calls).map_err(no_memory)?;
+    let searched = plain.for_keys(alloc, 1, calls).map_err(no_memory)?;
     let slice = start.elapsed(rt)?.as_nanos();
     let start = Instant::now(rt)?;
-    ask_by_four(threads, rt.alloc(), plain, calls).map_err(no_memory)?;
+    ask_by_four(rt, alloc, plain, calls).map_err(no_memory)?;
     let slice_by_four = start.elapsed(rt)?.as_nanos();
     let asked = Asked::Index(&index);
     let start = Instant::now(rt)?;
-    let guessed = asked.for_keys(rt.alloc(), 1, calls).map_err(no_memory)?;
+    let guessed = asked.for_keys(alloc, 1, calls).map_err(no_memory)?;
     let one = start.elapsed(rt)?.as_nanos();
     let start = Instant::now(rt)?;
-    let crowd = ask_in_a_crowd(threads, rt.alloc(), &index, calls).map_err(no_memory)?;
+    let crowd = ask_in_a_crowd(rt, alloc, &index, calls).map_err(no_memory)?;
     let four = start.elapsed(rt)?.as_nanos();
     Ok(GuessFigure {
         entries: rows,

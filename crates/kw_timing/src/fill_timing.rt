@@ -9,10 +9,11 @@ use kw_loads::map_load::{Order, ROWS};
 use kw_map::Pass;
 use kw_map::kiwi::Kiwi;
 use kw_words::sizes::BUILT_COUNT;
+use std::alloc::Global;
 use std::io;
 use std::sync::Wait;
 use std::thread::Threads;
-use std::time::Instant;
+use std::time::{Clock, Instant};
 
 /// In which order a map is filled, and how far at most.
 #[derive(Clone, Copy, Debug, PartialEq, Eq)]
@@ -50,23 +51,23 @@ pub struct FillFigure {
 }
 
 /// Times puts into an empty map until one is refused, or so many are made.
-pub fn time_fill<T: Threads + Wait + Sync>(
-    rt: &HostRuntime,
-    threads: &T,
+pub fn time_fill<R: Threads + Wait + Clock + Sync>(
+    rt: &R,
+    alloc: Global,
     order: Order,
     calls: u32,
 ) -> io::Result<FillFigure> {
-    let (kiwi, _, mut pass) = opened(rt.alloc(), ROWS, 0)?;
+    let (kiwi, _, mut pass) = opened(alloc, ROWS, 0)?;
     let plan = Plan { order, calls };
     let empty = Filled {
         keys: 0,
         refused: false,
     };
     let start = Instant::now(rt)?;
-    let (filled, few) = time_stretch(rt, threads, &kiwi, &mut pass, plan, empty, 1_024)?;
-    let (filled, some) = time_stretch(rt, threads, &kiwi, &mut pass, plan, filled, 4_096)?;
-    let (filled, many) = time_stretch(rt, threads, &kiwi, &mut pass, plan, filled, 16_384)?;
-    let filled = put_upto(threads, &kiwi, &mut pass, order, filled, calls);
+    let (filled, few) = time_stretch(rt, &kiwi, &mut pass, plan, empty, 1_024)?;
+    let (filled, some) = time_stretch(rt, &kiwi, &mut pass, plan, filled, 4_096)?;
+    let (filled, many) = time_stretch(rt, &kiwi, &mut pass, plan, filled, 16_384)?;
+    let filled = put_upto(rt, &kiwi, &mut pass, order, filled, calls);
     Ok(FillFigure {
         order,
         few,
@@ -79,8 +80,7 @@ pub fn time_fill<T: Threads + Wait + Sync>(
 
 // Puts on until so many rows' worth of keys are in, but no more than so many keys, and times the
 // last quarter of them.
-fn time_stretch<R: Wait>(
-    clock: &HostRuntime,
+fn time_stretch<R: Wait + Clock>(
     rt: &R,
     kiwi: &Kiwi,
     pass: &mut Pass,
@@ -101,9 +101,9 @@ fn time_stretch<R: Wait>(
         filled,
         plan.calls.min(keys - keys / 4),
     );
-    let start = Instant::now(clock)?;
+    let start = Instant::now(rt)?;
     let ended = put_upto(rt, kiwi, pass, plan.order, begun, plan.calls.min(keys));
-    let took = start.elapsed(clock)?.as_nanos();
+    let took = start.elapsed(rt)?.as_nanos();
     let puts = ended.keys.saturating_sub(begun.keys);
     Ok((ended, Stretch { puts, took }))
 }
