@@ -13,7 +13,7 @@
 # Stop all else first; a round takes two to four minutes. In each every program runs once, ours and
 # those of plain Rust in turn, so that what the machine does besides meets all of them; the figures
 # are medians over the rounds. It needs the commands rt, rustc and python3. tools/plot_measures.py
-# then writes the data (measures.csv), the pictures where matplotlib is there, and the tables.
+# then writes the data (measures.csv), the pictures and the tables.
 set -euo pipefail
 top=$(cd "$(dirname "$(readlink -f "$0")")/.." && pwd)
 rounds=5 calls=2000000 bytes=16777216 kiwi= bench= to=$top/docs/figures
@@ -103,9 +103,4 @@ for ((round = 1; round <= rounds; round++)); do
     done
   done
 done
-# The first Python that can draw, if there is one.
-python=python3
-for other in python3 /usr/bin/python3; do
-  "$other" -c 'import matplotlib' 2>/dev/null && python=$other && break
-done
-"$python" "$top/tools/plot_measures.py" "$room" "$to"
+python3 "$top/tools/plot_measures.py" "$room" "$to"

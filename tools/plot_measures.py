@@ -6,18 +6,20 @@ docs/PERFORMANCE.md.
       ROOM has what the programs printed; FOLDER gets what is made of it
   tools/plot_measures.py --again FOLDER  makes tables and pictures from the data that FOLDER has
 
-In FOLDER it writes `measures.csv`, a line for each figure of each round, and the pictures where
-matplotlib is installed (Debian: python3-matplotlib); where it is not, it says so, and the pictures
-that are there stay. Where FOLDER is docs/figures, the tables are put between their marks in
-docs/PERFORMANCE.md and README.md; else into FOLDER/tables.md. A figure in a table is the median
-over the rounds; a bar in a picture goes from the least to the greatest."""
+In FOLDER it writes `measures.csv`, a line for each figure of each round, and the pictures. Where
+FOLDER is docs/figures, the tables are put between their marks in docs/PERFORMANCE.md and README.md;
+else into FOLDER/tables.md. A figure in a table is the median over the rounds; a bar in a picture
+goes from the least to the greatest."""
 
 import csv
 import re
 import sys
 from collections import defaultdict
+from dataclasses import replace
 from pathlib import Path
 from statistics import median
+
+from svg_panels import Look, Panel, Point, picture
 
 TOP = Path(__file__).resolve().parent.parent
 FIGURES = TOP / "docs" / "figures"
@@ -39,6 +41,9 @@ NAMES = {"kiwi": "KiWi", "std": "std's map", "Mutex": "std's map, Mutex", "RwLoc
 # Colours that are told apart by all eyes; marks and lines tell them too.
 COLOURS = {"kiwi": "#0072b2", "std": "#555555", "Mutex": "#e69f00", "RwLock": "#cc79a7", "native": "#555555"}
 MARKS = {"kiwi": "o", "std": "s", "Mutex": "^", "RwLock": "v", "native": "s"}
+LOOKS = {name: Look(COLOURS[name], MARKS[name]) for name in NAMES}
+# The maps that threads share.
+SHARED = ("kiwi", "Mutex", "RwLock")
 
 
 def row_figures(text):
@@ -219,97 +224,79 @@ def place(page, tables):
     page.write_text(text)
 
 
-def draw_line(axes, data, keys, xs, name, scale=lambda x, figure: figure, **look):
-    """Draws medians over xs as a line, and at each a bar from the least round to the greatest."""
-    points = [(x, sorted(scale(x, it) for it in data.of(*key))) for x, key in zip(xs, keys) if data.of(*key)]
-    if not points:
-        return
-    medians = [median(found) for _, found in points]
-    below = [middle - found[0] for (_, found), middle in zip(points, medians)]
-    above = [found[-1] - middle for (_, found), middle in zip(points, medians)]
-    look = {"label": NAMES[name], "linestyle": "-", "zorder": 3 if name == "kiwi" else 2, **look}
-    axes.errorbar([x for x, _ in points], medians, [below, above], color=COLOURS[name], marker=MARKS[name], capsize=3, elinewidth=1, **look)
+def draw_line(panel, data, keys, places, name, scale=lambda place, figure: figure, words="", **look):
+    """Draws the figures of the keys over their places as a line."""
+    found = [(place, sorted(scale(place, it) for it in data.of(*key))) for place, key in zip(places, keys)]
+    points = [Point(place, rounds[0], median(rounds), rounds[-1]) for place, rounds in found if rounds]
+    if points:
+        panel.add_line(points, replace(LOOKS[name], **look), words or NAMES[name])
 
 
-def finish(axes, title, x_label, ticks=()):
-    axes.set_title(title)
-    axes.set_xlabel(x_label)
-    axes.grid(axis="y", color="#dddddd")
-    axes.set_axisbelow(True)
-    axes.spines[["top", "right"]].set_visible(False)
-    axes.margins(x=0.1)
-    if ticks:
-        axes.set_xticks(ticks, [f"{it // 1024} Ki" if it > 9999 else str(it) for it in ticks])
+def finish(panel, title, right, ticks):
+    panel.title, panel.right = title, right
+    panel.ticks = [(it, f"{it // 1024} Ki" if it > 9999 else str(it)) for it in ticks]
 
 
 def plot_row(panels, data):
-    for axes, what in zip(panels, ("get", "scan", "put")):
-        for table, words, look in (("row", "", {}), ("built", f", {BUILT} cells built", {"linestyle": ":", "markerfacecolor": "white"})):
+    for panel, what in zip(panels, ("get", "scan", "put")):
+        for table, words, look in (("row", "", {}), ("built", f", {BUILT} cells built", {"dashes": "2 2", "is_hollow": True})):
             cells = data.counts(table)
             for name in ("kiwi", "native"):
-                draw_line(axes, data, [(table, name, what, it) for it in cells], cells, name, label=NAMES[name] + words, **look)
-        finish(axes, what, "cells in the row", data.counts("row"))
-    panels[0].set_ylabel("nanoseconds a call, one thread")
+                draw_line(panel, data, [(table, name, what, it) for it in cells], cells, name, words=NAMES[name] + words, **look)
+        finish(panel, what, "cells in the row", data.counts("row"))
+    panels[0].up = "nanoseconds a call, one thread"
 
 
 def plot_calls(panels, data):
-    for axes, (what, word) in zip(panels, CALLS.items()):
-        for name in ("kiwi", "RwLock", "Mutex", "std"):
-            draw_line(axes, data, [("calls", name, what, it) for it in THREADS], THREADS, name, lambda threads, ns: 1000 * threads / ns)
-        finish(axes, word, "threads", THREADS)
-    panels[0].set_ylabel("million calls a second, all threads")
+    for panel, (what, word) in zip(panels, CALLS.items()):
+        for name in ("std", "Mutex", "RwLock", "kiwi"):
+            draw_line(panel, data, [("calls", name, what, it) for it in THREADS], THREADS, name, lambda threads, ns: 1000 * threads / ns)
+        finish(panel, word, "threads", THREADS)
+    panels[0].up = "million calls a second, all threads"
 
 
 def plot_sums(panels, data):
     grey = "#999999"
-    draw_bars(panels[0], data, {"alone": ("alone", "white"), "beside": ("beside others: a sum beside three threads that put, a put beside sums", grey)})
-    finish(panels[0], "a sum of 1,000 keys", "")
-    panels[0].set_ylabel("microseconds a sum")
-    draw_bars(panels[1], data, {"put": (None, grey)})
-    finish(panels[1], "a put", "")
-    panels[1].set_ylabel("microseconds a put")
-    for axes in panels:
-        axes.set_xticks(range(3), [NAMES[name].replace(", ", ",\n") for name in ("kiwi", "Mutex", "RwLock")])
+    draw_columns(panels[0], data, {"alone": ("alone", "white"), "beside": ("beside others: a sum beside three threads that put, a put beside sums", grey)})
+    draw_columns(panels[1], data, {"put": ("", grey)})
+    for panel, title, call in zip(panels, ("a sum of 1,000 keys", "a put"), ("sum", "put")):
+        panel.title, panel.up = title, f"microseconds a {call}"
+        panel.ticks = [(number, NAMES[name].replace(", ", ",\n")) for number, name in enumerate(SHARED)]
 
 
-def draw_bars(axes, data, parts):
-    """Draws the medians of each part for each map that threads share, with a bar over its
-    rounds."""
+def draw_columns(panel, data, parts):
+    """Draws each part for each map that threads share."""
     width = 0.8 / len(parts)
-    for at, (what, (label, colour)) in enumerate(parts.items()):
-        found = [(number, sorted(it / 1000 for it in data.of("sums", name, what, 1))) for number, name in enumerate(("kiwi", "Mutex", "RwLock"))]
-        found = [(number, rounds) for number, rounds in found if rounds]
-        places = [number + (at - (len(parts) - 1) / 2) * width for number, _ in found]
-        middles = [median(rounds) for _, rounds in found]
-        spans = [[middle - rounds[0] for middle, (_, rounds) in zip(middles, found)], [rounds[-1] - middle for middle, (_, rounds) in zip(middles, found)]]
-        axes.bar(places, middles, width, yerr=spans, capsize=3, label=label, color=colour, edgecolor="black", linewidth=0.8)
+    for at, (what, (words, colour)) in enumerate(parts.items()):
+        found = [(number, sorted(it / 1000 for it in data.of("sums", name, what, 1))) for number, name in enumerate(SHARED)]
+        place = lambda number, at=at: number + (at - (len(parts) - 1) / 2) * width
+        points = [Point(place(number), rounds[0], median(rounds), rounds[-1]) for number, rounds in found if rounds]
+        panel.add_columns(points, width, colour, words)
 
 
 def plot_fill(panels, data):
     keys = [*FILLED.values()]
-    for axes, order in zip(panels, ORDERS):
-        for name in ("kiwi", "std"):
-            draw_line(axes, data, [("fill", name, order, it) for it in keys], keys, name)
-        axes.set_xscale("log")
-        finish(axes, f"{order} keys", "keys in the map", keys)
-        axes.set_xlim(keys[0] / 1.5, keys[-1] * 1.5)
-        axes.minorticks_off()
-    panels[0].set_ylabel("nanoseconds a put, one thread")
+    for panel, order in zip(panels, ORDERS):
+        panel.is_by_powers = True
+        for name in ("std", "kiwi"):
+            draw_line(panel, data, [("fill", name, order, it) for it in keys], keys, name)
+        finish(panel, f"{order} keys", "keys in the map", keys)
+    panels[0].up = "nanoseconds a put, one thread"
 
 
 def plot_replay(panels, data):
-    for axes, (percent, word) in zip(panels, INPUTS.items()):
+    seconds = lambda _, milliseconds: milliseconds / 1000
+    for panel, (percent, word) in zip(panels, INPUTS.items()):
         base = data.median("replay", "std", percent, 1)
         if base:
-            axes.axhline(base / 1000, color=COLOURS["std"], linestyle="--", linewidth=1)
-        seconds = lambda _, milliseconds: milliseconds / 1000
-        draw_line(axes, data, [("replay", "kiwi", percent, it) for it in THREADS], THREADS, "kiwi", seconds)
-        draw_line(axes, data, [("replay", "std", percent, 1)], THREADS, "std", seconds, label="one thread on std's map", linestyle="--")
-        finish(axes, word, "workers", THREADS)
-    panels[0].set_ylabel("seconds a run")
+            panel.add_level(base / 1000, Look(COLOURS["std"], dashes="4 3"))
+        draw_line(panel, data, [("replay", "std", percent, 1)], THREADS, "std", seconds, "one thread on std's map", dashes="4 3")
+        draw_line(panel, data, [("replay", "kiwi", percent, it) for it in THREADS], THREADS, "kiwi", seconds)
+        finish(panel, word, "workers", THREADS)
+    panels[0].up = "seconds a run"
 
 
-# Each picture: what draws it, how many panels it has, whether these share an axis, and what is said
+# Each picture: what draws it, how many panels it has, whether these go up alike, and what is said
 # in its place where it is not shown.
 PLOTS = {
     "row": (plot_row, 3, False, "a get, a scan and a put of a row, by cells, built or not, beside native code"),
@@ -321,25 +308,10 @@ PLOTS = {
 
 
 def draw(data, folder):
-    """Draws each picture, if matplotlib is there."""
-    try:
-        import matplotlib
-
-        matplotlib.use("svg")
-        from matplotlib import pyplot
-    except ImportError:
-        print("plot_measures: matplotlib is not installed, so no picture was drawn (Debian: apt-get install python3-matplotlib)", file=sys.stderr)
-        return
-    pyplot.rcParams.update({"svg.fonttype": "none", "svg.hashsalt": "kiwi", "font.size": 10, "axes.titlesize": 11})
-    for name, (plot, count, is_shared, _) in PLOTS.items():
-        figure, panels = pyplot.subplots(1, count, figsize=(3.4 * count, 3.2), sharey=is_shared, layout="constrained")
+    for name, (plot, count, is_alike, _) in PLOTS.items():
+        panels = [Panel() for _ in range(count)]
         plot(panels, data)
-        for axes in panels:
-            axes.set_ylim(bottom=0)
-        shown = {label: handle for axes in panels for handle, label in zip(*axes.get_legend_handles_labels())}
-        figure.legend(shown.values(), shown.keys(), loc="upper center", bbox_to_anchor=(0.5, 0), ncols=len(shown), frameon=False)
-        figure.savefig(folder / f"{name}.svg", bbox_inches="tight", metadata={"Date": None})
-        pyplot.close(figure)
+        (folder / f"{name}.svg").write_text(picture(panels, is_alike))
 
 
 def main():
@@ -355,8 +327,7 @@ def main():
     tables = {name: "\n".join(table(data)) for name, table in TABLES.items()}
     if folder.resolve() == FIGURES:
         for name, (*_, words) in PLOTS.items():
-            if (folder / f"{name}.svg").exists():
-                tables[name] += f"\n\n![{words}](figures/{name}.svg)"
+            tables[name] += f"\n\n![{words}](figures/{name}.svg)"
         for page in PAGES:
             place(page, tables)
     else:
