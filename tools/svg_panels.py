@@ -12,7 +12,7 @@ from xml.sax.saxutils import escape
 # The size of a panel with all that belongs to it, and what of that is beside, above and below its
 # axes.
 WIDTH, HEIGHT = 245, 222
-LEFT, RIGHT, TOP, BOTTOM = 44, 10, 22, 40
+LEFT, RIGHT, TOP, BOTTOM = 50, 10, 22, 40
 # The height of a line of words, how wide a letter is taken to be, and half the width of a mark.
 LINE, LETTER, HALF = 12, 5.1, 3.2
 # How much longer than the greatest figure an axis may be that it ends at a round number.
