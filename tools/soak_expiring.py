@@ -6,7 +6,7 @@ is checked, and none may be a refusal.
   tools/soak_expiring.py --minutes 3 --program './kiwi replay' --server 'COMMAND'
 
 A third of the time one worker answers, and a third four, on a map of 512 rows: run after run, each
-of 10,000 minutes, of which a map whose rows did not come back would take some 650. Each minute is a
+of 9,000 minutes, of which a map whose rows did not come back would take some 580. Each minute is a
 block, so that no worker is far ahead of one that the system halts. At each twentieth one stand
 sums, counts, least and greatest values, lists, and gets of keys that expired, in a block of their
 own. The last third is one map of a server, to which four clients send minute after minute, each of
@@ -30,10 +30,11 @@ from kiwi_map import KIWI, answered, ended, expected, items_of, line_of
 from soak_kiwid import KIWID, PATIENCE, Sizes, Wrong, free_port, started, use_up, watch
 
 SERIES, KEPT, ROWS = 50, 60, 512
-# The keys of a series begin here behind those of the one before. It leaves 1 when it is divided by
-# the number of workers, so all of them have keys of each minute.
-STEP = 2**20 + 1
-MINUTES = 10_000  # of a run, whose lines are just not too long an input
+# The keys of a series begin here behind those of the one before, further than a server comes: in a
+# third of an hour some took more than 2^20 minutes. It leaves 1 when it is divided by the number of
+# workers, so all of them have keys of each minute.
+STEP = 2**22 + 1
+MINUTES = 9_000  # of a run, whose lines are just not too long an input
 ASKED = 20  # after so many minutes something is asked
 # How many clients a server has, how many minutes each sends at once, and for how many lines it
 # keeps a connection: fewer than may come by one.
