@@ -16,7 +16,7 @@ use std::thread::Threads;
 use std::time::{Clock, Instant};
 
 /// In which order a map is filled, and how far at most.
-#[derive(Clone, Copy, Debug, PartialEq, Eq)]
+#[derive(Clone, Copy)]
 pub struct Plan {
     /// In which order the keys come.
     pub order: Order,
@@ -25,7 +25,7 @@ pub struct Plan {
 }
 
 /// The last puts before a map held a number of keys: a quarter of them.
-#[derive(Clone, Copy, Debug)]
+#[derive(Clone, Copy)]
 pub struct Stretch {
     /// How many puts they were: none, if the map was never so full.
     pub puts: u32,
@@ -34,7 +34,7 @@ pub struct Stretch {
 }
 
 /// How long puts took while a map filled.
-#[derive(Clone, Copy, Debug)]
+#[derive(Clone, Copy)]
 pub struct FillFigure {
     /// In which order the keys came.
     pub order: Order,

@@ -9,7 +9,7 @@ use std::thread::Threads;
 use std::time::{Clock, Instant};
 
 /// How long guesses took, in nanoseconds.
-#[derive(Clone, Copy, Debug)]
+#[derive(Clone, Copy)]
 pub struct GuessFigure {
     /// How many entries the index and the slice had.
     pub entries: u32,

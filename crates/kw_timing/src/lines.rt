@@ -11,7 +11,7 @@ use std::io;
 use std::time::{Clock, Instant};
 
 /// How long an input took, in nanoseconds.
-#[derive(Clone, Copy, Debug)]
+#[derive(Clone, Copy)]
 pub struct LineFigure {
     /// How many lines the input had.
     pub lines: usize,

@@ -15,7 +15,7 @@ use std::thread::Threads;
 use std::time::{Clock, Instant};
 
 /// How long calls took that threads shared, in nanoseconds: for each kind, all its calls.
-#[derive(Clone, Copy, Debug)]
+#[derive(Clone, Copy)]
 pub struct Times {
     /// How many calls each thread made of each kind.
     pub calls: u32,
@@ -28,7 +28,7 @@ pub struct Times {
 }
 
 /// How long calls took by one thread, by two and by four.
-#[derive(Clone, Copy, Debug)]
+#[derive(Clone, Copy)]
 pub struct MapFigure {
     /// By one thread.
     pub one: Times,

@@ -14,7 +14,7 @@ use std::thread::Threads;
 use std::time::{Clock, Instant};
 
 /// How long puts and deletes took, and how many rows were in use.
-#[derive(Clone, Copy, Debug)]
+#[derive(Clone, Copy)]
 pub struct MovingFigure {
     /// Which keys came and went.
     pub moving: Moving,

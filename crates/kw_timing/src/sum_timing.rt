@@ -13,7 +13,7 @@ use std::time::{Clock, Instant};
 pub const PUTTING: u32 = 3;
 
 /// How long sums took, in nanoseconds.
-#[derive(Clone, Copy, Debug)]
+#[derive(Clone, Copy)]
 pub struct SumFigure {
     /// How many sums were made alone, and how many beside threads that put.
     pub calls: u32,

@@ -15,7 +15,7 @@ use std::thread::Threads;
 use std::time::{Clock, Instant};
 
 /// How long calls that read took, in nanoseconds.
-#[derive(Clone, Copy, Debug)]
+#[derive(Clone, Copy)]
 pub struct ReadFigure {
     /// How many calls each thread made.
     pub calls: u32,
@@ -28,7 +28,7 @@ pub struct ReadFigure {
 }
 
 /// How long puts took, in nanoseconds.
-#[derive(Clone, Copy, Debug)]
+#[derive(Clone, Copy)]
 pub struct PutFigure {
     /// How many puts were made.
     pub calls: u32,
