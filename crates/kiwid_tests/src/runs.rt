@@ -1,17 +1,18 @@
 //! Whole runs of the server over binders in memory.
-use crate::seats::{expect_served, link_of};
+use crate::seats::{Handed, expect_served, listener_of};
 use kiwid::binding::MemBinder;
-use kiwid::links::MemListener;
-use kiwid::server::{Status, kiwid_run};
+use kiwid::server::kiwid_run;
 use kiwid::session::SessionEnd;
 use kw_command::word::Word;
-use kw_io::{MemSink, MemSource};
 use kw_model::memory::Memory;
 use std::alloc::Global;
+use std::process::Abort;
+use std::sync::Wait;
 use std::test::Fail;
+use std::thread::Threads;
 
 /// The words with these texts.
-pub(crate) fn words_of(alloc: Global, texts: &[&str]) -> Result<Vec<Word>, Memory> {
+fn words_of(alloc: Global, texts: &[&str]) -> Result<Vec<Word>, Memory> {
     let mut words = Vec::new(alloc);
     for text in texts {
         words.push(Word::new(String::from_str(alloc, text)?))?;
@@ -19,9 +20,26 @@ pub(crate) fn words_of(alloc: Global, texts: &[&str]) -> Result<Vec<Word>, Memor
     Ok(words)
 }
 
+/// Expects that a run with these words ends with this code, where one listener may be bound, whose
+/// links have these bytes to read, and that this is handed back by its seats.
+fn expect_run<R: Threads + Wait + Abort + Sync>(
+    rt: &R,
+    alloc: Global,
+    (words, inputs): (&[&str], &[&[u8]]),
+    code: u8,
+    handed: &[Handed],
+) -> Result<(), Fail> {
+    let words = words_of(alloc, words)?;
+    let listeners = Vec::from_array(alloc, [listener_of(alloc, inputs)?])?;
+    let mut binder = MemBinder::new(alloc, listeners);
+    let end = kiwid_run(rt, alloc, &words, &mut binder);
+    assert_eq!(rt; end.status.code(), code);
+    expect_served(rt, &end.served, handed);
+    Ok(())
+}
+
 #[test]
 fn bad_words_bind_nothing(rt: HostRuntime) -> Result<(), Fail> {
-    let alloc = rt.alloc();
     let table: [&[&str]; 14] = [
         &[],
         &["4000"],
@@ -38,42 +56,23 @@ fn bad_words_bind_nothing(rt: HostRuntime) -> Result<(), Fail> {
         &["4000", "1", "1", "1"],
         &["4000", "1", "4294967297"],
     ];
-    for texts in table {
-        let words = words_of(alloc, texts)?;
-        let none: Vec<MemListener<MemSource, MemSink>> = Vec::new(alloc);
-        let mut binder = MemBinder::new(alloc, none);
-        let end = kiwid_run(&rt, alloc, &words, &mut binder);
-        assert_eq!(rt; end.status.code(), 2);
-        assert_eq!(rt; end.served.len(), 0);
+    for words in table {
+        expect_run(&rt, rt.alloc(), (words, &[]), 2, &[])?;
     }
     Ok(())
 }
 
-/// A binder with one listener, whose links have these bytes to read.
-fn binder_of(alloc: Global, inputs: &[&[u8]]) -> Result<MemBinder<MemSource, MemSink>, Memory> {
-    let mut links = Vec::new(alloc);
-    for bytes in inputs {
-        links.push(link_of(alloc, bytes)?)?;
-    }
-    let listener = MemListener::new(alloc, links)?;
-    Ok(MemBinder::new(alloc, Vec::from_array(alloc, [listener])?))
-}
-
 #[test]
 fn links_in_memory_are_served(rt: HostRuntime) -> Result<(), Fail> {
-    let alloc = rt.alloc();
+    let inputs: [&[u8]; 2] = [b"put 5 50\nget 5\n", b"get 5"];
     let table: [&[&str]; 3] = [
         &["4000", "1", "1"],
         &["0004000", "01", "1"],
         &["65535", "0000000001", "1"],
     ];
-    for texts in table {
-        let words = words_of(alloc, texts)?;
-        let mut binder = binder_of(alloc, &[b"put 5 50\nget 5\n", b"get 5"])?;
-        let end = kiwid_run(&rt, alloc, &words, &mut binder);
-        assert_eq!(rt; end.status, Status::Done);
-        assert_eq!(rt; end.served.len(), 1);
-        expect_served(&rt, &end.served[0], &[SessionEnd::Ended], &[b"ok\n50\n"]);
+    let handed: [Handed; 1] = [(&[SessionEnd::Ended], &[b"ok\n50\n"])];
+    for words in table {
+        expect_run(&rt, rt.alloc(), (words, &inputs), 0, &handed)?;
     }
     Ok(())
 }
@@ -81,30 +80,16 @@ fn links_in_memory_are_served(rt: HostRuntime) -> Result<(), Fail> {
 // One listener is there, and two are asked for, or as many as may be.
 #[test]
 fn a_bind_that_fails_is_told(rt: HostRuntime) -> Result<(), Fail> {
-    let alloc = rt.alloc();
+    let inputs: [&[u8]; 2] = [b"get 5", b"get 5"];
     for seats in ["2", "16"] {
-        let words = words_of(alloc, &["4000", seats, "1"])?;
-        let mut binder = binder_of(alloc, &[b"get 5", b"get 5"])?;
-        let end = kiwid_run(&rt, alloc, &words, &mut binder);
-        assert_eq!(rt; end.status, Status::Failed, "with {seats} seats");
-        assert_eq!(rt; end.served.len(), 0, "with {seats} seats");
+        expect_run(&rt, rt.alloc(), (&["4000", seats, "1"], &inputs), 4, &[])?;
     }
     Ok(())
 }
 
 #[test]
 fn a_listener_that_fails_is_told(rt: HostRuntime) -> Result<(), Fail> {
-    let alloc = rt.alloc();
-    let words = words_of(alloc, &["4000", "1", "2"])?;
-    let mut binder = binder_of(alloc, &[b"get 5\nwait\n"])?;
-    let end = kiwid_run(&rt, alloc, &words, &mut binder);
-    assert_eq!(rt; end.status, Status::Failed);
-    assert_eq!(rt; end.served.len(), 1);
-    expect_served(
-        &rt,
-        &end.served[0],
-        &[SessionEnd::Bad(2)],
-        &[b"none\nbad line 2\n"],
-    );
-    Ok(())
+    let inputs: [&[u8]; 1] = [b"get 5\nwait\n"];
+    let handed: [Handed; 1] = [(&[SessionEnd::Bad(2)], &[b"none\nbad line 2\n"])];
+    expect_run(&rt, rt.alloc(), (&["4000", "1", "2"], &inputs), 4, &handed)
 }

@@ -1,16 +1,15 @@
--- Where calls other than scans stand between the functions that make their events.
-use Rattle.std.proofs.Common.{◌≡◌, true, Option, Some, None, refl}
+-- Where updates stand once they have entered.
+use Rattle.std.proofs.Common.{◌≡◌, true, Some, refl}
 use Rattle.kw_model.specs.declared.call.Call.{Call}
 use Rattle.kw_model.specs.declared.call.Call.TheVariants.{Put, Del, Get, Scan}
 use Rattle.kw_world.specs.declared.activity.Activity.{Activity}
 use Rattle.kw_world.specs.declared.activity.Activity.TheVariants as Activity
-use Rattle.kw_world.specs.declared.activity.put.Put.TheVariants as Put
 use Rattle.kw_world.specs.declared.activity.walk.Walk.TheVariants as Walk
 use Rattle.kw_world.specs.declared.activity.rebalance.Rebalance.TheVariants as Rebalance
 use Rattle.kw_world.specs.declared.activity.rebalance.replace.Replace.TheVariants as Replace
 use Rattle.kw_core.specs.Stages.{is_put, is_walking}
 use Rattle.kw_puts.proofs.Owners.{true_false}
-use Rattle.kw_live.specs.Stages.{HasEntered, arrived}
+use Rattle.kw_live.specs.Stages.{HasEntered}
 
 -- a put or a delete that has entered is to begin its walk
 pub update_starts : (call : Call) (a : Activity) → is_put (Some call) ≡ true → HasEntered call a → is_walking a ≡ true
@@ -21,11 +20,3 @@ update_starts (Del key) _ is h = absurd h
 update_starts (Get key) (Activity.Rebalance (Rebalance.Replace Replace.First)) is h = true_false is refl
 update_starts (Get key) a is h = true_false is refl
 update_starts (Scan from upto) a is h = true_false is refl
-
--- one that has arrived is at its row, and is to load the count
-pub put_arrives : (call : Option Call) → is_put call ≡ true → arrived call ≡ Activity.Put Put.Count
-put_arrives (Some (Put key value)) e = refl
-put_arrives (Some (Del key)) e = refl
-put_arrives (Some (Get key)) e = true_false e refl
-put_arrives (Some (Scan from upto)) e = true_false e refl
-put_arrives None e = true_false e refl

@@ -4,9 +4,9 @@ use Rattle.kw_map.specs.Kiwi.{IsIdle}
 use Rattle.kiwid.specs.declared.links.MemListener.{MemListener}
 use Rattle.kiwid.specs.declared.serving.Seat.{Seat}
 use Rattle.kiwid.proofs.Runs.{all_of_map}
-use Rattle.kiwid_tests.specs.declared.ends.Held.{Held}
-use Rattle.kiwid_tests.specs.declared.ends.Telling.{Telling}
-use Rattle.kiwid_tests.proofs.seats.two_seats_serve_beside_each_other.Goals as goal
+use Rattle.kiwid_beside_tests.specs.declared.ends.Held.{Held}
+use Rattle.kiwid_beside_tests.specs.declared.ends.Telling.{Telling}
+use Rattle.kiwid_beside_tests.proofs.beside.two_seats_serve_beside_each_other.Goals as goal
 
 pub serve-requires-clause-idle : goal.serve-requires-clause-idle
 serve-requires-clause-idle g c κs within =

@@ -1,5 +1,5 @@
 use Rattle.kw_world.specs.declared.answer.Answer.TheVariants.{NoRows, Spent}
-use Rattle.kw_live_tests.proofs.rebalance.refusal.Goals as goal
+use Rattle.kw_live_rebal_tests.proofs.rebalance.refusal.Goals as goal
 
 pub leave-requires-clause-leaving : goal.leave-requires-clause-leaving
 leave-requires-clause-leaving g c = (NoRows, c.in-NoRows.ensures.stands)

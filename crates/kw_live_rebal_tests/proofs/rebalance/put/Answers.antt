@@ -1,8 +1,8 @@
 use Rattle.std.proofs.Common.{◌∙◌, ap}
 use Rattle.kw_world.specs.declared.answer.Answer.TheVariants.{Done}
 use Rattle.kw_core.specs.Stages.{is_put}
-use Rattle.kw_live_tests.proofs.Starting.{put_arrives}
-use Rattle.kw_live_tests.proofs.rebalance.put.Goals as goal
+use Rattle.kw_live_rebal_tests.proofs.Arriving.{put_arrives}
+use Rattle.kw_live_rebal_tests.proofs.rebalance.put.Goals as goal
 
 pub enter_anew-requires-clause-update : goal.enter_anew-requires-clause-update
 enter_anew-requires-clause-update g c = ap is_put c.in-Done.ensures.call ∙ c.in-Some.ensures.full.2

@@ -1,11 +1,11 @@
 //! Clients over TCP, beside a run of the server in one process.
 ghost use Rattle.std.specs.Prelude.{◌≤◌, length};
-ghost use Rattle.kiwid_tests.specs.declared.clients.TheConstants.{LONGEST};
+ghost use Rattle.kiwid_beside_tests.specs.declared.clients.TheConstants.{LONGEST};
 
-use crate::runs::words_of;
 use kiwid::server::{Status, kiwid_run};
 use kiwid::session::SessionEnd;
 use kiwid::tcp::TcpBinder;
+use kw_command::word::Word;
 use std::io::{Read, Write};
 use std::net::{Net, Shutdown, TcpListener, TcpStream};
 use std::test::Fail;
@@ -75,8 +75,11 @@ fn are_answered<R: Net<Listener = TcpListener, Stream = TcpStream> + Clock>(
 fn two_clients_are_answered_from_one_map(rt: HostRuntime) -> Result<(), Fail> {
     let alloc = rt.alloc();
     let port = free_port(&rt)?;
-    let text = format!(in alloc; "{port}")?;
-    let words = words_of(alloc, &[text.as_str(), "2", "1"])?;
+    let port_text = format!(in alloc; "{port}")?;
+    let mut words = Vec::new(alloc);
+    for text in [port_text.as_str(), "2", "1"] {
+        words.push(Word::new(String::from_str(alloc, text)?))?;
+    }
     let mut binder = TcpBinder::new(&rt, alloc);
     let (end, answered) = thread::join(
         &rt,
