@@ -3,7 +3,7 @@ use Rattle.std.proofs.Common.{suc, false, ◌≡◌, List, [], ◌∷◌, refl, 
 use Rattle.kw_model.specs.Map.{Pairs, answer, answers, after}
 use Rattle.kw_model.specs.Legal.{IsLegal, may_refuse, is_refusal}
 use Rattle.kw_model.specs.declared.call.Call.{Call}
-use Rattle.kw_model.specs.declared.call.Call.TheVariants.{Put, Del, Get, Scan}
+use Rattle.kw_model.specs.declared.call.Call.TheVariants.{Put, Del, Get, Scan, Pin, ScanAt, Unpin}
 use Rattle.kw_model.specs.declared.call.Reply.{Reply}
 use Rattle.kw_model.specs.declared.call.Reply.TheVariants.{NoRows, Spent, Stopped}
 use Rattle.kw_model.proofs.Replies.{answer_not_refused}
@@ -20,6 +20,11 @@ not_allowed (Get k) r f = refl
 not_allowed (Scan a b) Spent f = f
 not_allowed (Scan a b) Stopped f = f
 not_allowed (Scan a b) _ f = refl
+not_allowed Pin Spent f = f
+not_allowed Pin _ f = refl
+not_allowed (ScanAt a b) Stopped f = f
+not_allowed (ScanAt a b) _ f = refl
+not_allowed Unpin r f = refl
 
 -- the map's own answers are legal
 pub answers_legal : (m : Pairs) (cs : List Call) → IsLegal m cs (answers m cs)

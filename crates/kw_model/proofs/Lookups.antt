@@ -4,7 +4,7 @@ use Rattle.std.proofs.lemmas.Bool.Decides.{nat_tests}
 use Rattle.kw_model.specs.Map.{Pairs, IsRising, value_of, after}
 use Rattle.kw_model.specs.Legal.{may_refuse, went, went_all, updates, is_update, shown, last_shown}
 use Rattle.kw_model.specs.declared.call.Call.{Call}
-use Rattle.kw_model.specs.declared.call.Call.TheVariants.{Put, Del, Get, Scan}
+use Rattle.kw_model.specs.declared.call.Call.TheVariants.{Put, Del, Get, Scan, Pin, ScanAt, Unpin}
 use Rattle.kw_model.specs.declared.call.Reply.{Reply}
 use Rattle.kw_model.proofs.Pairs.{value-put, value-without, rises-put, rises-without}
 
@@ -14,6 +14,9 @@ value-after k m (Put q v) = value-put k q v m
 value-after k m (Del q) = value-without k q m
 value-after k m (Get q) = refl
 value-after k m (Scan a b) = refl
+value-after k m Pin = refl
+value-after k m (ScanAt a b) = refl
+value-after k m Unpin = refl
 
 -- one call with its reply, which may be a refusal
 pub value-went : (k : ℕ) (m : Pairs) (c : Call) (r : Reply) → value_of k (went m c r) ≡ cond (is_update k c r) (shown c) (value_of k m)
@@ -35,6 +38,9 @@ rises-after m (Put k v) h = rises-put 0 k v m (omega arith) h
 rises-after m (Del k) h = rises-without 0 k m h
 rises-after m (Get k) h = h
 rises-after m (Scan a b) h = h
+rises-after m Pin h = h
+rises-after m (ScanAt a b) h = h
+rises-after m Unpin h = h
 
 -- a call with its reply keeps the order
 pub rises-went : (m : Pairs) (c : Call) (r : Reply) → IsRising m → IsRising (went m c r)

@@ -9,9 +9,9 @@ use Rattle.kw_model.specs.Same.{same_pair, same_pairs}
 use Rattle.kw_model.specs.Map as map
 use Rattle.kw_model.specs.Legal.{may_refuse, IsRight}
 use Rattle.kw_model.specs.declared.call.Call.{Call}
-use Rattle.kw_model.specs.declared.call.Call.TheVariants.{Put, Del, Get, Scan}
+use Rattle.kw_model.specs.declared.call.Call.TheVariants.{Put, Del, Get, Scan, Pin, ScanAt, Unpin}
 use Rattle.kw_model.specs.declared.call.Reply.{Reply}
-use Rattle.kw_model.specs.declared.call.Reply.TheVariants.{Done, Value, Absent, Pairs, NoRows, Spent, Stopped}
+use Rattle.kw_model.specs.declared.call.Reply.TheVariants.{Done, Value, Absent, Pairs, NoRows, Spent, Stopped, Held, NotPinned}
 use Rattle.kw_model.specs.contracts.call.ReplyPartialEq.TheImpl as impl
 
 -- the test on two pairs decides whether they are equal
@@ -51,6 +51,16 @@ at_stopped : (b : Reply) → Same Stopped b
 at_stopped Stopped = (λ _. refl, λ _. refl)
 at_stopped _ = (λ e. absurd (false≢true e), λ e. cc)
 
+-- where the first is `Held`
+at_held : (b : Reply) → Same Held b
+at_held Held = (λ _. refl, λ _. refl)
+at_held _ = (λ e. absurd (false≢true e), λ e. cc)
+
+-- where the first is `NotPinned`
+at_not_pinned : (b : Reply) → Same NotPinned b
+at_not_pinned NotPinned = (λ _. refl, λ _. refl)
+at_not_pinned _ = (λ e. absurd (false≢true e), λ e. cc)
+
 -- where the first is a value
 at_value : (v : ℕ) (b : Reply) → Same (Value v) b
 at_value v (Value w) = (λ e. ap Value ((Decides-eqb v w).0 e), λ e. (Decides-eqb v w).1 cc)
@@ -70,11 +80,13 @@ same_reply_decides (Pairs m) b = at_pairs m b
 same_reply_decides NoRows b = at_norows b
 same_reply_decides Spent b = at_spent b
 same_reply_decides Stopped b = at_stopped b
+same_reply_decides Held b = at_held b
+same_reply_decides NotPinned b = at_not_pinned b
 
--- whether the answer is the reply decides whether the reply is right
-pub right_from_same : (m : map.Pairs) (c : Call) (a r : Reply) (b : Bool) → may_refuse c r ≡ false → a ≡ map.answer m c → Decides b (a ≡ r) → IsTrue b ↔ IsRight m c r
-right_from_same m c a r true refused asked same = (λ _. rw refused (sym (same.0 refl) ∙ asked), λ _. refl)
-right_from_same m c a r false refused asked same = (λ f. absurd (false≢true f), λ h. absurd (false≢true (same.1 (asked ∙ sym (rw refused at h)))))
+-- whether what was answered is the reply decides whether the reply is right, where it is no refusal
+pub right_from_same : (c : Call) (a r right : Reply) (b : Bool) → may_refuse c r ≡ false → a ≡ right → Decides b (a ≡ r) → IsTrue b ↔ MatchBool (may_refuse c r) (Unit {0}) (r ≡ right)
+right_from_same c a r right true refused asked same = (λ _. rw refused (sym (same.0 refl) ∙ asked), λ _. refl)
+right_from_same c a r right false refused asked same = (λ f. absurd (false≢true f), λ h. absurd (false≢true (same.1 (asked ∙ sym (rw refused at h)))))
 
 -- no answer of the map is a refusal
 pub answer_not_refused : (m : map.Pairs) (c : Call) → may_refuse c (map.answer m c) ≡ false
@@ -82,6 +94,9 @@ answer_not_refused m (Put k v) = refl
 answer_not_refused m (Del k) = refl
 answer_not_refused m (Get k) = refl
 answer_not_refused m (Scan a b) = refl
+answer_not_refused m Pin = refl
+answer_not_refused m (ScanAt a b) = refl
+answer_not_refused m Unpin = refl
 
 -- a right reply is the map's answer or a refusal in its place, and nothing else
 pub right_is : (m : map.Pairs) (c : Call) (r : Reply) → IsRight m c r ↔ ((r ≡ map.answer m c) ⊎ (may_refuse c r ≡ true))

@@ -3,7 +3,7 @@
 use Rattle.std.specs.Prelude.{ℕ, ◌≡◌, Bool, true, false, not, ◌&&◌, ◌==◌, Option, Some, None, List, [], ◌∷◌, MatchBool, if◌then◌else◌}
 use Rattle.kw_model.specs.Map.{Pairs, after, answer}
 use Rattle.kw_model.specs.declared.call.Call.{Call}
-use Rattle.kw_model.specs.declared.call.Call.TheVariants.{Put, Del, Get, Scan}
+use Rattle.kw_model.specs.declared.call.Call.TheVariants.{Put, Del, Get, Scan, Pin, ScanAt, Unpin}
 use Rattle.kw_model.specs.declared.call.Reply.{Reply}
 use Rattle.kw_model.specs.declared.call.Reply.TheVariants.{NoRows, Spent, Stopped}
 
@@ -15,6 +15,8 @@ may_refuse (Del k) NoRows = true
 may_refuse (Del k) Spent = true
 may_refuse (Scan a b) Spent = true
 may_refuse (Scan a b) Stopped = true
+may_refuse Pin Spent = true
+may_refuse (ScanAt a b) Stopped = true
 may_refuse _ _ = false
 
 -- the reply is the map's answer, or a refusal in its place
@@ -44,6 +46,9 @@ updates k (Put q v) = k == q
 updates k (Del q) = k == q
 updates k (Get q) = false
 updates k (Scan a b) = false
+updates k Pin = false
+updates k (ScanAt a b) = false
+updates k Unpin = false
 
 -- it does so, and was not refused
 abbrev pub is_update : ℕ → Call → Reply → Bool
@@ -55,6 +60,9 @@ shown (Put k v) = Some v
 shown (Del k) = None
 shown (Get k) = None
 shown (Scan a b) = None
+shown Pin = None
+shown (ScanAt a b) = None
+shown Unpin = None
 
 -- what the last update of a key in these calls shows, or else this
 abbrev pub last_shown : ℕ → List Call → List Reply → Option ℕ → Option ℕ

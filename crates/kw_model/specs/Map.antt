@@ -3,7 +3,7 @@
 use Rattle.std.specs.Prelude.{ℕ, suc, ◌≤◌, not, ◌&&◌, List, [], ◌∷◌, Option, Some, None, if◌then◌else◌, ◌==◌, nat_lt, nat_le}
 use Rattle.std.specs.List.{filter}
 use Rattle.kw_model.specs.declared.call.Call.{Call}
-use Rattle.kw_model.specs.declared.call.Call.TheVariants.{Put, Del, Get, Scan}
+use Rattle.kw_model.specs.declared.call.Call.TheVariants.{Put, Del, Get, Scan, Pin, ScanAt, Unpin}
 use Rattle.kw_model.specs.declared.call.Reply.{Reply}
 use Rattle.kw_model.specs.declared.call.Reply.TheVariants as reply
 
@@ -44,18 +44,24 @@ after m (Put k v) = put k v m
 after m (Del k) = without k m
 after m (Get k) = m
 after m (Scan a b) = m
+after m Pin = m
+after m (ScanAt a b) = m
+after m Unpin = m
 
 -- what a value, or none, is answered as
 abbrev pub found : Option ℕ → Reply
 found (Some v) = reply.Value v
 found None = reply.Absent
 
--- what the map answers to a call
+-- what the map answers to a call; of pins it answers as where none is held
 abbrev pub answer : Pairs → Call → Reply
 answer m (Put k v) = reply.Done
 answer m (Del k) = reply.Done
 answer m (Get k) = found (value_of k m)
 answer m (Scan a b) = reply.Pairs (between a b m)
+answer m Pin = reply.Done
+answer m (ScanAt a b) = reply.NotPinned
+answer m Unpin = reply.NotPinned
 
 -- what the map answers to these calls, one after the other
 abbrev pub answers : Pairs → List Call → List Reply

@@ -22,27 +22,41 @@ pub enum Call {
     /// Asks for the pairs from the first key to the second, both included. The range is empty where
     /// the first is above the second.
     Scan(u32, u32),
+    /// Remembers the map as it stands, for the seat that asks, until that seat takes it back.
+    Pin,
+    /// Asks for the pairs from the first key to the second, both included, of the map that the seat
+    /// has pinned.
+    ScanAt(u32, u32),
+    /// Forgets the map that the seat has pinned.
+    Unpin,
 }
 
 /// The answer to a call.
 ///
-/// The first four are answers of the map. The last three are refusals: the call changed nothing.
+/// `NoRows`, `Spent` and `Stopped` are refusals: the call changed nothing. The others are answers
+/// of the map.
 #[derive(Debug, Drop, PartialEq, Eq)]
 pub enum Reply {
-    /// The put or delete was made.
+    /// The put or delete was made, the map was pinned, or the pin was taken back.
     Done,
     /// The value of the key that a get asked for.
     Value(u64),
     /// The key that a get asked for has no value.
     Absent,
-    /// The pairs of a scan's range, by strictly rising key.
+    /// The pairs of a scan's range, of the map as it stands or as it was pinned, by strictly rising
+    /// key.
     Pairs(PairList),
     /// Refuses a put or a delete: no row was left for new cells.
     NoRows,
-    /// Refuses a put, a delete or a scan: a counter of the map is at its end.
+    /// Refuses a put, a delete, a scan or a pin: a counter of the map is at its end.
     Spent,
-    /// Refuses a scan: whoever takes its pairs stopped it.
+    /// Refuses a scan, of the map as it stands or as it was pinned: whoever takes its pairs stopped
+    /// it.
     Stopped,
+    /// The seat that asks to pin the map holds a pin, and goes on holding it.
+    Held,
+    /// The seat that asks of a pin, or takes one back, holds none.
+    NotPinned,
 }
 
 impl Clone for Reply {
@@ -61,6 +75,8 @@ impl Clone for Reply {
             Reply::NoRows => Reply::NoRows,
             Reply::Spent => Reply::Spent,
             Reply::Stopped => Reply::Stopped,
+            Reply::Held => Reply::Held,
+            Reply::NotPinned => Reply::NotPinned,
         })
     }
 }

@@ -3,7 +3,8 @@
 //! Contracts see the list as a list of pairs of numbers and never its `Vec`, so replies can be
 //! compared with those of a definition. The list keeps whatever order its pairs are pushed in; that
 //! a scan's pairs rise is for those who push to show.
-ghost use Rattle.std.specs.Prelude.{◌≡◌, ◌++◌, ◌∷◌, [], take, OnOk, OnErr};
+ghost use Rattle.std.specs.Prelude.{◌≡◌, ◌++◌, ◌∷◌, [], take, IfOk, OnOk, OnErr};
+ghost use Rattle.kw_model.specs.Map.{between};
 
 use crate::memory::Memory;
 use std::alloc::{AllocError, Global};
@@ -74,6 +75,19 @@ impl PairList {
     {
         self.pairs.push((key, value))?;
         Ok(())
+    }
+
+    /// The pairs whose keys are from the first key to the second, both included, in their order.
+    pub fn between(&self, from: u32, to: u32) -> Result<PairList, Memory>
+        ensures { IfOk result (λ pairs. pairs ≡ between from to self.now) }
+    {
+        let mut pairs = self.fresh();
+        for (key, value) in &self.pairs {
+            if from <= *key && *key <= to {
+                pairs.push(*key, *value)?;
+            }
+        }
+        Ok(pairs)
     }
 
     /// Keeps the first `len` pairs.
