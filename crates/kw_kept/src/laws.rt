@@ -6,7 +6,7 @@
 ghost use Rattle.std.specs.Prelude.{◌≡◌, ◌<◌, ◌≤◌, ◌⊎◌, true, ℕ, Bool, Option};
 ghost use Rattle.kw_kept.specs.Puts.{Put, On, OnEach, AreApart, Greatest, HasGreatest, Shows};
 ghost use Rattle.kw_kept.specs.Kept.{RowTests, on_rows, Kept, Stamps, Rebuilds, Replaces};
-ghost use Rattle.kw_kept.specs.Needed.{IsNeeded, Moves, IsCovered, IsLate, GoesBy};
+ghost use Rattle.kw_kept.specs.Needed.{IsNeeded, Moves, Pins, IsCovered, IsLate, GoesBy, GoesByPin};
 ghost use Rattle.kw_kept.specs.Readers.{Before, Front, GoesOn, Tests, on_sets, Reads, Knows};
 
 /// A finite set of puts that were given their cells at different events has a greatest for each key
@@ -44,16 +44,10 @@ pub fn replace_laws()
         Kept puts (on_rows a) (On needed) → Kept puts (on_rows b) (On needed) }
 {}
 
-/// What is needed was needed before, so rows that have kept what was needed still have. What a
-/// rebuild has listed covers what is needed through the seats that it went by, whatever goes on
-/// meanwhile, and when all are gone by it covers all that is needed.
-pub fn needed_laws()
-    ensures shrinks { (clock later : ℕ) (waits after : ℕ → ℕ) (a b : ℕ → ℕ → Bool) (u : ℕ) →
-        Moves clock later waits after (OnEach a) (OnEach b) → IsNeeded later (OnEach b) u →
-        IsNeeded clock (OnEach a) u }
-    ensures kept { (puts : ℕ → Put) (a : RowTests) (before now : ℕ → Bool) →
-        ((u : ℕ) → On now u → On before u) → Kept puts (on_rows a) (On before) →
-        Kept puts (on_rows a) (On now) }
+/// Of what is needed through scans: what a rebuild has listed covers what is needed through the
+/// seats that it went by, whatever goes on meanwhile, and a scan that begins to wait late needs
+/// none but late versions.
+pub fn scan_laws()
     ensures covered { (clock later : ℕ) (waits after : ℕ → ℕ) (a b : ℕ → ℕ → Bool)
         (passed listed : ℕ → Bool) (most : ℕ) → Moves clock later waits after (OnEach a) (OnEach b)
         → most ≤ clock → IsCovered (OnEach a) (On passed) (On listed) most →
@@ -68,9 +62,44 @@ pub fn needed_laws()
         (On more) s → IsLate since waits (OnEach a) most →
         IsCovered (OnEach a) (On passed) (On listed) most →
         IsCovered (OnEach a) (On now) (On more) most }
-    ensures all { (clock : ℕ) (a : ℕ → ℕ → Bool) (passed listed : ℕ → Bool) (most u : ℕ) →
-        most ≤ clock → ((i : ℕ) (v : ℕ) → OnEach a i v → On passed i) →
-        IsCovered (OnEach a) (On passed) (On listed) most → IsNeeded clock (OnEach a) u →
+{}
+
+/// Of what is needed through pins: a version comes to a pin from the scan of the same seat alone.
+/// So what is needed through the pins that a rebuild went by stays covered where it went by the
+/// scans of their seats before. A pin that is gone by is covered with the others, and what is
+/// listed for pins leaves covered what was.
+pub fn pin_laws()
+    ensures covered { (scans a b : ℕ → ℕ → Bool) (scanned passed listed : ℕ → Bool) (most : ℕ) →
+        Pins (OnEach scans) (OnEach a) (OnEach b) → ((i : ℕ) → On passed i → On scanned i) →
+        IsCovered (OnEach scans) (On scanned) (On listed) most →
+        IsCovered (OnEach a) (On passed) (On listed) most →
+        IsCovered (OnEach b) (On passed) (On listed) most }
+    ensures goes_by { (a : ℕ → ℕ → Bool) (passed now listed more : ℕ → Bool) (most s : ℕ) →
+        GoesByPin (OnEach a) (On passed) (On now) (On listed) (On more) s →
+        IsCovered (OnEach a) (On passed) (On listed) most →
+        IsCovered (OnEach a) (On now) (On more) most }
+    ensures more { (a : ℕ → ℕ → Bool) (passed listed more : ℕ → Bool) (most : ℕ) →
+        ((u : ℕ) → On listed u → On more u) → IsCovered (OnEach a) (On passed) (On listed) most →
+        IsCovered (OnEach a) (On passed) (On more) most }
+    ensures none { (a : ℕ → ℕ → Bool) (passed listed : ℕ → Bool) (most : ℕ) →
+        ((i : ℕ) → On passed i → ⊥) → IsCovered (OnEach a) (On passed) (On listed) most }
+{}
+
+/// What is needed was needed before, so rows that have kept what was needed still have. When all
+/// scans and all pins are gone by, what is listed covers all that is needed.
+pub fn needed_laws()
+    ensures shrinks { (clock later : ℕ) (waits after : ℕ → ℕ) (a b p q : ℕ → ℕ → Bool) (u : ℕ) →
+        Moves clock later waits after (OnEach a) (OnEach b) →
+        Pins (OnEach a) (OnEach p) (OnEach q) → IsNeeded later (OnEach b) (OnEach q) u →
+        IsNeeded clock (OnEach a) (OnEach p) u }
+    ensures kept { (puts : ℕ → Put) (a : RowTests) (before now : ℕ → Bool) →
+        ((u : ℕ) → On now u → On before u) → Kept puts (on_rows a) (On before) →
+        Kept puts (on_rows a) (On now) }
+    ensures all { (clock : ℕ) (a p : ℕ → ℕ → Bool) (scanned passed listed : ℕ → Bool) (most u : ℕ) →
+        most ≤ clock → ((i v : ℕ) → OnEach a i v → On scanned i) →
+        ((i v : ℕ) → OnEach p i v → On passed i) →
+        IsCovered (OnEach a) (On scanned) (On listed) most →
+        IsCovered (OnEach p) (On passed) (On listed) most → IsNeeded clock (OnEach a) (OnEach p) u →
         On listed u ⊎ (most ≤ u) }
 {}
 
