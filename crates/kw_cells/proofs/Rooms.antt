@@ -13,7 +13,7 @@ pub record AreEnough (gathered built rows : ℕ) : Type 0 where
 
 -- what a rebuild needs of the sizes
 pub record HaveRoom (seats cells built group gathered needed rows : ℕ) : Type 0 where
-  pub each_seat : seats ≤ needed
+  pub each_seat : 2 * seats ≤ needed
   pub each_key : needed + 1 ≤ built
   pub each_group : group * cells ≤ gathered
   pub enough : AreEnough gathered built rows

@@ -10,8 +10,9 @@ use kw_words::sizes::{CELLS, MOST_GROUP, MOST_NEW_ROWS, SEATS};
 /// The most cells that a rebalance gathers: all those of a group of rows.
 pub const MOST_GATHERED: usize = MOST_GROUP as usize * CELLS;
 
-/// The most versions that a rebalance needs: one for each seat, whose scan may not have ended.
-pub const MOST_NEEDED: usize = SEATS;
+/// The most versions that a rebalance needs: for each seat that of its scan, which may not have
+/// ended, and that at which it has pinned the map.
+pub const MOST_NEEDED: usize = 2 * SEATS;
 
 /// `MOST_NEW_ROWS`, as the length of a list.
 pub const MOST_STARTS: usize = MOST_NEW_ROWS as usize;

@@ -182,6 +182,55 @@ fn the_version_of_a_helped_scan_is_needed(rt: HostRuntime) {
     );
 }
 
+// A seat looks at the pin of this one, and needs no version yet.
+fn at_a_pin(alloc: Global, seat: u32) -> Local
+    requires activity { IsActivity product (Activity.Rebalance (Rebalance.Freeze (Freeze.Pin seat))) }
+    ensures ranges { IsLocal product result }
+    ensures room { HasRoom product result }
+    ensures part { part_of Choice.Go result ≡ Part.Rebalance }
+{
+    let mut local = Local::idle(alloc);
+    local.activity = Activity::Rebalance(Rebalance::Freeze(Freeze::Pin(seat)));
+    local
+}
+
+// a pin of the version 7 has the word 2 + 4 * 7, and a seat that pins nothing the word 0
+#[test]
+fn the_version_of_a_pin_is_needed(rt: HostRuntime) {
+    let load = Operation {
+        kind: Kind::LoadPin,
+        name: Name::Pin(3),
+        action: Action::Load,
+    };
+    assert_eq!(rt;
+        rebalance_operation(1, &at_a_pin(rt.alloc(), 3), Choice::Go),
+        load
+    );
+    let next = Activity::Rebalance(Rebalance::Freeze(Freeze::Pin(4)));
+    let pinned = told(at_a_pin(rt.alloc(), 3), 30);
+    assert_eq!(rt;
+        (pinned.activity, pinned.rebalance.needed.as_slice()),
+        (next, [7].as_slice())
+    );
+    let free = told(at_a_pin(rt.alloc(), 3), 0);
+    assert_eq!(rt;
+        (free.activity, free.rebalance.needed.as_slice().len()),
+        (next, 0)
+    );
+}
+
+#[test]
+fn cells_are_gathered_after_the_last_pin(rt: HostRuntime) {
+    let local = told(at_a_pin(rt.alloc(), SEAT_COUNT - 1), 30);
+    assert_eq!(rt;
+        (local.activity, local.rebalance.needed.as_slice()),
+        (
+            Activity::Rebalance(Rebalance::Gather(Gather::Link)),
+            [7].as_slice()
+        )
+    );
+}
+
 // A seat is about to read the value of the last cell of the full row, of key 45 and version 3, at
 // the place 9.
 fn at_the_last_cell(alloc: Global) -> Local

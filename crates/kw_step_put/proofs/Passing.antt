@@ -1,7 +1,7 @@
 -- What follows at the end of a row does not hang on what the seat did last.
 use Rattle.std.proofs.Common.{ℕ, ◌≡◌, Option, Some, None, refl}
 use Rattle.kw_model.specs.declared.call.Call.{Call}
-use Rattle.kw_model.specs.declared.call.Call.TheVariants.{Put, Del, Get, Scan}
+use Rattle.kw_model.specs.declared.call.Call.TheVariants.{Put, Del, Get, Scan, Pin, ScanAt, Unpin}
 use Rattle.kw_world.specs.declared.activity.Activity.{Activity}
 use Rattle.kw_world.specs.declared.local.Local.{Local}
 use Rattle.kw_world.specs.declared.marks.Mark.{Mark}
@@ -19,6 +19,9 @@ row_read-any (Some (Put key value)) a l = refl
 row_read-any (Some (Del key)) a l = refl
 row_read-any (Some (Get key)) a l = refl
 row_read-any (Some (Scan from upto)) a l = scan_on-any l.next upto a _
+row_read-any (Some Pin) a l = refl
+row_read-any (Some (ScanAt from upto)) a l = refl
+row_read-any (Some Unpin) a l = refl
 row_read-any None a l = refl
 
 -- the next remembered cell

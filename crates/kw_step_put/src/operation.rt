@@ -53,6 +53,10 @@ pub fn put_operation(seat: u32, local: &Local, choice: Choice) -> Operation
         }
         Activity::Draw(Draw::Version) => add_one(Kind::Draw, Name::Clock),
         Activity::Draw(Draw::Settle) => settle(seat, local.waiting, local.drawn),
+        Activity::Draw(Draw::Pin) => {
+            let pin = ScanWord::Drawn(local.version).pack();
+            store(Kind::StorePin, Name::Pin(seat), pin)
+        }
         Activity::Walk(Walk::Next) => clear_scan(seat),
         Activity::Look(Look::Entry(entry)) => load(Kind::LoadPend, Name::Pend(row, entry)),
         Activity::Look(Look::Key) => load(Kind::LoadKey, Name::Key(row, local.saw)),
@@ -71,6 +75,10 @@ pub fn put_operation(seat: u32, local: &Local, choice: Choice) -> Operation
         Activity::Read(Read::LeftOverKey) => load(Kind::LoadKey, Name::Key(row, local.place)),
         Activity::Read(Read::LeftOverValue) => load(Kind::LoadValue, Name::Value(row, local.place)),
         Activity::EndScan(_) => clear_scan(seat),
+        Activity::ClearPin => {
+            let quiet = ScanWord::Quiet.pack();
+            store(Kind::ClearPin, Name::Pin(seat), quiet)
+        }
         Activity::Put(Put::Count) => load(Kind::LoadCount, Name::Count(row)),
         Activity::Put(Put::Add) => add_one(Kind::AddCount, Name::Count(row)),
         Activity::Put(Put::Key) => {

@@ -21,7 +21,7 @@ use crate::resume_insert::{
     insert, insert_from, insert_key, insert_start, insert_version, start_insert,
 };
 use crate::resume_put::{add, announce, clear, count, stamp};
-use crate::resume_scan::{begin, clock, enter, settle};
+use crate::resume_scan::{begin, clock, enter, pinned, settle, unpinned};
 use kw_model::memory::Memory;
 use kw_world::activity::Activity;
 use kw_world::activity::draw::Draw;
@@ -67,6 +67,7 @@ pub fn put_resume(
             Ok(to(local, Activity::Draw(Draw::Settle)))
         }
         Activity::Draw(Draw::Settle) => Ok(settle(local, told)),
+        Activity::Draw(Draw::Pin) => Ok(pinned(local)),
         Activity::Walk(Walk::Next) => Ok(leave(local, Answer::Stopped)),
         Activity::Look(Look::Entry(entry)) => Ok(look(local, entry, told)),
         Activity::Look(Look::Key) => Ok(look_key(local, told)),
@@ -86,6 +87,7 @@ pub fn put_resume(
         Activity::Read(Read::LeftOverKey) => left_over_key(local, told),
         Activity::Read(Read::LeftOverValue) => left_over_value(local, told),
         Activity::EndScan(answer) => Ok(end_scan(local, answer, choice)),
+        Activity::ClearPin => Ok(unpinned(local)),
         Activity::Put(Put::Count) => Ok(count(local, told)),
         Activity::Put(Put::Add) => Ok(add(local, told)),
         Activity::Put(Put::Key) => Ok(to(local, Activity::Put(Put::Value))),

@@ -174,6 +174,10 @@ fn freeze_operation(seat: u32, local: &Local, choice: Choice) -> Operation
         Activity::Rebalance(Rebalance::Freeze(Freeze::Settle(scan))) => {
             settle(scan, local.rebalance.waiting, local.rebalance.drawn)
         }
+        Activity::Rebalance(Rebalance::Freeze(Freeze::Pin(pin))) => load(
+            Kind::LoadPin,
+            Name::Pin(pin),
+        ),
         _ => unreachable!(),
     }
 }

@@ -14,7 +14,7 @@ ghost use Rattle.kw_world.specs.declared.part.Part.{Part};
 
 use crate::resume_claim::{claimed, next_counted, next_marked};
 use crate::resume_engage::{clock, decide, engage, epoch, link_marked, state};
-use crate::resume_freeze::{count_frozen, entry_tried, look, scan, scan_helped};
+use crate::resume_freeze::{count_frozen, entry_tried, look, pin, scan, scan_helped};
 use crate::resume_left::{left, left_least, left_link};
 use crate::resume_replace::{
     before, before_head, before_least, before_link, guess_least, normalised, replaced, retired,
@@ -111,7 +111,8 @@ fn left_resume(local: &mut Local, rows: u32, choice: Choice, told: u64) -> StepD
     }
 }
 
-// What it knows after an event by which the rows of the group are frozen, and the scans looked at.
+// What it knows after an event by which the rows of the group are frozen, and the scans and pins
+// looked at.
 #[tactic(auto, unfolding(kw_world::specs::Step::transition_of))]
 fn freeze_resume(local: &mut Local, rows: u32, choice: Choice, told: u64) -> StepDone
     requires ranges { IsLocal product local.old }
@@ -136,6 +137,7 @@ fn freeze_resume(local: &mut Local, rows: u32, choice: Choice, told: u64) -> Ste
         Activity::Rebalance(Rebalance::Freeze(Freeze::Settle(seat))) => scan_helped(
             local, seat, told,
         ),
+        Activity::Rebalance(Rebalance::Freeze(Freeze::Pin(seat))) => pin(local, seat, told),
         _ => unreachable!(),
     }
 }

@@ -6,7 +6,7 @@ ghost use Rattle.kw_words.specs.Pend.{pend_of, pend_word};
 ghost use Rattle.kw_words.specs.Scan.{scan_of};
 ghost use Rattle.kw_words.specs.declared.sizes.TheConstants.{MOST_CELLS, SEATS};
 ghost use Rattle.kw_world.specs.declared.limits.TheConstants.{MOST_MARKS};
-ghost use Rattle.kw_world.specs.FreezeTransitions.{count_frozen, row_frozen, to_freeze_look, marking, freezing, freeze_seen, entry_tried, to_scan_look, needing, scan_seen, scan_helped};
+ghost use Rattle.kw_world.specs.FreezeTransitions.{count_frozen, row_frozen, to_freeze_look, marking, freezing, freeze_seen, entry_tried, to_scan_look, needing, scan_seen, scan_helped, to_pin_look, pin_seen};
 ghost use Rattle.kw_world.specs.Sane.{IsEntry};
 ghost use Rattle.kw_world.specs.Sizes.{product};
 ghost use Rattle.kw_world.specs.Transition.{outcome};
@@ -195,4 +195,32 @@ pub(crate) fn scan_helped(local: &mut Local, seat: u32, found: u64) -> StepDone
         }
         _ => to_scan(local, seat + 1),
     }
+}
+
+// The seat goes on to the pin of this seat, or to the cells of the row after the last pin.
+#[inline(always)]
+fn to_pin(local: &mut Local, seat: u32) -> StepDone
+    ensures { outcome local.new result ≡ to_pin_look product seat local.old }
+{
+    if seat < SEAT_COUNT {
+        to(
+            local,
+            Activity::Rebalance(Rebalance::Freeze(Freeze::Pin(seat))),
+        )
+    } else {
+        to_take(local)
+    }
+}
+
+/// The seat was told the pin of this seat: the version at which it has pinned the map is needed.
+#[inline(always)]
+pub fn pin(local: &mut Local, seat: u32, found: u64) -> StepDone
+    requires seat { seat < SEATS }
+    requires room { length local.old.rebalance.needed < MOST_NEEDED }
+    ensures { outcome local.new result ≡ pin_seen product seat (scan_of found) local.old }
+{
+    if let Some(ScanWord::Drawn(version)) = ScanWord::unpack(found) {
+        need(local, version);
+    }
+    to_pin(local, seat + 1)
 }

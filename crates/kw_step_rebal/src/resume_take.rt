@@ -5,9 +5,9 @@
 //! walk, or from that on the last remembered cell that was not reached. The seat goes on to
 //! the next row of the group, or plans the new rows then, which takes no memory.
 ghost use Rattle.std.specs.Prelude.{◌≡◌, ◌<◌, ◌≤◌, length};
-ghost use Rattle.kw_cells.specs.declared.limits.TheConstants.{MOST_GATHERED};
+ghost use Rattle.kw_cells.specs.declared.limits.TheConstants.{MOST_GATHERED, MOST_NEEDED};
 ghost use Rattle.kw_words.specs.Plain.{cell_of_link_word, key_of_word, value_of_word, version_of_word};
-ghost use Rattle.kw_words.specs.declared.sizes.TheConstants.{CELLS, MOST_CELLS, SEATS};
+ghost use Rattle.kw_words.specs.declared.sizes.TheConstants.{CELLS, MOST_CELLS};
 ghost use Rattle.kw_world.specs.Sizes.{product};
 ghost use Rattle.kw_world.specs.TakeTransitions.{keeping, planned, row_gathered, take_reached, take_past, take_version, taking, to_left, to_list, to_take};
 ghost use Rattle.kw_world.specs.Transition.{outcome, to};
@@ -63,7 +63,7 @@ fn reach(local: &mut Local, cell: u32)
 pub fn take_from(local: &mut Local, found: u64) -> StepDone
     requires walked { local.old.walked ≤ CELLS }
     requires gathered { length local.old.rebalance.gathered ≤ MOST_GATHERED }
-    requires needed { length local.old.rebalance.needed ≤ SEATS }
+    requires needed { length local.old.rebalance.needed ≤ MOST_NEEDED }
     ensures { outcome local.new result ≡ take_reached product (cell_of_link_word found) local.old }
 {
     match unpack_cell_link(found) {
@@ -143,7 +143,7 @@ pub fn take_left_over_key(local: &mut Local, found: u64) -> StepDone
 pub fn left_over_value(local: &mut Local, found: u64) -> StepDone
     requires place { local.old.place < CELLS }
     requires gathered { length local.old.rebalance.gathered ≤ MOST_GATHERED }
-    requires needed { length local.old.rebalance.needed ≤ SEATS }
+    requires needed { length local.old.rebalance.needed ≤ MOST_NEEDED }
     ensures { outcome local.new result
         ≡ to_left product (keeping product (value_of_word found) local.old) }
 {
@@ -155,7 +155,7 @@ pub fn left_over_value(local: &mut Local, found: u64) -> StepDone
 // left, that row is gathered.
 fn to_left(local: &mut Local) -> StepDone
     requires gathered { length local.old.rebalance.gathered ≤ MOST_GATHERED }
-    requires needed { length local.old.rebalance.needed ≤ SEATS }
+    requires needed { length local.old.rebalance.needed ≤ MOST_NEEDED }
     ensures { outcome local.new result ≡ to_left product local.old }
 {
     let end = places_end(&local.rebalance);
@@ -177,7 +177,7 @@ fn to_left(local: &mut Local) -> StepDone
 // the new rows and begins to seek free ones.
 fn row_gathered(local: &mut Local) -> StepDone
     requires gathered { length local.old.rebalance.gathered ≤ MOST_GATHERED }
-    requires needed { length local.old.rebalance.needed ≤ SEATS }
+    requires needed { length local.old.rebalance.needed ≤ MOST_NEEDED }
     ensures { outcome local.new result
         ≡ row_gathered product local.old.rebalance.ahead local.old }
 {
@@ -197,7 +197,7 @@ fn row_gathered(local: &mut Local) -> StepDone
 // cells go into its own list, and no other is made. No row is taken as yet.
 fn plan(local: &mut Local)
     requires gathered { length local.old.rebalance.gathered ≤ MOST_GATHERED }
-    requires needed { length local.old.rebalance.needed ≤ SEATS }
+    requires needed { length local.old.rebalance.needed ≤ MOST_NEEDED }
     ensures { local.new ≡ planned product local.old }
 {
     keep(

@@ -2,7 +2,7 @@
 use Rattle.std.proofs.Common.{ℕ, ◌≡◌, ◌≢◌, ◌<◌, ◌+◌, ◌⊎◌, inl, inr, List, Some, get_or, refl, subst, ap, ◌∙◌, arith, Option}
 use Rattle.kw_words.specs.declared.kind.TheConstants.Kind.{ALL}
 use Rattle.kw_words.specs.declared.kind.Kind.{Kind}
-use Rattle.kw_words.specs.declared.kind.Kind.TheVariants.{LoadEpoch, StorePass, ClearPass, LoadCount, AddCount, StoreKey, StoreValue, Announce, LoadClock, Stamp, StoreVersion, ClearPend, LoadPend, LoadKey, LoadValue, LoadVersion, HelpStamp, StoreWaiting, Draw, Settle, ClearScan, LoadHead, LoadLink, LoadLeast, LoadState, Engage, FreezeCount, FreezePend, LoadScan, HelpDraw, HelpSettle, TakeRow, StoreInfant, Replace, Normalise, GiveBack, Number, StoreRetired, LoadPass, Reclaim, MarkLink, LoadNextCount, Decide, EngageNext, LoadAfter, StoreAfter, Insert}
+use Rattle.kw_words.specs.declared.kind.Kind.TheVariants.{LoadEpoch, StorePass, ClearPass, LoadCount, AddCount, StoreKey, StoreValue, Announce, LoadClock, Stamp, StoreVersion, ClearPend, LoadPend, LoadKey, LoadValue, LoadVersion, HelpStamp, StoreWaiting, Draw, Settle, ClearScan, LoadHead, LoadLink, LoadLeast, LoadState, Engage, FreezeCount, FreezePend, LoadScan, HelpDraw, HelpSettle, TakeRow, StoreInfant, Replace, Normalise, GiveBack, Number, StoreRetired, LoadPass, Reclaim, MarkLink, LoadNextCount, Decide, EngageNext, LoadAfter, StoreAfter, Insert, StorePin, LoadPin, ClearPin}
 use Rattle.kw_words.specs.Kind.{name_of, index_in_kinds}
 use Rattle.std.specs.List.{find}
 use Rattle.std.specs.Str.{bytes_eq}
@@ -65,6 +65,9 @@ kind_named-name_of EngageNext = refl
 kind_named-name_of LoadAfter = refl
 kind_named-name_of StoreAfter = refl
 kind_named-name_of Insert = refl
+kind_named-name_of StorePin = refl
+kind_named-name_of LoadPin = refl
+kind_named-name_of ClearPin = refl
 
 -- a kind stands at its place
 pub kind_at : (kind : Kind) → get_or ALL (index_in_kinds kind) LoadEpoch ≡ kind
@@ -115,6 +118,9 @@ kind_at EngageNext = refl
 kind_at LoadAfter = refl
 kind_at StoreAfter = refl
 kind_at Insert = refl
+kind_at StorePin = refl
+kind_at LoadPin = refl
+kind_at ClearPin = refl
 
 -- one more kind that has not the name
 pub one_more : (name : List ℕ) (i : ℕ) → ((k : Kind) → index_in_kinds k < i → name_of k ≢ name) → name_of (get_or ALL i LoadEpoch) ≢ name → (k : Kind) → index_in_kinds k < i + 1 → name_of k ≢ name

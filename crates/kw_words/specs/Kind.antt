@@ -1,7 +1,7 @@
 -- The names of the kinds of event.
 use Rattle.std.specs.Prelude.{ℕ, List, codes}
 use Rattle.kw_words.specs.declared.kind.Kind.{Kind}
-use Rattle.kw_words.specs.declared.kind.Kind.TheVariants.{LoadEpoch, StorePass, ClearPass, LoadCount, AddCount, StoreKey, StoreValue, Announce, LoadClock, Stamp, StoreVersion, ClearPend, LoadPend, LoadKey, LoadValue, LoadVersion, HelpStamp, StoreWaiting, Draw, Settle, ClearScan, LoadHead, LoadLink, LoadLeast, LoadState, Engage, FreezeCount, FreezePend, LoadScan, HelpDraw, HelpSettle, TakeRow, StoreInfant, Replace, Normalise, GiveBack, Number, StoreRetired, LoadPass, Reclaim, MarkLink, LoadNextCount, Decide, EngageNext, LoadAfter, StoreAfter, Insert}
+use Rattle.kw_words.specs.declared.kind.Kind.TheVariants.{LoadEpoch, StorePass, ClearPass, LoadCount, AddCount, StoreKey, StoreValue, Announce, LoadClock, Stamp, StoreVersion, ClearPend, LoadPend, LoadKey, LoadValue, LoadVersion, HelpStamp, StoreWaiting, Draw, Settle, ClearScan, LoadHead, LoadLink, LoadLeast, LoadState, Engage, FreezeCount, FreezePend, LoadScan, HelpDraw, HelpSettle, TakeRow, StoreInfant, Replace, Normalise, GiveBack, Number, StoreRetired, LoadPass, Reclaim, MarkLink, LoadNextCount, Decide, EngageNext, LoadAfter, StoreAfter, Insert, StorePin, LoadPin, ClearPin}
 
 -- the name of a kind, as its characters
 abbrev pub name_of : Kind → List ℕ
@@ -52,6 +52,9 @@ name_of EngageNext = codes "engage_next"
 name_of LoadAfter = codes "load_after"
 name_of StoreAfter = codes "store_after"
 name_of Insert = codes "insert"
+name_of StorePin = codes "store_pin"
+name_of LoadPin = codes "load_pin"
+name_of ClearPin = codes "clear_pin"
 
 -- the place of a kind among all kinds, in the order in which they are declared
 abbrev pub index_in_kinds : Kind → ℕ
@@ -102,3 +105,6 @@ index_in_kinds EngageNext = 43
 index_in_kinds LoadAfter = 44
 index_in_kinds StoreAfter = 45
 index_in_kinds Insert = 46
+index_in_kinds StorePin = 47
+index_in_kinds LoadPin = 48
+index_in_kinds ClearPin = 49

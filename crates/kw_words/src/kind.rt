@@ -105,6 +105,12 @@ pub enum Kind {
     StoreAfter,
     /// Exchanges a link between the cells of a row for one to a cell that is listed so.
     Insert,
+    /// Stores the version at which the seat pins the map.
+    StorePin,
+    /// Loads the pin of a seat.
+    LoadPin,
+    /// Stores that the seat pins nothing.
+    ClearPin,
 }
 
 /// The names of the kinds, in the order of the enum.
@@ -156,11 +162,14 @@ pub const KINDS: &[&str] = &[
     "load_after",
     "store_after",
     "insert",
+    "store_pin",
+    "load_pin",
+    "clear_pin",
 ];
 
 impl Kind {
     /// All kinds, in the order of `KINDS`.
-    pub const ALL: [Kind; 47] = [
+    pub const ALL: [Kind; 50] = [
         Kind::LoadEpoch,
         Kind::StorePass,
         Kind::ClearPass,
@@ -208,6 +217,9 @@ impl Kind {
         Kind::LoadAfter,
         Kind::StoreAfter,
         Kind::Insert,
+        Kind::StorePin,
+        Kind::LoadPin,
+        Kind::ClearPin,
     ];
 
     /// The kind of this name, if there is one.

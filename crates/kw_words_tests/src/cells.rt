@@ -202,11 +202,11 @@ fn a_cell_belongs_behind_those_before_it(rt: HostRuntime) {
     assert_eq!(rt; (places, behind), ([1, 0, 4, 6], [true, false, true]));
 }
 
-// the cells of two rows, a version for each seat, and the 7 rows that a rebuild makes at most
+// the cells of two rows, two versions for each seat, and the 7 rows that a rebuild makes at most
 #[test]
 fn the_room_of_a_rebuild(rt: HostRuntime) {
     assert_eq!(rt;
         [MOST_GATHERED, MOST_NEEDED, MOST_STARTS],
-        [2 * CELLS, SEATS, 7]
+        [2 * CELLS, 2 * SEATS, 7]
     );
 }

@@ -387,6 +387,9 @@ fn kinds_have_their_names(rt: HostRuntime) {
         (Kind::Engage.name(), "engage"),
         (Kind::EngageNext.name(), "engage_next"),
         (Kind::LoadAfter.name(), "load_after"),
+        (Kind::StorePin.name(), "store_pin"),
+        (Kind::LoadPin.name(), "load_pin"),
+        (Kind::ClearPin.name(), "clear_pin"),
     ];
     for (name, wanted) in names {
         assert_eq!(rt; name, wanted);
@@ -395,7 +398,7 @@ fn kinds_have_their_names(rt: HostRuntime) {
 
 #[test]
 fn kinds_are_numbered(rt: HostRuntime) {
-    assert_eq!(rt; (KINDS.len(), Kind::Insert.place()), (47, 46));
+    assert_eq!(rt; (KINDS.len(), Kind::ClearPin.place()), (50, 49));
 }
 
 #[test]
@@ -403,6 +406,9 @@ fn kinds_are_found_by_their_names(rt: HostRuntime) {
     let kinds = [
         ("store_after", Some(Kind::StoreAfter)),
         ("freeze_count", Some(Kind::FreezeCount)),
+        ("store_pin", Some(Kind::StorePin)),
+        ("load_pin", Some(Kind::LoadPin)),
+        ("clear_pin", Some(Kind::ClearPin)),
         ("take_turn", None),
     ];
     for (name, kind) in kinds {

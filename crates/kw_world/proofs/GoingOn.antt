@@ -18,9 +18,9 @@ use Rattle.kw_words.specs.declared.sizes.TheConstants.{MOST_GROUP, SPENT}
 use Rattle.kw_world.specs.declared.answer.Answer.{Answer}
 use Rattle.kw_world.specs.declared.answer.Answer.TheVariants.{Done, Pairs, Spent}
 use Rattle.kw_world.specs.Answers.{reply_of}
-use Rattle.kw_world.specs.Calls.{first_key, last_key, is_in_range, is_range_empty}
+use Rattle.kw_world.specs.Calls.{first_key, last_key, is_in_range, is_range_empty, is_pin}
 use Rattle.kw_model.specs.declared.call.Call.{Call}
-use Rattle.kw_model.specs.declared.call.Call.TheVariants.{Put, Del, Get, Scan}
+use Rattle.kw_model.specs.declared.call.Call.TheVariants.{Put, Del, Get, Scan, Pin, ScanAt, Unpin}
 use Rattle.kw_world.specs.declared.activity.Activity.{Activity}
 use Rattle.kw_world.specs.declared.activity.draw.Draw.TheVariants as Draw
 use Rattle.kw_world.specs.declared.activity.rebalance.claim.Claim.TheVariants as Claim
@@ -49,7 +49,7 @@ use Rattle.kw_world.specs.GroupPlaces.{at_first_row, place_in_group}
 use Rattle.kw_world.specs.declared.marks.Mark.{Mark}
 use Rattle.kw_world.specs.Marks.{least_mark}
 use Rattle.kw_world.specs.ReadTransitions.{to_look, look_seen, help_seen, scan_on, row_read, left_over_of, to_left_over, list_started, list_reached, list_key, list_past, with_pairs, remembering, gathering}
-use Rattle.kw_world.specs.ScanTransitions.{begun, entered, settled, to_start, version_settled}
+use Rattle.kw_world.specs.ScanTransitions.{begun, entered, pin_entered, scan_at_entered, unpin_entered, settled, to_start, version_settled}
 use Rattle.kw_world.specs.WalkTransitions.{guess_seen, start_transition, walk_transition, is_stopped, link_reached, walk_least, arrive}
 use Rattle.kw_words.specs.declared.scan.ScanWord.{ScanWord}
 use Rattle.kw_words.specs.declared.scan.ScanWord.TheVariants as scan
@@ -60,7 +60,7 @@ use Rattle.kw_world.specs.declared.rebalance.Afterwards.TheVariants.{TryAgain, R
 use Rattle.kw_world.specs.EngageTransitions.{again, refuse, to_rebalance, state_seen, engaged, followed_by, to_group, claiming, counted, undecided, link_marked, decided}
 use Rattle.kw_world.specs.ClaimTransitions.{to_mark_next, claimed}
 use Rattle.kw_world.specs.LeftTransitions.{to_leader, first_left, left_transition, link_left}
-use Rattle.kw_world.specs.FreezeTransitions.{row_frozen, to_freeze_look, marking, freeze_seen, entry_tried, to_scan_look, needing, scan_seen, scan_helped}
+use Rattle.kw_world.specs.FreezeTransitions.{row_frozen, to_freeze_look, marking, freeze_seen, entry_tried, to_scan_look, needing, scan_seen, scan_helped, to_pin_look, pin_seen}
 use Rattle.kw_world.specs.TakeTransitions.{to_take, row_gathered, leaving_over, left_of, take_reached, keeping}
 use Rattle.kw_world.specs.SeekTransitions.{given_back, give_back, gave_back, at_infant, has_more, row_behind, to_seek, to_pass, seek_seen, pass_seen, seeking, seek_first_transition, with_row, take_row}
 use Rattle.kw_world.specs.WriteTransitions.{infant_cells, row_written, to_write_after, to_write_cell, to_write_entry}
@@ -114,6 +114,9 @@ read_goes (Some (Put key value)) l = record { moved = refl; number = refl }
 read_goes (Some (Del key)) l = record { moved = refl; number = refl }
 read_goes (Some (Get key)) l = record { moved = refl; number = refl }
 read_goes (Some (Scan from upto)) l = scan_goes l.next upto (with_pairs upto l)
+read_goes (Some Pin) l = record { moved = refl; number = refl }
+read_goes (Some (ScanAt from upto)) l = record { moved = refl; number = refl }
+read_goes (Some Unpin) l = record { moved = refl; number = refl }
 read_goes None l = record { moved = refl; number = refl }
 
 left_over_goes : (m : Option Mark) (l : Local) → Goes l.number (left_over_of m l)
@@ -161,6 +164,9 @@ arrive_goes (Some (Put key value)) l = record { moved = refl; number = refl }
 arrive_goes (Some (Del key)) l = record { moved = refl; number = refl }
 arrive_goes (Some (Get key)) l = record { moved = refl; number = refl }
 arrive_goes (Some (Scan from upto)) l = record { moved = refl; number = refl }
+arrive_goes (Some Pin) l = record { moved = refl; number = refl }
+arrive_goes (Some (ScanAt from upto)) l = record { moved = refl; number = refl }
+arrive_goes (Some Unpin) l = record { moved = refl; number = refl }
 arrive_goes None l = record { moved = refl; number = refl }
 
 link_goes : (r : Option ℕ) (l : Local) → Goes l.number (link_reached r l)
@@ -192,15 +198,30 @@ begin_goes Go epoch l e = absurd (cc)
 begin_goes (Guess r) epoch l e = absurd (cc)
 begin_goes Stop epoch l e = absurd (cc)
 
+pins_goes : (p : Option ℕ) (l : Local) → Goes l.number (pin_entered p l)
+pins_goes None l = record { moved = refl; number = refl }
+pins_goes (Some version) l = record { moved = refl; number = refl }
+
+scan_at_goes : (p : Option ℕ) (l : Local) → Goes l.number (scan_at_entered p l)
+scan_at_goes None l = record { moved = refl; number = refl }
+scan_at_goes (Some version) l = either (is_range_empty l.call) (leave Pairs (record l { version = version })) (to_start (record l { version = version })) (record { moved = refl; number = refl }) (record { moved = refl; number = refl })
+
+unpins_goes : (p : Option ℕ) (l : Local) → Goes l.number (unpin_entered p l)
+unpins_goes None l = record { moved = refl; number = refl }
+unpins_goes (Some version) l = record { moved = refl; number = refl }
+
 enter_goes : (call : Option Call) (l : Local) → Goes l.number (entered call l)
 enter_goes (Some (Put key value)) l = record { moved = refl; number = refl }
 enter_goes (Some (Del key)) l = record { moved = refl; number = refl }
 enter_goes (Some (Get key)) l = record { moved = refl; number = refl }
 enter_goes (Some (Scan from upto)) l = record { moved = refl; number = refl }
+enter_goes (Some Pin) l = pins_goes l.pin l
+enter_goes (Some (ScanAt from upto)) l = scan_at_goes l.pin l
+enter_goes (Some Unpin) l = unpins_goes l.pin l
 enter_goes None l = record { moved = refl; number = refl }
 
 settle_goes : (version : ℕ) (l : Local) → Goes l.number (settled version l)
-settle_goes version l = either (is_range_empty l.call) (to (Activity.EndScan Pairs) (record l { version = version })) (to_start (record l { version = version })) (record { moved = refl; number = refl }) (record { moved = refl; number = refl })
+settle_goes version l = either (is_pin l.call) (to (Activity.Draw Draw.Pin) (record l { version = version })) (if is_range_empty l.call then to (Activity.EndScan Pairs) (record l { version = version }) else to_start (record l { version = version })) (record { moved = refl; number = refl }) (either (is_range_empty l.call) (to (Activity.EndScan Pairs) (record l { version = version })) (to_start (record l { version = version })) (record { moved = refl; number = refl }) (record { moved = refl; number = refl }))
 
 walk_least_goes : (least built : ℕ) (l : Local) → Goes l.number (walk_least least built l)
 walk_least_goes least built l = either (nat_le least l.want) (to (Activity.Walk Walk.Next) (record l { row = l.candidate; lower = least; built = built })) (arrive l.call (record l { next = Some l.candidate; upper = least })) (record { moved = refl; number = refl }) (arrive_goes l.call (record l { next = Some l.candidate; upper = least }))
@@ -300,6 +321,15 @@ helped_goes z i (Some scan.Quiet) l = scan_looks_then z (i + 1) l refl
 helped_goes z i (Some (scan.Waiting clock)) l = scan_looks_then z (i + 1) (if clock == l.rebalance.waiting then needing l.rebalance.drawn l else l) (needs (clock == l.rebalance.waiting) l.rebalance.drawn l)
 helped_goes z i (Some (scan.Drawn version)) l = scan_looks_then z (i + 1) (needing version l) refl
 helped_goes z i None l = scan_looks_then z (i + 1) l refl
+
+pin_looks_then : {n : ℕ} (z : Sizes) (i : ℕ) (l : Local) → l.number ≡ n → Goes n (to_pin_look z i l)
+pin_looks_then z i l e = either (nat_lt i z.seats) (to (Activity.Rebalance (Rebalance.Freeze (Freeze.Pin i))) l) (to_take l) (record { moved = refl; number = e }) (record { moved = refl; number = e })
+
+pin_seen_goes : (z : Sizes) (i : ℕ) (w : Option ScanWord) (l : Local) → Goes l.number (pin_seen z i w l)
+pin_seen_goes z i (Some scan.Quiet) l = pin_looks_then z (i + 1) l refl
+pin_seen_goes z i (Some (scan.Waiting clock)) l = pin_looks_then z (i + 1) l refl
+pin_seen_goes z i (Some (scan.Drawn version)) l = pin_looks_then z (i + 1) (needing version l) refl
+pin_seen_goes z i None l = pin_looks_then z (i + 1) l refl
 
 row_gathered_goes : (z : Sizes) (ahead : Option ℕ) (l : Local) → Goes l.number (row_gathered z ahead l)
 row_gathered_goes z (Some r) l = record { moved = refl; number = refl }
@@ -421,6 +451,7 @@ goes_on z (Activity.Draw Draw.Clock) s choice l rows told e n = either (nat_le S
 goes_on z (Activity.Draw Draw.Wait) s choice l rows told e n = record { moved = refl; number = refl }
 goes_on z (Activity.Draw Draw.Version) s choice l rows told e n = record { moved = refl; number = refl }
 goes_on z (Activity.Draw Draw.Settle) s choice l rows told e n = settle_goes (version_settled (scan_of told) l.drawn) l
+goes_on z (Activity.Draw Draw.Pin) s choice l rows told e n = record { moved = refl; number = refl }
 goes_on z (Activity.Walk Walk.Start) s choice l rows told e n = start_goes choice l rows told
 goes_on z (Activity.Walk Walk.First) s choice l rows told e n = record { moved = refl; number = refl }
 goes_on z (Activity.Walk Walk.GuessedLeast) s choice l rows told e n = either (nat_le (key_of_word told) l.want) (to (Activity.Walk Walk.Next) (record l { lower = key_of_word told; built = built_of_word told })) (to (Activity.Walk Walk.First) l) (record { moved = refl; number = refl }) (record { moved = refl; number = refl })
@@ -438,6 +469,7 @@ goes_on z (Activity.Read Read.Value) s choice l rows told e n = record { moved =
 goes_on z (Activity.Read Read.LeftOverKey) s choice l rows told e n = either (is_in_range l.call (key_of_word told)) (to (Activity.Read Read.LeftOverValue) (record l { place_key = key_of_word told })) (to_left_over l) (record { moved = refl; number = refl }) (rests l)
 goes_on z (Activity.Read Read.LeftOverValue) s choice l rows told e n = rests (gathering z (value_of_word told) l)
 goes_on z (Activity.EndScan answer) s choice l rows told e n = record { moved = refl; number = refl }
+goes_on z Activity.ClearPin s choice l rows told e n = record { moved = refl; number = refl }
 goes_on z (Activity.Put Put.Count) s choice l rows told e n = either (has_room z (count_of told)) (to (Activity.Put Put.Add) l) (to_rebalance l) (record { moved = refl; number = refl }) (record { moved = refl; number = refl })
 goes_on z (Activity.Put Put.Add) s choice l rows told e n = either (has_room z (count_of told)) (to (Activity.Put Put.Key) (record l { cell = given_of (count_of told) })) (to_rebalance l) (record { moved = refl; number = refl }) (record { moved = refl; number = refl })
 goes_on z (Activity.Put Put.Announce) s choice l rows told e n = either (told == pend_word pend.Idle) (to (Activity.Put Put.Clock) l) (to_rebalance l) (record { moved = refl; number = refl }) (record { moved = refl; number = refl })
@@ -471,6 +503,7 @@ goes_on z (Activity.Rebalance (Rebalance.Freeze (Freeze.Entry i))) s choice l ro
 goes_on z (Activity.Rebalance (Rebalance.Freeze (Freeze.Scan i))) s choice l rows told e n = scan_seen_goes z i (scan_of told) l
 goes_on z (Activity.Rebalance (Rebalance.Freeze (Freeze.Draw i))) s choice l rows told e n = record { moved = refl; number = refl }
 goes_on z (Activity.Rebalance (Rebalance.Freeze (Freeze.Settle i))) s choice l rows told e n = helped_goes z i (scan_of told) l
+goes_on z (Activity.Rebalance (Rebalance.Freeze (Freeze.Pin i))) s choice l rows told e n = pin_seen_goes z i (scan_of told) l
 goes_on z (Activity.Rebalance (Rebalance.Gather Gather.Link)) s choice l rows told e n = take_goes z (cell_of_link_word told) l
 goes_on z (Activity.Rebalance (Rebalance.Gather Gather.LeftOverValue)) s choice l rows told e n = left_goes z (least_mark l.rebalance.marks) (keeping z (value_of_word told) l)
 goes_on z (Activity.Rebalance (Rebalance.Gather _)) s choice l rows told e n = record { moved = refl; number = refl }

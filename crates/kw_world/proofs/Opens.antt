@@ -61,6 +61,7 @@ rests_known z rows n sized = record {
   ranges = record {
     activity = tt;
     call = tt;
+    pin = tt;
     epoch = (omega arith, omega arith);
     want = omega arith;
     lower = omega arith;
@@ -120,7 +121,7 @@ module _ (z : Sizes) (o : Opening) (i : IsOpening z o) where
   opening_sane name.Turn w = omega arith
   opening_sane (name.Pass seat) w = omega arith
   opening_sane (name.Scan seat) w = subst IsKnownWord (sym scan_of-Quiet) tt
-  opening_sane (name.Pin seat) w = omega arith
+  opening_sane (name.Pin seat) w = subst IsKnownWord (sym scan_of-Quiet) tt
   opening_sane (name.State zero) w = subst (IsRowState z) (sym state_of-Normal) tt
   opening_sane (name.State (suc q)) w = subst (IsRowState z) (sym state_of-Free) tt
   opening_sane (name.Count q) w = subst IsGiven (sym none_counted) (omega arith)

@@ -130,6 +130,7 @@ within z (Activity.Draw Draw.Clock) rows s choice l i b t o g = tt
 within z (Activity.Draw Draw.Wait) rows s choice l i b t o g = t
 within z (Activity.Draw Draw.Version) rows s choice l i b t o g = tt
 within z (Activity.Draw Draw.Settle) rows s choice l i b t o g = t
+within z (Activity.Draw Draw.Pin) rows s choice l i b t o g = t
 within z (Activity.Walk Walk.Start) rows s choice l i b t o g = starts choice g
   where
     starts : (c : Choice) → IsOffered rows c → IsWithin z.seats z.cells rows (start_transition c l).operation.name
@@ -153,6 +154,7 @@ within z (Activity.Read Read.Start) rows s choice l i b t o g = first_within z r
 within z (Activity.Read Read.Link) rows s choice l i b t o g = link_within z rows l.row l.link i.link b.row
 within z (Activity.Read _) rows s choice l i b t o g = (b.row, i.place)
 within z (Activity.EndScan answer) rows s choice l i b t o g = t
+within z Activity.ClearPin rows s choice l i b t o g = t
 within z (Activity.Put Put.Count) rows s choice l i b t o g = b.row
 within z (Activity.Put Put.Add) rows s choice l i b t o g = b.row
 within z (Activity.Put Put.Announce) rows s choice l i b t o g = (b.row, t)
@@ -189,6 +191,7 @@ within z (Activity.Rebalance (Rebalance.Freeze (Freeze.Entry k))) rows s choice 
 within z (Activity.Rebalance (Rebalance.Freeze (Freeze.Scan k))) rows s choice l i b t o g = o
 within z (Activity.Rebalance (Rebalance.Freeze (Freeze.Draw k))) rows s choice l i b t o g = tt
 within z (Activity.Rebalance (Rebalance.Freeze (Freeze.Settle k))) rows s choice l i b t o g = o
+within z (Activity.Rebalance (Rebalance.Freeze (Freeze.Pin k))) rows s choice l i b t o g = o
 within z (Activity.Rebalance (Rebalance.Gather Gather.Link)) rows s choice l i b t o g = link_within z rows l.rebalance.hand l.link i.link b.rebalance.hand
 within z (Activity.Rebalance (Rebalance.Gather _)) rows s choice l i b t o g = (b.rebalance.hand, i.place)
 within z (Activity.Rebalance (Rebalance.Seek Seek.First)) rows s choice l i b t o g = seeks choice g
@@ -309,6 +312,7 @@ pub store_blind : (z : Sizes) (a : Activity) (s : ℕ) (choice : Choice) (l : Lo
 store_blind z Activity.Idle s choice l v w h rows = absurd h
 store_blind z (Activity.Enter Enter.Announce) s choice l v w h rows = refl
 store_blind z (Activity.Draw Draw.Wait) s choice l v w h rows = refl
+store_blind z (Activity.Draw Draw.Pin) s choice l v w h rows = refl
 store_blind z (Activity.Draw _) s choice l v w h rows = absurd h
 store_blind z (Activity.Walk Walk.Start) s choice l v w h rows = absurd (starts choice h)
   where
@@ -331,6 +335,7 @@ store_blind z (Activity.Read Read.Start) s choice l v w h rows = absurd (subst I
 store_blind z (Activity.Read Read.Link) s choice l v w h rows = absurd h
 store_blind z (Activity.Read _) s choice l v w h rows = absurd h
 store_blind z (Activity.EndScan answer) s choice l v w h rows = refl
+store_blind z Activity.ClearPin s choice l v w h rows = refl
 store_blind z (Activity.Put Put.Key) s choice l v w h rows = refl
 store_blind z (Activity.Put Put.Value) s choice l v w h rows = refl
 store_blind z (Activity.Put Put.Version) s choice l v w h rows = refl

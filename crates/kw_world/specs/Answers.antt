@@ -3,7 +3,7 @@ use Rattle.std.specs.Prelude.{ℕ, Option, Some, None, List}
 use Rattle.kw_model.specs.declared.call.Reply.{Reply}
 use Rattle.kw_model.specs.declared.call.Reply.TheVariants as reply
 use Rattle.kw_world.specs.declared.answer.Answer.{Answer}
-use Rattle.kw_world.specs.declared.answer.Answer.TheVariants.{Done, Value, Absent, Pairs, NoRows, Spent, Stopped}
+use Rattle.kw_world.specs.declared.answer.Answer.TheVariants.{Done, Value, Absent, Pairs, NoRows, Spent, Stopped, Held, NotPinned}
 
 -- what a value, or none, is answered as
 abbrev pub answer_found : Option ℕ → Answer
@@ -19,3 +19,5 @@ reply_of Pairs pairs = reply.Pairs pairs
 reply_of NoRows pairs = reply.NoRows
 reply_of Spent pairs = reply.Spent
 reply_of Stopped pairs = reply.Stopped
+reply_of Held pairs = reply.Held
+reply_of NotPinned pairs = reply.NotPinned

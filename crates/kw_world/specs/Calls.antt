@@ -3,22 +3,30 @@
 -- seat.
 use Rattle.std.specs.Prelude.{ℕ, Bool, true, false, ◌&&◌, nat_le, nat_lt, Option, Some, None}
 use Rattle.kw_model.specs.declared.call.Call.{Call}
-use Rattle.kw_model.specs.declared.call.Call.TheVariants.{Put, Del, Get, Scan}
+use Rattle.kw_model.specs.declared.call.Call.TheVariants.{Put, Del, Get, Scan, Pin, ScanAt, Unpin}
 
--- the key of a put, a delete or a get, and the first key of a scan
+-- the key of a put, a delete or a get, and the first key of a scan, of the map as it stands or as
+-- it was pinned
 abbrev pub first_key : Option Call → ℕ
 first_key (Some (Put key value)) = key
 first_key (Some (Del key)) = key
 first_key (Some (Get key)) = key
 first_key (Some (Scan from upto)) = from
+first_key (Some Pin) = 0
+first_key (Some (ScanAt from upto)) = from
+first_key (Some Unpin) = 0
 first_key None = 0
 
--- the key of a put, a delete or a get, and the last key of a scan
+-- the key of a put, a delete or a get, and the last key of a scan, of the map as it stands or as it
+-- was pinned
 abbrev pub last_key : Option Call → ℕ
 last_key (Some (Put key value)) = key
 last_key (Some (Del key)) = key
 last_key (Some (Get key)) = key
 last_key (Some (Scan from upto)) = upto
+last_key (Some Pin) = 0
+last_key (Some (ScanAt from upto)) = upto
+last_key (Some Unpin) = 0
 last_key None = 0
 
 -- the key is in the range of the call: the one key of a get, the keys of a scan
@@ -35,12 +43,29 @@ put_value (Some (Put key value)) = Some value
 put_value (Some (Del key)) = None
 put_value (Some (Get key)) = None
 put_value (Some (Scan from upto)) = None
+put_value (Some Pin) = None
+put_value (Some (ScanAt from upto)) = None
+put_value (Some Unpin) = None
 put_value None = None
 
--- the call is a scan
+-- the call is a scan of the map as it stands
 abbrev pub is_scan : Option Call → Bool
 is_scan (Some (Put key value)) = false
 is_scan (Some (Del key)) = false
 is_scan (Some (Get key)) = false
 is_scan (Some (Scan from upto)) = true
+is_scan (Some Pin) = false
+is_scan (Some (ScanAt from upto)) = false
+is_scan (Some Unpin) = false
 is_scan None = false
+
+-- the call is a pin
+abbrev pub is_pin : Option Call → Bool
+is_pin (Some (Put key value)) = false
+is_pin (Some (Del key)) = false
+is_pin (Some (Get key)) = false
+is_pin (Some (Scan from upto)) = false
+is_pin (Some Pin) = true
+is_pin (Some (ScanAt from upto)) = false
+is_pin (Some Unpin) = false
+is_pin None = false

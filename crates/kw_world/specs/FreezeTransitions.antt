@@ -58,6 +58,10 @@ abbrev pub entry_tried : Sizes → ℕ → Bool → Local → Outcome
 entry_tried z i true l = to_freeze_look z (i + 1) l
 entry_tried z i false l = to (Activity.Rebalance (Rebalance.Freeze (Freeze.Look i))) l
 
+-- Freeze::Pin(i): the pin of seat i; once all pins are looked at, the cells of the rows
+abbrev pub to_pin_look : Sizes → ℕ → Local → Outcome
+to_pin_look z i l = if nat_lt i z.seats then to (Activity.Rebalance (Rebalance.Freeze (Freeze.Pin i))) l else to_take l
+
 -- Freeze::Scan(i): the scan of seat i; once all scans are looked at, the cells of the rows
 abbrev pub to_scan_look : Sizes → ℕ → Local → Outcome
 to_scan_look z i l = if nat_lt i z.seats then to (Activity.Rebalance (Rebalance.Freeze (Freeze.Scan i))) l else to_take l
@@ -80,3 +84,10 @@ scan_helped z i (Some Quiet) l = to_scan_look z (i + 1) l
 scan_helped z i (Some (Waiting clock)) l = to_scan_look z (i + 1) (if clock == l.rebalance.waiting then needing l.rebalance.drawn l else l)
 scan_helped z i (Some (Drawn version)) l = to_scan_look z (i + 1) (needing version l)
 scan_helped z i None l = to_scan_look z (i + 1) l
+
+-- Freeze::Pin(i): the version at which the seat has pinned the map is needed
+abbrev pub pin_seen : Sizes → ℕ → Option ScanWord → Local → Outcome
+pin_seen z i (Some Quiet) l = to_pin_look z (i + 1) l
+pin_seen z i (Some (Waiting clock)) l = to_pin_look z (i + 1) l
+pin_seen z i (Some (Drawn version)) l = to_pin_look z (i + 1) (needing version l)
+pin_seen z i None l = to_pin_look z (i + 1) l

@@ -31,12 +31,13 @@ no_rebalance = record {
   afterwards = TryAgain;
 }
 
--- an idle seat that has begun this many calls
+-- an idle seat that has begun this many calls, and pins nothing
 abbrev pub resting : ℕ → Local
 resting number = record {
   activity = Activity.Idle;
   call = None;
   number = number;
+  pin = None;
   epoch = 1;
   want = 0;
   row = 0;
@@ -66,6 +67,10 @@ resting number = record {
   tidies = false;
   rebalance = no_rebalance;
 }
+
+-- what a seat knows between calls: how many it has begun, and its pin
+abbrev pub at_rest : Local → Local
+at_rest l = record (resting l.number) { pin = l.pin }
 
 -- no row is known any more
 abbrev pub without_rows : Local → Local

@@ -1,5 +1,5 @@
 -- The world that a run begins with.
-use Rattle.std.specs.Prelude.{ℕ, zero, suc, ◌<◌, ◌≤◌, List, Some, false, replicate, slice_set}
+use Rattle.std.specs.Prelude.{ℕ, zero, suc, ◌*◌, ◌<◌, ◌≤◌, List, Some, false, replicate, slice_set}
 use Rattle.kw_words.specs.declared.layout.Name.{Name}
 use Rattle.kw_words.specs.declared.layout.Name.TheVariants.{Clock, Epoch, Head, Turn, Pass, Scan, Pin, State, Count, Least, Next, First, Pend, Key, Value, Version, After}
 use Rattle.kw_words.specs.declared.link.Link.{Link}
@@ -22,8 +22,8 @@ pub record IsOpening (z : Sizes) (o : Opening) : Type 0 where
   pub clock : o.clock ≤ SPENT
   pub some_epoch : 1 ≤ o.epoch
   pub epoch : o.epoch ≤ SPENT
-  -- a row that is built has room for more cells of one key than scans may need at once
-  pub built : z.seats < z.built
+  -- a row that is built has room for more cells of one key than scans and pins may need at once
+  pub built : 2 * z.seats < z.built
   -- and it has no more than a row
   pub fits : z.built ≤ z.cells
 

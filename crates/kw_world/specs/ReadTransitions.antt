@@ -7,7 +7,7 @@ use Rattle.kw_cells.specs.declared.cell.Cell.{Cell}
 use Rattle.kw_cells.specs.Cells.{shown_at, pairs_of}
 use Rattle.kw_cells.specs.InOrder.{with_cell}
 use Rattle.kw_model.specs.declared.call.Call.{Call}
-use Rattle.kw_model.specs.declared.call.Call.TheVariants.{Put, Del, Get, Scan}
+use Rattle.kw_model.specs.declared.call.Call.TheVariants.{Put, Del, Get, Scan, Pin, ScanAt, Unpin}
 use Rattle.kw_world.specs.declared.answer.Answer.TheVariants.{Pairs}
 use Rattle.kw_world.specs.Answers.{answer_found}
 use Rattle.kw_world.specs.declared.activity.Activity.TheVariants as Activity
@@ -82,6 +82,9 @@ row_read (Some (Put key value)) l = get_answered key l
 row_read (Some (Del key)) l = get_answered key l
 row_read (Some (Get key)) l = get_answered key l
 row_read (Some (Scan from upto)) l = row_scanned upto l
+row_read (Some Pin) l = get_answered 0 l
+row_read (Some (ScanAt from upto)) l = get_answered from l
+row_read (Some Unpin) l = get_answered 0 l
 row_read None l = get_answered 0 l
 
 -- Left over: a remembered cell of the least place is read, and remembered no more; where none is

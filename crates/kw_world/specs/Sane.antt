@@ -18,7 +18,7 @@ use Rattle.kw_words.specs.Scan.{scan_of}
 use Rattle.kw_words.specs.Plain.{IsValue, built_of_word}
 use Rattle.kw_cells.specs.declared.cell.Cell as kw_cell
 use Rattle.kw_model.specs.declared.call.Call.{Call}
-use Rattle.kw_model.specs.declared.call.Call.TheVariants.{Put, Del, Get, Scan}
+use Rattle.kw_model.specs.declared.call.Call.TheVariants.{Put, Del, Get, Scan, Pin, ScanAt, Unpin}
 use Rattle.kw_world.specs.declared.answer.Answer.{Answer}
 use Rattle.kw_world.specs.declared.answer.Answer.TheVariants.{Value}
 use Rattle.kw_world.specs.declared.activity.Activity.{Activity}
@@ -96,7 +96,7 @@ IsWord z name.Head w = IsKnownWord (link_of w)
 IsWord z name.Turn w = w ≤ z.seats
 IsWord z (name.Pass seat) w = w < NUMBER_END
 IsWord z (name.Scan seat) w = IsKnownWord (scan_of w)
-IsWord z (name.Pin seat) w = w < VERSION_END
+IsWord z (name.Pin seat) w = IsKnownWord (scan_of w)
 IsWord z (name.State r) w = IsRowState z (state_of w)
 IsWord z (name.Count r) w = IsGiven (count_of w)
 IsWord z (name.Least r) w = built_of_word w ≤ z.cells
@@ -142,12 +142,15 @@ IsLed rows _ w = Unit {0}
 
 -- What a seat knows.
 
--- the numbers of a call are in range
+-- the numbers of a call are in range; no seat pins the map, or asks of a pin
 abbrev pub IsCall : Option Call → Type 0
 IsCall (Some (Put key value)) = (key < KEY_END) × (value < VALUE_END)
 IsCall (Some (Del key)) = key < KEY_END
 IsCall (Some (Get key)) = key < KEY_END
 IsCall (Some (Scan from upto)) = (from < KEY_END) × (upto < KEY_END)
+IsCall (Some Pin) = ⊥
+IsCall (Some (ScanAt from upto)) = ⊥
+IsCall (Some Unpin) = ⊥
 IsCall None = Unit {0}
 
 -- a pair of a key and a value in range
@@ -173,6 +176,7 @@ IsActivity z (Activity.Rebalance (Rebalance.Freeze (Freeze.Entry i))) = i < z.se
 IsActivity z (Activity.Rebalance (Rebalance.Freeze (Freeze.Scan i))) = i < z.seats
 IsActivity z (Activity.Rebalance (Rebalance.Freeze (Freeze.Draw i))) = i < z.seats
 IsActivity z (Activity.Rebalance (Rebalance.Freeze (Freeze.Settle i))) = i < z.seats
+IsActivity z (Activity.Rebalance (Rebalance.Freeze (Freeze.Pin i))) = i < z.seats
 IsActivity z (Activity.Rebalance (Rebalance.Seek (Seek.Pass i))) = i < z.seats
 IsActivity z (Activity.Rebalance (Rebalance.Write (Write.Entry i))) = i < z.seats
 IsActivity z (Activity.Rebalance (Rebalance.Write (Write.Key j))) = j < z.cells
@@ -185,6 +189,11 @@ IsActivity z _ = Unit {0}
 abbrev pub IsCellBelow : ℕ → Option ℕ → Type 0
 IsCellBelow cells (Some cell) = cell < cells
 IsCellBelow cells None = Unit {0}
+
+-- the version of a pin, if there is one, is in range
+abbrev pub IsPinned : Option ℕ → Type 0
+IsPinned (Some version) = IsVersion version
+IsPinned None = Unit {0}
 
 -- a remembered cell and its version are in range
 abbrev pub IsMark : Sizes → Mark → Type 0
@@ -225,6 +234,7 @@ pub record IsRebalance (z : Sizes) (b : Rebalancing) : Type 0 where
 pub record IsLocal (z : Sizes) (l : Local) : Type 0 where
   pub activity : IsActivity z l.activity
   pub call : IsCall l.call
+  pub pin : IsPinned l.pin
   pub epoch : IsNumber l.epoch
   pub want : l.want < KEY_END
   pub lower : l.lower < KEY_END
@@ -291,12 +301,14 @@ group_marks_by z (Activity.Rebalance (Rebalance.Freeze (Freeze.Look i))) b = ent
 group_marks_by z (Activity.Rebalance (Rebalance.Freeze (Freeze.Entry i))) b = entries_before z b + i
 group_marks_by z _ b = MOST_GROUP * z.seats
 
--- as many versions may be needed where a seat does this: one for each scan that it has looked at
+-- as many versions may be needed where a seat does this: one for each scan that it has looked at,
+-- and then one for each pin
 abbrev pub needed_by : Sizes → Activity → ℕ
 needed_by z (Activity.Rebalance (Rebalance.Freeze (Freeze.Scan i))) = i
 needed_by z (Activity.Rebalance (Rebalance.Freeze (Freeze.Draw i))) = i
 needed_by z (Activity.Rebalance (Rebalance.Freeze (Freeze.Settle i))) = i
-needed_by z _ = z.seats
+needed_by z (Activity.Rebalance (Rebalance.Freeze (Freeze.Pin i))) = z.seats + i
+needed_by z _ = 2 * z.seats
 
 -- a seat that does this may take one more row
 abbrev pub IsTakingRows : Activity → Type 0

@@ -28,12 +28,13 @@
 -- an event comes here. It is given to what follows, where a search along the table ends with its
 -- last row (`at_rows`); every other line leaves it out (`at`).
 use Rattle.std.specs.Prelude.{ℕ, None}
-use Rattle.kw_words.specs.declared.layout.Name.TheVariants.{Epoch, Pass, Scan}
+use Rattle.kw_words.specs.declared.layout.Name.TheVariants.{Epoch, Pass, Scan, Pin}
 use Rattle.kw_words.specs.declared.kind.Kind.TheVariants as kind
 use Rattle.kw_words.specs.declared.scan.ScanWord.TheVariants.{Quiet}
 use Rattle.kw_words.specs.Scan.{scan_word}
 use Rattle.kw_words.specs.Plain.{pass_word}
 use Rattle.kw_world.specs.declared.activity.Activity.{Activity}
+use Rattle.kw_world.specs.declared.answer.Answer.TheVariants.{Done}
 use Rattle.kw_world.specs.declared.activity.enter.Enter.TheVariants as Enter
 use Rattle.kw_world.specs.declared.activity.rebalance.Rebalance.TheVariants as Rebalance
 use Rattle.kw_world.specs.declared.local.Local.{Local}
@@ -64,6 +65,8 @@ transition z (Activity.Look a) s choice l = look_lines z a s choice l
 transition z (Activity.Read a) s choice l = read_lines z a s choice l
 -- a scan is over
 transition z (Activity.EndScan answer) s choice l = at kind.ClearScan (Scan s) (Store (scan_word Quiet)) (λ _. leave (answer_or_stopped answer choice) l)
+-- a pin is taken back
+transition z Activity.ClearPin s choice l = at kind.ClearPin (Pin s) (Store (scan_word Quiet)) (λ _. leave Done (record l { pin = None }))
 transition z (Activity.Put a) s choice l = put_lines z a s choice l
 transition z (Activity.Insert a) s choice l = insert_lines z a s choice l
 -- the call ends

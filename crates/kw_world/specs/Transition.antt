@@ -12,7 +12,7 @@ use Rattle.kw_world.specs.declared.event.StepDone.TheVariants.{Moved, Ended}
 use Rattle.kw_world.specs.declared.operation.Action.{Action}
 use Rattle.kw_world.specs.declared.operation.Operation.{Operation}
 use Rattle.kw_world.specs.Answers.{reply_of}
-use Rattle.kw_world.specs.Local.{resting, without_rows}
+use Rattle.kw_world.specs.Local.{at_rest, without_rows}
 
 -- what the seat knows after an event, and what the event did
 pub record Outcome : Type 0 where
@@ -46,9 +46,9 @@ abbrev pub leave : Answer → Local → Outcome
 leave answer l = to (Activity.Leave answer) (without_rows l)
 
 -- the call has ended with this answer, and with the pairs that the seat has: it is idle, and knows
--- how many calls it has begun
+-- how many calls it has begun, and its pin
 abbrev pub ended : Answer → Local → Outcome
-ended answer l = outcome (resting l.number) (Ended (reply_of answer l.pairs))
+ended answer l = outcome (at_rest l) (Ended (reply_of answer l.pairs))
 
 -- the row that a link leads to; a word that is no link leads nowhere
 abbrev pub row_linked : Option Link → Option ℕ

@@ -9,7 +9,7 @@ use Rattle.kw_words.specs.Link.{link_of}
 use Rattle.kw_words.specs.State.{state_of}
 use Rattle.kw_words.specs.Scan.{scan_word}
 use Rattle.kw_model.specs.declared.call.Call.{Call}
-use Rattle.kw_model.specs.declared.call.Call.TheVariants.{Put, Del, Get, Scan}
+use Rattle.kw_model.specs.declared.call.Call.TheVariants.{Put, Del, Get, Scan, Pin, ScanAt, Unpin}
 use Rattle.kw_world.specs.declared.answer.Answer.TheVariants.{Stopped}
 use Rattle.kw_world.specs.declared.activity.Activity.TheVariants as Activity
 use Rattle.kw_world.specs.declared.activity.look.Look.TheVariants as Look
@@ -64,6 +64,9 @@ arrive (Some (Put key value)) l = to (Activity.Put Put.Count) l
 arrive (Some (Del key)) l = to (Activity.Put Put.Count) l
 arrive (Some (Get key)) l = to (Activity.Look (Look.Entry 0)) (before_row l)
 arrive (Some (Scan from upto)) l = to (Activity.Look (Look.Entry 0)) (before_row l)
+arrive (Some Pin) l = to (Activity.Look (Look.Entry 0)) (before_row l)
+arrive (Some (ScanAt from upto)) l = to (Activity.Look (Look.Entry 0)) (before_row l)
+arrive (Some Unpin) l = to (Activity.Look (Look.Entry 0)) (before_row l)
 arrive None l = to (Activity.Look (Look.Entry 0)) (before_row l)
 
 -- Walk: the last row has no next one; else the least key of the next one decides

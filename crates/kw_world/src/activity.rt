@@ -46,6 +46,8 @@ pub enum Activity {
     Read(Read),
     /// Ends the scan with this answer: stores that the seat makes no scan.
     EndScan(Answer),
+    /// Takes the pin back: stores that the seat pins nothing.
+    ClearPin,
     /// A put or a delete is at its row.
     Put(Put),
     /// A put links its cell into the list of the row.

@@ -12,20 +12,24 @@ use kw_model::pair_list::PairList;
 /// What a call is about to answer: its reply, but for the pairs of a scan.
 #[derive(Clone, Copy, Debug, PartialEq, Eq)]
 pub enum Answer {
-    /// The put or delete was made.
+    /// The put or delete was made, the map was pinned, or the pin was taken back.
     Done,
     /// The value of the key that a get asked for.
     Value(u64),
     /// The key that a get asked for has no value.
     Absent,
-    /// The pairs that the scan has.
+    /// The pairs that the scan has, of the map as it stands or as it was pinned.
     Pairs,
     /// Refuses a put or a delete: no row was left for new cells.
     NoRows,
-    /// Refuses a scan: the clock is at its end.
+    /// Refuses a scan or a pin: the clock is at its end.
     Spent,
     /// Refuses a scan: whoever takes its pairs stopped it.
     Stopped,
+    /// The seat that asks to pin the map holds a pin.
+    Held,
+    /// The seat that asks of a pin, or takes one back, holds none.
+    NotPinned,
 }
 
 impl Answer {
@@ -52,6 +56,8 @@ impl Answer {
             Answer::NoRows => Reply::NoRows,
             Answer::Spent => Reply::Spent,
             Answer::Stopped => Reply::Stopped,
+            Answer::Held => Reply::Held,
+            Answer::NotPinned => Reply::NotPinned,
         }
     }
 }

@@ -4,30 +4,32 @@
 //! that acts, and so each of these answers for every local.
 ghost use Rattle.std.specs.Prelude.{◌≡◌};
 ghost use Rattle.kw_words.specs.Plain.{IsValue};
-ghost use Rattle.kw_world.specs.Calls.{first_key, last_key, is_in_range, is_range_empty, put_value, is_scan};
+ghost use Rattle.kw_world.specs.Calls.{first_key, last_key, is_in_range, is_range_empty, put_value, is_pin, is_scan};
 ghost use Rattle.kw_world.specs.Sane.{IsCall};
 
 use kw_model::call::Call;
 
-/// The key of a put, a delete or a get, and the first key of a scan.
+/// The key of a put, a delete or a get, and the first key of a scan, of the map as it stands or as
+/// it was pinned.
 pub fn first_key(call: Option<Call>) -> u32
     ensures { result ≡ first_key call }
 {
     match call {
         Some(Call::Put(key, _)) | Some(Call::Del(key)) | Some(Call::Get(key)) => key,
-        Some(Call::Scan(from, _)) => from,
-        None => 0,
+        Some(Call::Scan(from, _)) | Some(Call::ScanAt(from, _)) => from,
+        Some(Call::Pin) | Some(Call::Unpin) | None => 0,
     }
 }
 
-/// The key of a put, a delete or a get, and the last key of a scan.
+/// The key of a put, a delete or a get, and the last key of a scan, of the map as it stands or as
+/// it was pinned.
 pub fn last_key(call: Option<Call>) -> u32
     ensures { result ≡ last_key call }
 {
     match call {
         Some(Call::Put(key, _)) | Some(Call::Del(key)) | Some(Call::Get(key)) => key,
-        Some(Call::Scan(_, upto)) => upto,
-        None => 0,
+        Some(Call::Scan(_, upto)) | Some(Call::ScanAt(_, upto)) => upto,
+        Some(Call::Pin) | Some(Call::Unpin) | None => 0,
     }
 }
 
@@ -58,12 +60,22 @@ pub fn put_value(call: Option<Call>) -> Option<u64>
     }
 }
 
-/// Whether the call is a scan.
+/// Whether the call is a scan of the map as it stands.
 pub fn is_scan(call: Option<Call>) -> bool
     ensures { result ≡ is_scan call }
 {
     match call {
         Some(Call::Scan(_, _)) => true,
+        _ => false,
+    }
+}
+
+/// Whether the call is a pin.
+pub fn is_pin(call: Option<Call>) -> bool
+    ensures { result ≡ is_pin call }
+{
+    match call {
+        Some(Call::Pin) => true,
         _ => false,
     }
 }

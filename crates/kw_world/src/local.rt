@@ -5,7 +5,7 @@
 //! which activity is for the laws over lists of events to say. The step crates write the fields,
 //! each event those that its line of the table names, and nobody else does.
 ghost use Rattle.std.specs.Prelude.{◌≡◌};
-ghost use Rattle.kw_world.specs.Local.{resting, without_rows, before_row};
+ghost use Rattle.kw_world.specs.Local.{resting, at_rest, without_rows, before_row};
 ghost use Rattle.kw_world.specs.WalkTransitions.{is_stopped};
 ghost use Rattle.kw_world.specs.ListTransitions.{cell_guess};
 ghost use Rattle.kw_world.specs.Parts.{part_of};
@@ -24,7 +24,7 @@ use kw_model::pair_list::PairList;
 use kw_words::sizes::{CELLS, SEATS};
 use std::alloc::{AllocError, Global};
 
-/// What one seat knows. Between calls it knows the number of its calls alone.
+/// What one seat knows. Between calls it knows the number of its calls and its pin alone.
 #[derive(Debug, Drop)]
 pub struct Local {
     /// What it does next.
@@ -33,6 +33,9 @@ pub struct Local {
     pub call: Option<Call>,
     /// How many calls it has begun.
     pub number: u32,
+    /// The version at which it has pinned the map, from 1 to below `VERSION_END`; none where it
+    /// pins nothing.
+    pub pin: Option<u64>,
     /// The epoch that it announces, from 1 to below `NUMBER_END`.
     pub epoch: u64,
 
@@ -113,6 +116,7 @@ impl Clone for Local {
             activity: self.activity,
             call: self.call,
             number: self.number,
+            pin: self.pin,
             epoch: self.epoch,
             want: self.want,
             row: self.row,
@@ -155,6 +159,7 @@ impl Local {
             activity: Activity::Idle,
             call: None,
             number: 0,
+            pin: None,
             epoch: 1,
             want: 0,
             row: 0,
@@ -186,9 +191,9 @@ impl Local {
         }
     }
 
-    /// Between calls a seat knows how many calls it has begun, and nothing else.
+    /// Between calls a seat knows how many calls it has begun, its pin, and nothing else.
     pub fn rest(&mut self)
-        ensures { self.new ≡ resting self.old.number }
+        ensures { self.new ≡ at_rest self.old }
     {
         self.activity = Activity::Idle;
         self.call = None;

@@ -18,4 +18,6 @@ pub enum Freeze {
     Draw(u32),
     /// Exchanges the waiting scan of this seat for one with that version.
     Settle(u32),
+    /// Loads the pin of this seat, below the number of seats.
+    Pin(u32),
 }
