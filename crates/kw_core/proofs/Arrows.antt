@@ -23,10 +23,9 @@ use Rattle.kw_words.specs.Scan.{scan_of}
 use Rattle.kw_words.specs.State.{state_of, state_word}
 use Rattle.kw_words.specs.Link.{link_of}
 use Rattle.kw_words.specs.Plain.{key_of_word, value_of_word, version_of_word, cell_link_word, cell_of_link_word}
-use Rattle.kw_words.proofs.PlainWords.{number_word-number_of_word}
 use Rattle.kw_cells.specs.Cells.{shown_at}
 use Rattle.kw_model.specs.declared.call.Call.{Call}
-use Rattle.kw_model.specs.declared.call.Call.TheVariants.{Put, Del, Get, Scan}
+use Rattle.kw_model.specs.declared.call.Call.TheVariants.{Put, Del, Get, Scan, Pin, ScanAt, Unpin}
 use Rattle.kw_world.specs.declared.answer.Answer.{Answer}
 use Rattle.kw_world.specs.declared.answer.Answer.TheVariants.{Done, Pairs, Spent, Stopped}
 use Rattle.kw_world.specs.Answers.{answer_found}
@@ -52,11 +51,11 @@ use Rattle.kw_world.specs.declared.limits.TheConstants.{NEWEST}
 use Rattle.kw_world.specs.declared.event.Choice.{Choice}
 use Rattle.kw_world.specs.declared.event.Choice.TheVariants.{Begin, Go, Guess, Stop}
 use Rattle.kw_world.specs.Sizes.{Sizes}
-use Rattle.kw_world.specs.Local.{resting, without_rows, without_rebalance}
+use Rattle.kw_world.specs.Local.{at_rest, without_rows, without_rebalance}
 use Rattle.kw_world.specs.Operation.{told_by}
 use Rattle.kw_world.proofs.Transitions.{guessed_below}
 use Rattle.kw_core.proofs.NextBuilt.{begun_anew, over, refused}
-use Rattle.kw_world.specs.Calls.{first_key, last_key, is_in_range, is_scan, is_range_empty}
+use Rattle.kw_world.specs.Calls.{first_key, last_key, is_in_range, is_scan, is_pin, is_range_empty}
 use Rattle.kw_world.specs.Transition.{Outcome, to, leave, row_linked, row_or_first}
 use Rattle.kw_world.specs.ScanTransitions.{begun, entered, version_settled, answer_or_stopped}
 use Rattle.kw_world.specs.WalkTransitions.{start_transition, guess_seen, arrive, link_reached, walk_transition, is_stopped}
@@ -77,8 +76,10 @@ use Rattle.kw_world.specs.Step.{followed, is_skipped}
 use Rattle.kw_core.specs.Words.{Words, next_in, least_in, built_in}
 use Rattle.kw_core.specs.Stages.{is_put}
 use Rattle.kw_core.proofs.Events.{IsBegun}
+use Rattle.kw_core.proofs.InRange.{unwrap_or-version_of_word}
 use Rattle.kw_core.proofs.Building.{Building, IsBuilding, building}
-use Rattle.kw_core.proofs.Grouping.{IsNoneLeft, NextCounted, NextFrozen, NextGathered, next_counted, next_entry, next_left}
+use Rattle.kw_core.proofs.Grouping.{IsNoneLeft, NextCounted, NextFrozen, NextGathered, next_counted, next_entry, next_left, next_scan}
+use Rattle.kw_core.proofs.Pinning.{IsOfPin, NextOfPin, NextPinLook, next_pin, next_pin_look, next_scan_at, next_unpin}
 
 -- what a reader does after the entries below j: the next look, or the row's list
 pub data NextLook (z : Sizes) (j : ℕ) : Activity → Type 0 where
@@ -120,13 +121,16 @@ pub data Arrow (z : Sizes) (v : Words) (s : ℕ) (choice : Choice) (l : Local) :
   begins : (call : Call) → choice ≡ Begin call → IsBegun Activity.Idle (Begin call) → Arrow z v s choice l Activity.Idle (record l { call = Some call; number = l.number + 1; epoch = v name.Epoch; activity = Activity.Enter Enter.Announce })
   enters : is_scan l.call ≡ false → Arrow z v s choice l (Activity.Enter Enter.Announce) (record l { want = first_key l.call; activity = Activity.Walk Walk.Start })
   enters_scan : is_scan l.call ≡ true → Arrow z v s choice l (Activity.Enter Enter.Announce) (record l { activity = Activity.Draw Draw.Clock })
-  -- a scan gets its version
+  asks_of_pin : (next : Local) → IsOfPin l.call → NextOfPin l next → Arrow z v s choice l (Activity.Enter Enter.Announce) next
+  -- a scan or a pin gets its version
   is_spent : SPENT ≤ v name.Clock → Arrow z v s choice l (Activity.Draw Draw.Clock) (leave Spent l).local
   waits : v name.Clock < SPENT → Arrow z v s choice l (Activity.Draw Draw.Clock) (record l { waiting = v name.Clock; activity = Activity.Draw Draw.Wait })
   stores_waiting : Arrow z v s choice l (Activity.Draw Draw.Wait) (record l { activity = Activity.Draw Draw.Version })
   draws : Arrow z v s choice l (Activity.Draw Draw.Version) (record l { drawn = v name.Clock; activity = Activity.Draw Draw.Settle })
   settles_empty : is_range_empty l.call ≡ true → Arrow z v s choice l (Activity.Draw Draw.Settle) (record l { version = version_settled (scan_of (v (name.Scan s))) l.drawn; activity = Activity.EndScan Pairs })
   settles : is_range_empty l.call ≡ false → Arrow z v s choice l (Activity.Draw Draw.Settle) (record l { version = version_settled (scan_of (v (name.Scan s))) l.drawn; want = first_key l.call; activity = Activity.Walk Walk.Start })
+  settles_pin : is_pin l.call ≡ true → Arrow z v s choice l (Activity.Draw Draw.Settle) (record l { version = version_settled (scan_of (v (name.Scan s))) l.drawn; activity = Activity.Draw Draw.Pin })
+  stores_pin : Arrow z v s choice l (Activity.Draw Draw.Pin) (record l { pin = Some l.version; activity = Activity.EndScan Done })
   -- the walk
   starts_at_head : Arrow z v s choice l (Activity.Walk Walk.Start) (record l { row = row_or_first (row_linked (link_of (v name.Head))); lower = 0; built = 0; activity = Activity.Walk Walk.Next })
   guesses : (r : ℕ) → choice ≡ Guess r → state_of (v (name.State r)) ≡ Some Normal → Arrow z v s choice l (Activity.Walk Walk.Start) (record l { row = r; activity = Activity.Walk Walk.GuessedLeast })
@@ -168,6 +172,8 @@ pub data Arrow (z : Sizes) (v : Words) (s : ℕ) (choice : Choice) (l : Local) :
   gathers_left_over : (next : Local) → NextLeftOver (gathering z (value_of_word (v (name.Value l.row l.place))) l) next → Arrow z v s choice l (Activity.Read Read.LeftOverValue) next
   -- a scan is over
   clears_scan : (answer : Answer) → Arrow z v s choice l (Activity.EndScan answer) (leave (answer_or_stopped answer choice) l).local
+  -- a pin is taken back
+  clears_pin : Arrow z v s choice l Activity.ClearPin (leave Done (record l { pin = None })).local
   -- a put or a delete
   finds_room : has_room z (count_of (v (name.Count l.row))) ≡ true → Arrow z v s choice l (Activity.Put Put.Count) (record l { activity = Activity.Put Put.Add })
   finds_full : has_room z (count_of (v (name.Count l.row))) ≡ false → Arrow z v s choice l (Activity.Put Put.Count) (to_rebalance l).local
@@ -200,7 +206,7 @@ pub data Arrow (z : Sizes) (v : Words) (s : ℕ) (choice : Choice) (l : Local) :
   clears : Arrow z v s choice l (Activity.Put Put.Clear) (leave Done l).local
   tidies : (rows : ℕ) → tidies_row rows choice l ≡ true → Arrow z v s choice l (Activity.Put Put.Clear) (to_rebalance (record l { tidies = true })).local
   -- the call ends
-  leaves : (answer : Answer) → Arrow z v s choice l (Activity.Leave answer) (resting l.number)
+  leaves : (answer : Answer) → Arrow z v s choice l (Activity.Leave answer) (at_rest l)
   -- a put tries again
   retries : Arrow z v s choice l Activity.Retry (record l { activity = Activity.Enter Enter.LoadEpoch })
   enters_again : Arrow z v s choice l (Activity.Enter Enter.LoadEpoch) (record l { epoch = v name.Epoch; activity = Activity.Enter Enter.Announce })
@@ -272,6 +278,8 @@ pub data Arrow (z : Sizes) (v : Words) (s : ℕ) (choice : Choice) (l : Local) :
   finds_drawn_last : (i version : ℕ) → scan_of (v (name.Scan i)) ≡ Some (scan.Drawn version) → z.seats ≤ i + 1 → Arrow z v s choice l (Activity.Rebalance (Rebalance.Freeze (Freeze.Settle i))) (to_take (needing version l)).local
   finds_no_scan : (i : ℕ) → IsNoScan l.rebalance.waiting (v (name.Scan i)) → i + 1 < z.seats → Arrow z v s choice l (Activity.Rebalance (Rebalance.Freeze (Freeze.Settle i))) (record l { activity = Activity.Rebalance (Rebalance.Freeze (Freeze.Scan (i + 1))) })
   finds_no_scan_last : (i : ℕ) → IsNoScan l.rebalance.waiting (v (name.Scan i)) → z.seats ≤ i + 1 → Arrow z v s choice l (Activity.Rebalance (Rebalance.Freeze (Freeze.Settle i))) (to_take l).local
+  -- and the pins
+  looks_at_pin : (i : ℕ) (next : Local) → NextPinLook z i (v (name.Pin i)) l next → Arrow z v s choice l (Activity.Rebalance (Rebalance.Freeze (Freeze.Pin i))) next
   -- the cells of the group are gathered
   take_leads : (c : ℕ) → cell_of_link_word (v (link_name l.rebalance.hand l.link)) ≡ Some c → Arrow z v s choice l (Activity.Rebalance (Rebalance.Gather Gather.Link)) (record (taking z c l) { activity = Activity.Rebalance (Rebalance.Gather Gather.Key) })
   takes_left : (m : Mark) → cell_of_link_word (v (link_name l.rebalance.hand l.link)) ≡ None → least_mark l.rebalance.marks ≡ Some m → m.cell < place_in_group z l.rebalance z.cells → Arrow z v s choice l (Activity.Rebalance (Rebalance.Gather Gather.Link)) (record (leaving_over z m l) { activity = Activity.Rebalance (Rebalance.Gather Gather.LeftOverKey) })
@@ -304,14 +312,6 @@ not_below x y e = grind (arith, nat_tests)
 apart_above : (x y : ℕ) → nat_lt x y ≡ false → (x == y) ≡ false → y < x
 apart_above x y e f = grind (arith, nat_tests)
 
--- a version's word is its number, and 0 for none
-unwrap_or-version_of_word : (w : ℕ) → unwrap_or (version_of_word w) 0 ≡ w
-unwrap_or-version_of_word w = saw (version_of_word w) refl
-  where
-    saw : (x : Option ℕ) → version_of_word w ≡ x → unwrap_or x 0 ≡ w
-    saw (Some n) e = rw e at (number_word-number_of_word w)
-    saw None e = rw e at (number_word-number_of_word w)
-
 pub at_most : (x y : ℕ) → nat_le x y ≡ true → x ≤ y
 at_most x y e = grind (arith, nat_tests)
 
@@ -343,6 +343,9 @@ read_arrow l (Some (Put key value)) c e = subst (λ x. NextLeftOver l (get_answe
 read_arrow l (Some (Del key)) c e = subst (λ x. NextLeftOver l (get_answered (first_key x) l).local) e (answers c (ap is_scan e))
 read_arrow l (Some (Get key)) c e = subst (λ x. NextLeftOver l (get_answered (first_key x) l).local) e (answers c (ap is_scan e))
 read_arrow l (Some (Scan from upto)) c e = subst (λ x. NextLeftOver l (row_scanned (last_key x) l).local) e (scan_goes_on l l.next c (ap is_scan e) refl)
+read_arrow l (Some Pin) c e = subst (λ x. NextLeftOver l (get_answered (first_key x) l).local) e (answers c (ap is_scan e))
+read_arrow l (Some (ScanAt from upto)) c e = subst (λ x. NextLeftOver l (get_answered (first_key x) l).local) e (answers c (ap is_scan e))
+read_arrow l (Some Unpin) c e = subst (λ x. NextLeftOver l (get_answered (first_key x) l).local) e (answers c (ap is_scan e))
 read_arrow l None c e = subst (λ x. NextLeftOver l (get_answered (first_key x) l).local) e (answers c (ap is_scan e))
 
 -- the next remembered cell, or the end
@@ -353,20 +356,15 @@ next_left_over l = saw (least_mark l.remembered) refl
     saw (Some m) e = goes_to_left_over m e
     saw None e = read_arrow l l.call e refl
 
--- the next scan, or the row's cells
-next_scan : (z : Sizes) (j : ℕ) (l : Local) (P : Local → Type 0) → (j < z.seats → P (record l { activity = Activity.Rebalance (Rebalance.Freeze (Freeze.Scan j)) })) → (z.seats ≤ j → P (to_take l).local) → P (to_scan_look z j l).local
-next_scan z j l P on last = saw (nat_lt j z.seats) refl
-  where
-    saw : (b : Bool) → nat_lt j z.seats ≡ b → P (let x : Outcome = if b then to (Activity.Rebalance (Rebalance.Freeze (Freeze.Scan j))) l else to_take l in x).local
-    saw true e = on (below j z.seats e)
-    saw false e = last (not_below j z.seats e)
-
 module _ (z : Sizes) (rows : ℕ) (v : Words) (s : ℕ) (choice : Choice) (l : Local) where
   enter_arrow : (c : Option Call) → l.call ≡ c → Arrow z v s choice l (Activity.Enter Enter.Announce) (entered c l).local
   enter_arrow (Some (Put key value)) e = enters (ap is_scan e)
   enter_arrow (Some (Del key)) e = enters (ap is_scan e)
   enter_arrow (Some (Get key)) e = enters (ap is_scan e)
   enter_arrow (Some (Scan from upto)) e = enters_scan (ap is_scan e)
+  enter_arrow (Some Pin) e = asks_of_pin _ (subst IsOfPin (sym e) tt) (next_pin l l.pin e refl)
+  enter_arrow (Some (ScanAt from upto)) e = asks_of_pin _ (subst IsOfPin (sym e) tt) (next_scan_at l from upto l.pin e refl)
+  enter_arrow (Some Unpin) e = asks_of_pin _ (subst IsOfPin (sym e) tt) (next_unpin l l.pin e refl)
   enter_arrow None e = enters (ap is_scan e)
 
   begin_arrow : (c : Choice) → choice ≡ c → IsBegun Activity.Idle c → is_skipped Activity.Idle c ≡ false → Arrow z v s choice l Activity.Idle (begun c (v name.Epoch) l).local
@@ -396,6 +394,9 @@ module _ (z : Sizes) (rows : ℕ) (v : Words) (s : ℕ) (choice : Choice) (l : L
   arrive_last (Some (Del key)) e n = puts_in_last (ap is_put e) n
   arrive_last (Some (Get key)) e n = reads_last (ap is_put e) n
   arrive_last (Some (Scan from upto)) e n = reads_last (ap is_put e) n
+  arrive_last (Some Pin) e n = reads_last (ap is_put e) n
+  arrive_last (Some (ScanAt from upto)) e n = reads_last (ap is_put e) n
+  arrive_last (Some Unpin) e n = reads_last (ap is_put e) n
   arrive_last None e n = reads_last (ap is_put e) n
 
   arrive_before : (c : Option Call) → l.call ≡ c → l.want < least_in v l.candidate → Arrow z v s choice l (Activity.Walk Walk.NextLeast) (arrive c (record l { next = Some l.candidate; upper = least_in v l.candidate })).local
@@ -403,6 +404,9 @@ module _ (z : Sizes) (rows : ℕ) (v : Words) (s : ℕ) (choice : Choice) (l : L
   arrive_before (Some (Del key)) e n = puts_before (ap is_put e) n
   arrive_before (Some (Get key)) e n = reads_before (ap is_put e) n
   arrive_before (Some (Scan from upto)) e n = reads_before (ap is_put e) n
+  arrive_before (Some Pin) e n = reads_before (ap is_put e) n
+  arrive_before (Some (ScanAt from upto)) e n = reads_before (ap is_put e) n
+  arrive_before (Some Unpin) e n = reads_before (ap is_put e) n
   arrive_before None e n = reads_before (ap is_put e) n
 
   link_arrow : (n : Option ℕ) → next_in v l.row ≡ n → Arrow z v s choice l (Activity.Walk Walk.Next) (link_reached n l).local
@@ -619,11 +623,16 @@ module _ (z : Sizes) (rows : ℕ) (v : Words) (s : ℕ) (choice : Choice) (l : L
       saw false e = waits (above _ _ e)
   arrow (Activity.Draw Draw.Wait) b m = stores_waiting
   arrow (Activity.Draw Draw.Version) b m = draws
-  arrow (Activity.Draw Draw.Settle) b m = saw (is_range_empty l.call) refl
+  arrow (Activity.Draw Draw.Settle) b m = which (is_pin l.call) refl
     where
       saw : (b : Bool) → is_range_empty l.call ≡ b → Arrow z v s choice l (Activity.Draw Draw.Settle) (let x : Outcome = if b then to (Activity.EndScan Pairs) (record l { version = version_settled (scan_of (v (name.Scan s))) l.drawn }) else to (Activity.Walk Walk.Start) (record l { version = version_settled (scan_of (v (name.Scan s))) l.drawn; want = first_key l.call }) in x).local
       saw true e = settles_empty e
       saw false e = settles e
+
+      which : (b : Bool) → is_pin l.call ≡ b → Arrow z v s choice l (Activity.Draw Draw.Settle) (let x : Outcome = if b then to (Activity.Draw Draw.Pin) (record l { version = version_settled (scan_of (v (name.Scan s))) l.drawn }) else if is_range_empty l.call then to (Activity.EndScan Pairs) (record l { version = version_settled (scan_of (v (name.Scan s))) l.drawn }) else to (Activity.Walk Walk.Start) (record l { version = version_settled (scan_of (v (name.Scan s))) l.drawn; want = first_key l.call }) in x).local
+      which true e = settles_pin e
+      which false e = saw (is_range_empty l.call) refl
+  arrow (Activity.Draw Draw.Pin) b m = stores_pin
   arrow (Activity.Walk Walk.Start) b m = start_arrow choice refl
   arrow (Activity.Walk Walk.First) b m = takes_head
   arrow (Activity.Walk Walk.GuessedLeast) b m = saw (nat_le (least_in v l.row) l.want) refl
@@ -659,6 +668,7 @@ module _ (z : Sizes) (rows : ℕ) (v : Words) (s : ℕ) (choice : Choice) (l : L
       saw false e = left_over_gone_by _ e (next_left_over l)
   arrow (Activity.Read Read.LeftOverValue) b m = gathers_left_over _ (next_left_over (gathering z (value_of_word (v (name.Value l.row l.place))) l))
   arrow (Activity.EndScan answer) b m = clears_scan answer
+  arrow Activity.ClearPin b m = clears_pin
   arrow (Activity.Put Put.Count) b m = saw (has_room z (count_of (v (name.Count l.row)))) refl
     where
       saw : (b : Bool) → has_room z (count_of (v (name.Count l.row))) ≡ b → Arrow z v s choice l (Activity.Put Put.Count) (let x : Outcome = if b then to (Activity.Put Put.Add) l else to_rebalance l in x).local
@@ -751,6 +761,7 @@ module _ (z : Sizes) (rows : ℕ) (v : Words) (s : ℕ) (choice : Choice) (l : L
   arrow (Activity.Rebalance (Rebalance.Freeze (Freeze.Scan i))) b m = scan_arrow i (scan_of (v (name.Scan i))) refl
   arrow (Activity.Rebalance (Rebalance.Freeze (Freeze.Draw i))) b m = draws_for i
   arrow (Activity.Rebalance (Rebalance.Freeze (Freeze.Settle i))) b m = settle_arrow i (scan_of (v (name.Scan i))) refl
+  arrow (Activity.Rebalance (Rebalance.Freeze (Freeze.Pin i))) b m = looks_at_pin i _ (next_pin_look z i (v (name.Pin i)) l)
   arrow (Activity.Rebalance (Rebalance.Gather Gather.Link)) b m = take_arrow (cell_of_link_word (v (link_name l.rebalance.hand l.link))) refl
   arrow (Activity.Rebalance (Rebalance.Gather Gather.Key)) b m = takes_key
   arrow (Activity.Rebalance (Rebalance.Gather Gather.Version)) b m = takes_version

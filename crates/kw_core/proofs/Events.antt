@@ -3,7 +3,7 @@ use Rattle.std.proofs.Common.{◌≡◌, ◌≢◌, ℕ, ◌<◌, ◌==◌, Bool
 use Rattle.std.proofs.lemmas.Bool.{and_parts, and_from, cases_eq, lt-ltb, ltb-true}
 use mathlib.Core.Logic.{⊎_elim}
 use Rattle.kw_model.specs.declared.call.Call.{Call}
-use Rattle.kw_model.specs.declared.call.Call.TheVariants.{Put, Del, Get, Scan}
+use Rattle.kw_model.specs.declared.call.Call.TheVariants.{Put, Del, Get, Scan, Pin, ScanAt, Unpin}
 use Rattle.kw_world.specs.declared.activity.Activity.{Activity}
 use Rattle.kw_world.specs.declared.event.Choice.{Choice}
 use Rattle.kw_world.specs.declared.event.Choice.TheVariants.{Begin}
@@ -93,6 +93,9 @@ in_range (Put key value) h = let t = and_parts _ _ h in (ltb-true key _ t.0, ltb
 in_range (Del key) h = ltb-true key _ h
 in_range (Get key) h = ltb-true key _ h
 in_range (Scan from upto) h = let t = and_parts _ _ h in (ltb-true from _ t.0, ltb-true upto _ t.1)
+in_range Pin h = let y : false ≡ true = h in absurd (cc)
+in_range (ScanAt from upto) h = let y : false ≡ true = h in absurd (cc)
+in_range Unpin h = let y : false ≡ true = h in absurd (cc)
 
 -- a call that a seat begins at this activity is in range
 abbrev pub IsBegun : Activity → Choice → Type 0

@@ -19,10 +19,10 @@ use Rattle.kw_words.specs.declared.sizes.TheConstants.{MOST_GROUP}
 use Rattle.kw_world.specs.declared.activity.Activity.TheVariants as Activity
 use Rattle.kw_world.specs.declared.marks.Mark.{Mark}
 use Rattle.kw_world.specs.EngageTransitions.{claiming, counted, to_group}
-use Rattle.kw_world.specs.FreezeTransitions.{row_frozen, to_freeze_look, to_scans}
+use Rattle.kw_world.specs.FreezeTransitions.{row_frozen, to_freeze_look, to_scan_look, to_scans}
 use Rattle.kw_world.specs.GroupPlaces.{at_last_row, place_in_group}
 use Rattle.kw_world.specs.Marks.{least_mark}
-use Rattle.kw_world.specs.TakeTransitions.{leaving_over, left_of, planned, row_gathered, to_left, to_list}
+use Rattle.kw_world.specs.TakeTransitions.{leaving_over, left_of, planned, row_gathered, to_left, to_list, to_take}
 use Rattle.kw_world.specs.Transition.{Outcome, to}
 use Rattle.kw_core.specs.Stages.{IsBalancing}
 
@@ -86,6 +86,14 @@ next_entry z j l P on last = saw (nat_lt j z.seats) refl
     saw : (b : Bool) → nat_lt j z.seats ≡ b → P (let x : Outcome = if b then to (Activity.Rebalance (Rebalance.Freeze (Freeze.Look j))) l else row_frozen l.rebalance.ahead l in x).local
     saw true e = on (below j z.seats e)
     saw false e = last _ (not_below j z.seats e) (next_frozen l)
+
+-- the next scan, or the row's cells
+pub next_scan : (z : Sizes) (j : ℕ) (l : Local) (P : Local → Type 0) → (j < z.seats → P (record l { activity = Activity.Rebalance (Rebalance.Freeze (Freeze.Scan j)) })) → (z.seats ≤ j → P (to_take l).local) → P (to_scan_look z j l).local
+next_scan z j l P on last = saw (nat_lt j z.seats) refl
+  where
+    saw : (b : Bool) → nat_lt j z.seats ≡ b → P (let x : Outcome = if b then to (Activity.Rebalance (Rebalance.Freeze (Freeze.Scan j))) l else to_take l in x).local
+    saw true e = on (below j z.seats e)
+    saw false e = last (not_below j z.seats e)
 
 pub next_gathered : (z : Sizes) (l : Local) → NextGathered z l (row_gathered z l.rebalance.ahead l).local
 next_gathered z l = saw l.rebalance.ahead refl

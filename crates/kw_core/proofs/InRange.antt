@@ -22,7 +22,7 @@ use Rattle.kw_cells.proofs.InOrder.{length-with_cell, with_cell-all}
 use Rattle.kw_cells.specs.Pairs.{with_shown, pairs_along, pairs_between}
 use Rattle.kw_cells.proofs.Best.{best_is}
 use Rattle.kw_model.specs.declared.call.Call.{Call}
-use Rattle.kw_model.specs.declared.call.Call.TheVariants.{Put, Del, Get, Scan}
+use Rattle.kw_model.specs.declared.call.Call.TheVariants.{Put, Del, Get, Scan, Pin, ScanAt, Unpin}
 use Rattle.kw_world.specs.declared.answer.Answer.{Answer}
 use Rattle.kw_world.specs.Answers.{answer_found}
 use Rattle.kw_world.specs.declared.marks.Mark.{Mark}
@@ -61,6 +61,14 @@ least_holds P (n ∷ marks) m e h = saw (least_mark marks) refl e (λ k f. least
         which : (b : Bool) → Some (if b then k else n) ≡ Some m → P m
         which true x = subst P (same_Some k m x) (rest k f)
         which false x = subst P (same_Some n m x) (All-head P n marks h)
+
+-- a version's word is its number, and 0 for none
+pub unwrap_or-version_of_word : (w : ℕ) → unwrap_or (version_of_word w) 0 ≡ w
+unwrap_or-version_of_word w = saw (version_of_word w) refl
+  where
+    saw : (x : Option ℕ) → version_of_word w ≡ x → unwrap_or x 0 ≡ w
+    saw (Some n) e = rw e at (number_word-number_of_word w)
+    saw None e = rw e at (number_word-number_of_word w)
 
 -- the version of a cell's word
 pub version_in_hand : (w : ℕ) → w < VERSION_END → IsVersion (unwrap_or (version_of_word w) 1)
@@ -156,6 +164,9 @@ first_in_range (Some (Put key value)) h = h.0
 first_in_range (Some (Del key)) h = h
 first_in_range (Some (Get key)) h = h
 first_in_range (Some (Scan from upto)) h = h.0
+first_in_range (Some Pin) h = absurd h
+first_in_range (Some (ScanAt from upto)) h = absurd h
+first_in_range (Some Unpin) h = absurd h
 first_in_range None h = omega arith
 
 pub last_in_range : (call : Option Call) → IsCall call → last_key call < KEY_END
@@ -163,6 +174,9 @@ last_in_range (Some (Put key value)) h = h.0
 last_in_range (Some (Del key)) h = h
 last_in_range (Some (Get key)) h = h
 last_in_range (Some (Scan from upto)) h = h.1
+last_in_range (Some Pin) h = absurd h
+last_in_range (Some (ScanAt from upto)) h = absurd h
+last_in_range (Some Unpin) h = absurd h
 last_in_range None h = omega arith
 
 pub put_in_range : (call : Option Call) → IsCall call → IsValue (put_value call)
@@ -170,6 +184,9 @@ put_in_range (Some (Put key value)) h = h.1
 put_in_range (Some (Del key)) h = tt
 put_in_range (Some (Get key)) h = tt
 put_in_range (Some (Scan from upto)) h = tt
+put_in_range (Some Pin) h = tt
+put_in_range (Some (ScanAt from upto)) h = tt
+put_in_range (Some Unpin) h = tt
 put_in_range None h = tt
 
 -- the row that a link leads to

@@ -562,9 +562,11 @@ targets (Activity.Enter Enter.Announce) s b l n q f e = of_none (name.Pass s) n 
 targets (Activity.Draw Draw.Wait) s b l n q f e = of_none (name.Scan s) n q refl f e
 targets (Activity.Draw Draw.Version) s b l n q f e = of_none name.Clock n q refl f e
 targets (Activity.Draw Draw.Settle) s b l n q f e = of_none (name.Scan s) n q refl f e
+targets (Activity.Draw Draw.Pin) s b l n q f e = of_none (name.Pin s) n q refl f e
 targets (Activity.Walk Walk.Next) s true l n q f e = of_none (name.Scan s) n q refl f e
 targets (Activity.Walk Walk.Next) s false l n q f e = let x : None ≡ Some n = e in absurd (cc)
 targets (Activity.EndScan answer) s b l n q f e = of_none (name.Scan s) n q refl f e
+targets Activity.ClearPin s b l n q f e = of_none (name.Pin s) n q refl f e
 targets (Activity.Leave answer) s b l n q f e = of_none (name.Pass s) n q refl f e
 targets Activity.Retry s b l n q f e = of_none (name.Pass s) n q refl f e
 targets (Activity.Rebalance (Rebalance.Freeze (Freeze.Draw i))) s b l n q f e = of_none name.Clock n q refl f e

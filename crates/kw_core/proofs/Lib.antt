@@ -11,6 +11,7 @@ pub mod Runs
 pub mod NextBuilt
 pub mod Building
 pub mod Grouping
+pub mod Pinning
 pub mod BuiltNext
 pub mod Arrows
 pub mod Happens

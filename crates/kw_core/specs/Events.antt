@@ -5,7 +5,7 @@
 use Rattle.std.specs.Prelude.{ℕ, ◌==◌, Bool, true, false, not, ◌&&◌, nat_lt, if◌then◌else◌, Option, Some, None, List, [], ◌∷◌, slice_get, get_or}
 use Rattle.kw_words.specs.declared.sizes.TheConstants.{KEY_END, VALUE_END}
 use Rattle.kw_model.specs.declared.call.Call.{Call}
-use Rattle.kw_model.specs.declared.call.Call.TheVariants.{Put, Del, Get, Scan}
+use Rattle.kw_model.specs.declared.call.Call.TheVariants.{Put, Del, Get, Scan, Pin, ScanAt, Unpin}
 use Rattle.kw_world.specs.declared.event.Choice.{Choice}
 use Rattle.kw_world.specs.declared.event.Choice.TheVariants.{Begin}
 use Rattle.kw_world.specs.declared.activity.Activity.{Activity}
@@ -31,12 +31,15 @@ walked z w (e ∷ es) = walked z (step z w e).world es
 unfoldable pub world : Sizes → Opening → List Event → WorldView
 world z o es = walked z (opened z o) es
 
--- the numbers of a call are in range
+-- the numbers of a call are in range; no seat pins yet
 abbrev pub is_call_in_range : Call → Bool
 is_call_in_range (Put key value) = nat_lt key KEY_END && nat_lt value VALUE_END
 is_call_in_range (Del key) = nat_lt key KEY_END
 is_call_in_range (Get key) = nat_lt key KEY_END
 is_call_in_range (Scan from upto) = nat_lt from KEY_END && nat_lt upto KEY_END
+is_call_in_range Pin = false
+is_call_in_range (ScanAt from upto) = false
+is_call_in_range Unpin = false
 
 -- a call that a seat begins at this activity is in range; an idle seat alone begins one
 abbrev pub may_begin : Activity → Choice → Bool

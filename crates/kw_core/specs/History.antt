@@ -1,9 +1,9 @@
 -- What a list of events did: its log, the puts and deletes that were given a cell, and the calls.
 use Rattle.std.specs.Prelude.{ℕ, ◌≡◌, false, Some, None, List, slice_get, get_or}
 pub use Rattle.kw_model.specs.declared.call.Call.{Call}
-pub use Rattle.kw_model.specs.declared.call.Call.TheVariants.{Put, Del, Get, Scan}
+pub use Rattle.kw_model.specs.declared.call.Call.TheVariants.{Put, Del, Get, Scan, Pin, ScanAt, Unpin}
 pub use Rattle.kw_model.specs.declared.call.Reply.{Reply}
-pub use Rattle.kw_model.specs.declared.call.Reply.TheVariants.{Done, Value, Absent, Pairs, NoRows, Spent, Stopped}
+pub use Rattle.kw_model.specs.declared.call.Reply.TheVariants.{Done, Value, Absent, Pairs, NoRows, Spent, Stopped, Held, NotPinned}
 pub use Rattle.kw_words.specs.declared.kind.Kind.{Kind}
 pub use Rattle.kw_words.specs.declared.kind.Kind.TheVariants.{LoadEpoch, LoadClock, Draw, HelpDraw}
 pub use Rattle.kw_core.specs.declared.history.Logged.{Logged}

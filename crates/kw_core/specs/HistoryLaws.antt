@@ -1,7 +1,7 @@
 -- The laws of a history: what every list of events keeps, in words of its record alone.
 use Rattle.kw_model.specs.Map.{value_of}
 use Rattle.std.specs.Prelude.{ℕ, suc, ◌≡◌, ◌<◌, ◌≤◌, ◌⊎◌, true, false, Option, Some, None, List, [], ◌∷◌, length}
-use Rattle.kw_core.specs.History.{History, Call, Put, Del, Get, Scan, Reply, Done, Value, Absent, Pairs, NoRows, Spent, Stopped, Kind, LoadEpoch, LoadClock, Draw, HelpDraw, attempt, called, Stands, End, Drawn}
+use Rattle.kw_core.specs.History.{History, Call, Put, Del, Get, Scan, Pin, ScanAt, Unpin, Reply, Done, Value, Absent, Pairs, NoRows, Spent, Stopped, Kind, LoadEpoch, LoadClock, Draw, HelpDraw, attempt, called, Stands, End, Drawn}
 
 -- the attempt is a stamped put or delete
 abbrev pub IsPut : History → ℕ → Type 0
@@ -32,6 +32,9 @@ Makes (Put k v) key value = (key ≡ k) × (value ≡ Some v)
 Makes (Del k) key value = (key ≡ k) × (value ≡ None)
 Makes (Get k) key value = ⊥
 Makes (Scan from to) key value = ⊥
+Makes Pin key value = ⊥
+Makes (ScanAt from to) key value = ⊥
+Makes Unpin key value = ⊥
 
 -- the reply fits the call, and a put or delete is done exactly where it has a put
 abbrev pub Answers : Call → Option ℕ → Reply → Type 0

@@ -21,9 +21,9 @@ use Rattle.kw_cells.specs.declared.cell.Cell as kw_cell
 use Rattle.kw_cells.specs.Cells.{best_of}
 use Rattle.kw_cells.specs.InOrder.{index_in}
 use Rattle.kw_model.specs.declared.call.Call.{Call}
-use Rattle.kw_model.specs.declared.call.Call.TheVariants.{Put, Del, Get, Scan}
+use Rattle.kw_model.specs.declared.call.Call.TheVariants.{Put, Del, Get, Scan, Pin, ScanAt, Unpin}
 use Rattle.kw_world.specs.declared.answer.Answer.{Answer}
-use Rattle.kw_world.specs.declared.answer.Answer.TheVariants.{Done, Value, Absent, Pairs, NoRows, Spent, Stopped}
+use Rattle.kw_world.specs.declared.answer.Answer.TheVariants.{Done, Value, Absent, Pairs, NoRows, Spent, Stopped, Held, NotPinned}
 use Rattle.kw_world.specs.Answers.{reply_of}
 use Rattle.kw_world.specs.declared.activity.Activity.{Activity}
 use Rattle.kw_world.specs.declared.activity.draw.Draw.TheVariants as Draw
@@ -140,6 +140,9 @@ answering (Some (Put key value)) l g = None
 answering (Some (Del key)) l g = None
 answering (Some (Get key)) l g = best_id l.gathered g.ids key NEWEST
 answering (Some (Scan from upto)) l g = None
+answering (Some Pin) l g = None
+answering (Some (ScanAt from upto)) l g = None
+answering (Some Unpin) l g = None
 answering None l g = None
 
 -- where a scan that ends with pairs drew its version
@@ -151,6 +154,8 @@ drawing Absent l g = None
 drawing NoRows l g = None
 drawing Spent l g = None
 drawing Stopped l g = None
+drawing Held l g = None
+drawing NotPinned l g = None
 
 -- what the event of an activity adds, where the seat s with this choice, local and log found this
 -- word

@@ -4,7 +4,7 @@
 -- new one gets its stage there. A finer family names its activities.
 use Rattle.std.specs.Prelude.{◌≤◌, Bool, true, false, Option, Some, None}
 use Rattle.kw_model.specs.declared.call.Call.{Call}
-use Rattle.kw_model.specs.declared.call.Call.TheVariants.{Put, Del, Get, Scan}
+use Rattle.kw_model.specs.declared.call.Call.TheVariants.{Put, Del, Get, Scan, Pin, ScanAt, Unpin}
 use Rattle.kw_world.specs.declared.answer.Answer.TheVariants.{Done, Pairs}
 use Rattle.kw_world.specs.declared.activity.Activity.{Activity}
 use Rattle.kw_core.specs.declared.stage.Stage.{Stage}
@@ -24,6 +24,9 @@ is_put (Some (Put key value)) = true
 is_put (Some (Del key)) = true
 is_put (Some (Get key)) = false
 is_put (Some (Scan from upto)) = false
+is_put (Some Pin) = false
+is_put (Some (ScanAt from upto)) = false
+is_put (Some Unpin) = false
 is_put None = false
 
 -- The stages of a call.
@@ -37,6 +40,7 @@ stage_of (Activity.Walk _) = Walking
 stage_of (Activity.Look _) = Looking
 stage_of (Activity.Read _) = Taking
 stage_of (Activity.EndScan answer) = Clearing
+stage_of Activity.ClearPin = Clearing
 stage_of (Activity.Put _) = Putting
 stage_of (Activity.Insert _) = Putting
 stage_of (Activity.Leave answer) = Leaving

@@ -58,7 +58,7 @@ impl Stage {
             Activity::Walk(_) => Stage::Walking,
             Activity::Look(_) => Stage::Looking,
             Activity::Read(_) => Stage::Taking,
-            Activity::EndScan(_) => Stage::Clearing,
+            Activity::EndScan(_) | Activity::ClearPin => Stage::Clearing,
             Activity::Put(_) | Activity::Insert(_) => Stage::Putting,
             Activity::Rebalance(_) => Stage::Rebalancing,
             Activity::Retry => Stage::Retrying,

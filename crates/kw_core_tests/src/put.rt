@@ -1,5 +1,5 @@
-//! One event of each sort on a call's own row: a call begins, an idle seat is skipped, and a scan
-//! ends with the pairs of a row.
+//! One event of each sort on a call's own row: a call begins, an idle seat is skipped, a scan ends
+//! with the pairs of a row, and a pin is stored, kept between calls and taken back.
 ghost use Rattle.std.specs.Prelude.{◌≡◌, ◌<◌, length, IfOk, Some};
 ghost use Rattle.kw_model.specs.declared.call.Call.{Call};
 ghost use Rattle.kw_world.specs.Local.{resting};
@@ -10,10 +10,14 @@ ghost use Rattle.kw_world.specs.declared.part.Part.{Part};
 
 use kw_model::call::Call;
 use kw_model::memory::Memory;
+use kw_step_put::operation::put_operation;
 use kw_step_put::resume::put_resume;
 use kw_step_put::step::put_step;
+use kw_words::kind::Kind;
+use kw_words::layout::Name;
 use kw_words::plain::pack_value;
 use kw_world::activity::Activity;
+use kw_world::activity::draw::Draw;
 use kw_world::activity::enter::Enter;
 use kw_world::activity::insert::Insert;
 use kw_world::activity::put::Put;
@@ -23,6 +27,7 @@ use kw_world::activity::rebalance::engage::Engage;
 use kw_world::answer::Answer;
 use kw_world::event::{Choice, Event, StepDone};
 use kw_world::local::Local;
+use kw_world::operation::{Action, Operation};
 use kw_world::world::World;
 use std::alloc::Global;
 use std::test::Fail;
@@ -97,6 +102,42 @@ fn ends(alloc: Global, rows: u32, choice: Choice) -> Result<(Activity, bool), Me
     let mut local = at_its_end(alloc);
     put_resume(&mut local, rows, choice, 0)?;
     Ok((local.activity, local.tidies))
+}
+
+// A pin has got the version 7, and is to be stored next.
+fn at_a_pin(alloc: Global) -> Local
+    ensures ranges { IsLocal product result }
+    ensures room { HasRoom product result }
+    ensures at { result.activity ≡ Activity.Draw Draw.Pin }
+{
+    let mut local = Local::idle(alloc);
+    local.activity = Activity::Draw(Draw::Pin);
+    local.version = 7;
+    local
+}
+
+// A seat that has pinned the map at the version 7 takes that back next.
+fn at_an_unpin(alloc: Global) -> Local
+    ensures ranges { IsLocal product result }
+    ensures room { HasRoom product result }
+    ensures at { result.activity ≡ Activity.ClearPin }
+{
+    let mut local = Local::idle(alloc);
+    local.activity = Activity::ClearPin;
+    local.pin = Some(7);
+    local
+}
+
+// A get of such a seat is to leave next.
+fn at_a_leave(alloc: Global) -> Local
+    ensures ranges { IsLocal product result }
+    ensures room { HasRoom product result }
+    ensures at { result.activity ≡ Activity.Leave Answer.Done }
+{
+    let mut local = Local::idle(alloc);
+    local.activity = Activity::Leave(Answer::Done);
+    local.pin = Some(7);
+    local
 }
 
 // Seat 1 makes an event on its row, with this choice.
@@ -190,5 +231,49 @@ fn a_done_put_tidies_its_own_row_in_a_table_of_few_enough(rt: HostRuntime) -> Re
             leaves
         )
     );
+    Ok(())
+}
+
+// the version 7 is pinned by the word 2 + 4 * 7
+#[test]
+fn a_pin_is_held_once_it_is_stored(rt: HostRuntime) -> Result<(), Fail> {
+    let mut local = at_a_pin(rt.alloc());
+    let stores = Operation {
+        kind: Kind::StorePin,
+        name: Name::Pin(1),
+        action: Action::Store(30),
+    };
+    assert_eq!(rt; put_operation(1, &local, Choice::Go), stores);
+    let done = put_resume(&mut local, 3, Choice::Go, 0)?;
+    assert_eq!(rt;
+        (done, local.activity, local.pin),
+        (StepDone::Moved, Activity::EndScan(Answer::Done), Some(7))
+    );
+    Ok(())
+}
+
+// a seat that pins nothing has the word 0
+#[test]
+fn no_pin_is_held_once_it_is_cleared(rt: HostRuntime) -> Result<(), Fail> {
+    let mut local = at_an_unpin(rt.alloc());
+    let clears = Operation {
+        kind: Kind::ClearPin,
+        name: Name::Pin(1),
+        action: Action::Store(0),
+    };
+    assert_eq!(rt; put_operation(1, &local, Choice::Go), clears);
+    let done = put_resume(&mut local, 3, Choice::Go, 0)?;
+    assert_eq!(rt;
+        (done, local.activity, local.pin),
+        (StepDone::Moved, Activity::Leave(Answer::Done), None)
+    );
+    Ok(())
+}
+
+#[test]
+fn a_pin_is_kept_between_calls(rt: HostRuntime) -> Result<(), Fail> {
+    let mut local = at_a_leave(rt.alloc());
+    put_resume(&mut local, 3, Choice::Go, 0)?;
+    assert_eq!(rt; (local.activity, local.pin), (Activity::Idle, Some(7)));
     Ok(())
 }

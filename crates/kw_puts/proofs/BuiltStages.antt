@@ -1,5 +1,6 @@
 -- Where a seat is not that rebalances, or that builds new rows or has just done so: it is on no way
--- to a row, reads none, puts nothing, and is no scan that waits, settles or has its version.
+-- to a row, reads none, puts nothing, and is no scan that waits, settles or has its version. And
+-- where one goes on to that asks of a pin, as no seat does yet.
 use Rattle.std.proofs.Common.{ℕ, ◌≡◌, ◌≢◌, Option, Some, None}
 use Rattle.kw_words.specs.declared.layout.Name.TheVariants as name
 use Rattle.kw_world.specs.declared.activity.Activity.{Activity}
@@ -10,24 +11,47 @@ use Rattle.kw_world.specs.declared.activity.rebalance.freeze.Freeze.{Freeze}
 use Rattle.kw_world.specs.declared.activity.rebalance.freeze.Freeze.TheVariants as Freeze
 use Rattle.kw_world.specs.declared.activity.rebalance.gather.Gather.{Gather}
 use Rattle.kw_world.specs.declared.activity.rebalance.Rebalance.TheVariants as Rebalance
-use Rattle.kw_world.specs.declared.answer.Answer.TheVariants.{Pairs}
+use Rattle.kw_world.specs.declared.activity.walk.Walk.TheVariants as Walk
+use Rattle.kw_world.specs.declared.answer.Answer.TheVariants.{Held, NotPinned, Pairs}
 use Rattle.kw_world.specs.declared.event.Choice.{Choice}
 use Rattle.kw_world.specs.declared.local.Local.{Local}
 use Rattle.kw_world.specs.ReplaceTransitions.{replaced_link}
 use Rattle.kw_world.specs.Sizes.{Sizes}
 use Rattle.kw_core.specs.Stages.{IsAtRead, IsBalancing, IsCovering, IsPutting, IsReading, IsSettled, IsSettling, IsUnderway, IsWaiting, HasDrawn, HasSeenPending}
 use Rattle.kw_core.specs.Words.{Words}
-use Rattle.kw_core.proofs.Arrows.{Arrow, builds, freezes_last, keeps_no_more, remembers_last, sees_frozen_last, takes_no_more}
+use Rattle.kw_core.proofs.Arrows.{Arrow, builds, freezes_last, keeps_no_more, looks_at_pin, remembers_last, sees_frozen_last, takes_no_more}
 use Rattle.kw_core.proofs.Building.{IsBuilding}
 use Rattle.kw_core.proofs.BuiltNext.{IsAfterBuilding}
 use Rattle.kw_core.proofs.Grouping.{NextCounted, claims_row, frozen_goes, gathered_goes, goes_alone}
+use Rattle.kw_core.proofs.Pinning.{NextOfPin, NextPinLook, is_held, pins, reads_at_pin, reads_no_key, reads_no_pin, sees_no_pin, sees_no_pin_last, sees_pin, sees_pin_last, unpins, unpins_none}
+use Rattle.kw_shape.proofs.AfterBuilding.{look_goes}
 use Rattle.kw_puts.specs.Positions.{HasLoaded, HelpsScan}
+
+-- A seat that asks of a pin, or looks at one.
+
+-- what holds wherever it goes on to after its question
+pub of_pin_is : {l k : Local} (P : Activity → Type 0) → P (Activity.Draw Draw.Clock) → P (Activity.Leave Held) → P (Activity.Leave NotPinned) → P (Activity.Leave Pairs) → P (Activity.Walk Walk.Start) → P Activity.ClearPin → NextOfPin l k → P k.activity
+of_pin_is P draws held none pairs starts clears (pins c e) = draws
+of_pin_is P draws held none pairs starts clears (is_held version c e) = held
+of_pin_is P draws held none pairs starts clears (reads_no_pin from upto c e) = none
+of_pin_is P draws held none pairs starts clears (reads_no_key from upto version c e f) = pairs
+of_pin_is P draws held none pairs starts clears (reads_at_pin from upto version c e f) = starts
+of_pin_is P draws held none pairs starts clears (unpins version c e) = clears
+of_pin_is P draws held none pairs starts clears (unpins_none c e) = none
+
+-- and after a look
+pub pin_look_is : {z : Sizes} {m w : ℕ} {l k : Local} (P : Activity → Type 0) → ((j : ℕ) → P (Activity.Rebalance (Rebalance.Freeze (Freeze.Pin j)))) → P (Activity.Rebalance (Rebalance.Gather Gather.Link)) → NextPinLook z m w l k → P k.activity
+pin_look_is P looks takes (sees_pin version e o) = looks _
+pin_look_is P looks takes (sees_pin_last version e o) = takes
+pin_look_is P looks takes (sees_no_pin e o) = looks _
+pin_look_is P looks takes (sees_no_pin_last e o) = takes
 
 -- A seat that goes through the rows of its group.
 
 -- one that freezes them, or gathers their cells, rebalances on
 pub freezing_goes : (z : Sizes) (v : Words) (s : ℕ) (choice : Choice) (l : Local) (f : Freeze) (k : Local) → Arrow z v s choice l (Activity.Rebalance (Rebalance.Freeze f)) k → IsBalancing k.activity
 freezing_goes z v s choice l f k (builds c next y t) = absurd y
+freezing_goes z v s choice l f k (looks_at_pin j next n) = (look_goes z _ _ _ next n).next
 freezing_goes z v s choice l f k (remembers_last j c version next e o n) = (frozen_goes _ next n).next
 freezing_goes z v s choice l f k (sees_frozen_last j next e o n) = (frozen_goes _ next n).next
 freezing_goes z v s choice l f k (freezes_last j next e o n) = (frozen_goes _ next n).next

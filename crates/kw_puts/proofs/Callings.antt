@@ -4,7 +4,7 @@ use Rattle.std.proofs.Common.{ℕ, ◌≡◌, ◌⊎◌, inl, inr, ◌+◌, ◌<
 use Rattle.std.proofs.lemmas.Option.{same_Some}
 use Rattle.kw_words.specs.declared.layout.Name.TheVariants as name
 use Rattle.kw_model.specs.declared.call.Call.{Call}
-use Rattle.kw_model.specs.declared.call.Call.TheVariants.{Put, Del, Get, Scan}
+use Rattle.kw_model.specs.declared.call.Call.TheVariants.{Put, Del, Get, Scan, Pin, ScanAt, Unpin}
 use Rattle.kw_world.specs.declared.activity.Activity.{Activity}
 use Rattle.kw_world.specs.declared.activity.draw.Draw.TheVariants as Draw
 use Rattle.kw_world.specs.declared.activity.enter.Enter.TheVariants as Enter
@@ -87,6 +87,9 @@ read_makes_none (Put k v) key value r m = r
 read_makes_none (Del k) key value r m = r
 read_makes_none (Get k) key value r m = m
 read_makes_none (Scan from upto) key value r m = m
+read_makes_none Pin key value r m = r
+read_makes_none (ScanAt from upto) key value r m = r
+read_makes_none Unpin key value r m = r
 
 -- What an event leaves of its seat's call.
 

@@ -40,7 +40,7 @@ use Rattle.kw_core.specs.Stages.{IsAtRow}
 use Rattle.kw_core.specs.Step.{Step}
 use Rattle.kw_core.specs.Words.{Words}
 use Rattle.kw_core.proofs.Attempts.{in_range}
-use Rattle.kw_core.proofs.Arrows.{builds, Arrow, NextLook, looks, lists, NextLeftOver, goes_to_left_over, answers, ends_scan, scans_on, sees_stamped, sees_neither, is_gone_by, helps, finds_stamped, finds_other, list_ends, key_above, left_over_gone_by, gathers_left_over, first_ends, remembers_last, sees_frozen_last, freezes_last, takes_no_more, keeps_no_more, decides, marks_led}
+use Rattle.kw_core.proofs.Arrows.{builds, Arrow, NextLook, looks, lists, NextLeftOver, goes_to_left_over, answers, ends_scan, scans_on, sees_stamped, sees_neither, is_gone_by, helps, finds_stamped, finds_other, list_ends, key_above, left_over_gone_by, gathers_left_over, first_ends, remembers_last, sees_frozen_last, freezes_last, takes_no_more, keeps_no_more, decides, marks_led, asks_of_pin, looks_at_pin}
 use Rattle.kw_core.proofs.Building.{Building, first_is_free, first_is_taken, sought_is_free, sought_is_taken, first_is_retired, sought_is_retired, pass_is_old, pass_is_young, frees_row, takes_row, loses_row, gives_one_back, gives_last_back, writes_link, begins_before, guesses_before, guess_before_fails, before_serves, before_is_above, takes_head_before, leads_to_full, leads_on_marked, leads_to_other, leads_nowhere, walks_before, walks_past, replaces_row, is_marked_before, is_replaced, makes_normal, makes_last_normal, draws_number, retires_ahead, retires_row, retires_and_leaves}
 use Rattle.kw_core.proofs.Building as built
 use Rattle.kw_core.proofs.Copies.{ChangesListed, ChangesOrigin, copy_listed, listed_stays, none_listed_yet, origin_copied, origin_stays, rest_unlisted}
@@ -58,6 +58,8 @@ use Rattle.kw_puts.specs.Builds.{Builds, Copied, HasPlanned, IsCellOf, IsGathere
 use Rattle.kw_puts.proofs.BuiltLists.{all_part}
 use Rattle.kw_puts.proofs.Gathering.{AreOfGroup, kept_of_group, planned_frozen, rows_linked, source_same}
 use Rattle.kw_puts.proofs.GroupCells.{row_of_group, source_like}
+use Rattle.kw_puts.proofs.BuiltStages.{of_pin_is, pin_look_is}
+use Rattle.kw_core.proofs.Pinning.{NextOfPin, NextPinLook}
 
 -- a cell is that of its attempt for ever
 pub cell_lasts : (h h' : History) (e : Logged) → Step h h' e → (c : Cell) (p : ℕ) → IsCellOf h c p → IsCellOf h' c p
@@ -498,9 +500,18 @@ copies_gathered : (z : Sizes) (h : History) (o : Origins) (f : Listed) (l n : Lo
 copies_gathered z h o f l n (gathers_ahead q e) = copies_nowhere z h o f _ _ (λ i w. w) (λ w. w)
 copies_gathered z h o f l n (gathered_all e) = copies_nowhere z h o f _ _ (λ i w. w) (λ w. w)
 
+-- nor does the question of a call of a pin, or a look at a pin
+copies_of_pin : (z : Sizes) (h : History) (o : Origins) (f : Listed) (l n : Local) → NextOfPin l n → Copying z h o f n.activity n
+copies_of_pin z h o f l n x = of_pin_is (λ b. Copying z h o f b n) (copies_nowhere z h o f _ _ (λ i w. w) (λ w. w)) (copies_nowhere z h o f _ _ (λ i w. w) (λ w. w)) (copies_nowhere z h o f _ _ (λ i w. w) (λ w. w)) (copies_nowhere z h o f _ _ (λ i w. w) (λ w. w)) (copies_nowhere z h o f _ _ (λ i w. w) (λ w. w)) (copies_nowhere z h o f _ _ (λ i w. w) (λ w. w)) x
+
+copies_pin_look : (z : Sizes) (h : History) (o : Origins) (f : Listed) (m w : ℕ) (l n : Local) → NextPinLook z m w l n → Copying z h o f n.activity n
+copies_pin_look z h o f m w l n x = pin_look_is (λ b. Copying z h o f b n) (λ j. copies_nowhere z h o f _ _ (λ i w. w) (λ w. w)) (copies_nowhere z h o f _ _ (λ i w. w) (λ w. w)) x
+
 -- nor does any other event that neither takes nor writes nor links rows
 copies_by : (z : Sizes) (v : Words) (s : ℕ) (choice : Choice) (l : Local) (a : Activity) (l' : Local) (h : History) (o : Origins) (f : Listed) → Arrow z v s choice l a l' → (Building z v choice l a l' → Copying z h o f l'.activity l') → Copying z h o f l'.activity l'
 copies_by z v s choice l a l' h o f (builds b next y t) built = built t
+copies_by z v s choice l a l' h o f (asks_of_pin next p n) built = copies_of_pin z h o f _ next n
+copies_by z v s choice l a l' h o f (looks_at_pin j next n) built = copies_pin_look z h o f _ _ _ next n
 copies_by z v s choice l a l' h o f (sees_stamped j c version next e n) built = copies_look z h o f _ next _ n
 copies_by z v s choice l a l' h o f (sees_neither j next e n) built = copies_look z h o f _ next _ n
 copies_by z v s choice l a l' h o f (is_gone_by next e n) built = copies_look z h o f _ next _ n

@@ -37,19 +37,21 @@ use Rattle.kw_core.proofs.Happens.{Happens, knows_next, knows_other, not_exchang
 use Rattle.kw_core.proofs.Building.{IsBuilding}
 use Rattle.kw_core.proofs.Grouping.{goes_alone, claims_row, NextCounted, NextFrozen, NextGathered, freezes_ahead, froze_all, gathered_all, gathers_ahead}
 use Rattle.kw_core.proofs.BuiltNext.{IsAfterBuilding, built_next}
-use Rattle.kw_core.proofs.Arrows.{builds, Arrow, NextLook, looks, lists, NextLeftOver, goes_to_left_over, answers, ends_scan, scans_on, announces_full, stamps_full, IsNotOwn, tidies, decides, marks_led}
+use Rattle.kw_core.proofs.Arrows.{builds, Arrow, NextLook, looks, lists, NextLeftOver, goes_to_left_over, answers, ends_scan, scans_on, announces_full, stamps_full, IsNotOwn, tidies, decides, marks_led, asks_of_pin, looks_at_pin}
 use Rattle.kw_core.proofs.Arrows.{sees_pending, sees_stamped, sees_neither, is_wanted, is_gone_by, loads_to_help, helps, finds_stamped, finds_other, list_ends, key_above, left_over_gone_by, gathers_left_over, remembers_last, sees_frozen_last, freezes_last, takes_no_more, keeps_no_more, announces, loads_clock, stamps, is_stamped, stores_version, reaches_cell, sees_none, key_before, key_same, key_after, version_before, version_after, stores_after, inserts, loses, clears, first_ends, first_reaches, first_sees_none, inserts_at_first, inserts_behind}
 use Rattle.kw_core.proofs.FreezeFrame.{entry_frozen, entry_left}
 use Rattle.kw_core.proofs.InfantFrames.{ChangesEntry, entry_stays, entry_written}
 use Rattle.kw_rows.specs.Rows.{WasLinked}
 use Rattle.kw_shape.proofs.LinkedRows.{linked_frozen_entry}
 use Rattle.kw_puts.proofs.GroupRows.{frozen_linked}
-use Rattle.kw_puts.proofs.BuiltStages.{balancing_sees, counted_not, freezing_goes, gathering_goes}
+use Rattle.kw_puts.proofs.BuiltStages.{balancing_sees, counted_not, freezing_goes, gathering_goes, of_pin_is, pin_look_is}
 use Rattle.kw_puts.proofs.Owners.{IsPendingOf, entry_owner, own_origin, published_puts, puts_linked, row_linked, was_or_not}
 use Rattle.kw_puts.proofs.Rely.{SameAttempt, GoesOn}
 use Rattle.kw_puts.proofs.RelyProof.{goes_on_by}
 use Rattle.kw_puts.proofs.DoneAttempts.{building_puts}
 use Rattle.kw_puts.proofs.OwnAttempts.{acting_own, entry_stamped, lost_frozen}
+use Rattle.kw_core.proofs.Pinning.{NextOfPin, NextPinLook}
+use Rattle.kw_shape.proofs.AfterBuilding.{no_call_of_pin}
 
 -- The entries.
 
@@ -252,9 +254,18 @@ counted_tries : (count : ℕ) (l n : Local) → NextCounted count l n → IsToFr
 counted_tries count l n (claims_row q two e) = tt
 counted_tries count l n (goes_alone d) = tt
 
+-- nor has one that asks of a pin, or looks at pins
+of_pin_tries : (l n : Local) → NextOfPin l n → IsToFreeze n.activity n
+of_pin_tries l n x = of_pin_is (λ b. IsToFreeze b n) tt tt tt tt tt tt x
+
+pin_look_tries : (z : Sizes) (m w : ℕ) (l n : Local) → NextPinLook z m w l n → IsToFreeze n.activity n
+pin_look_tries z m w l n x = pin_look_is (λ b. IsToFreeze b n) (λ j. tt) tt x
+
 -- the acting seat is to freeze an entry only where it found it idle or pending
 pub tries_own : (z : Sizes) (r r' : Run) (s : ℕ) (choice : Choice) (l : Local) (a : Activity) (l' : Local) → Arrow z (word z r.world) s choice l a l' → IsToFreeze l'.activity l'
 tries_own z r r' s choice l a l' (builds b next y t) = built_tries next.activity next (built_next z (word z r.world) choice l b next t)
+tries_own z r r' s choice l a l' (asks_of_pin next o n) = of_pin_tries _ next n
+tries_own z r r' s choice l a l' (looks_at_pin j next n) = pin_look_tries z _ _ _ next n
 tries_own z r r' s choice l a l' (sees_stamped j c version next e n) = look_tries z _ next _ n
 tries_own z r r' s choice l a l' (sees_neither j next e n) = look_tries z _ next _ n
 tries_own z r r' s choice l a l' (is_gone_by next e n) = look_tries z _ next _ n
@@ -395,6 +406,7 @@ loaded_to_help z r r' s choice l h i st =
 -- the attempt that the acting seat is to help
 pub helps_own : (z : Sizes) (r r' : Run) (s : ℕ) (choice : Choice) (l : Local) (a : Activity) (l' : Local) → Arrow z (word z r.world) s choice l a l' → Happens z r r' s choice l l' a → Below z r → Step r.history r'.history (log_entry z r a s choice l) → HasSeenPending l'.activity → Helps r'.history r'.origin l'.activity l' (r'.seats s)
 helps_own z r r' s choice l a l' (builds b next y t) h i st p = built_sees next.activity (built_next z (word z r.world) choice l b next t) p
+helps_own z r r' s choice l a l' (asks_of_pin next o n) h i st p = no_call_of_pin _ h i.shape o
 helps_own z r r' s choice l a l' (sees_pending j c e) h i st p = pending_seen z r r' s choice l j c (sym (pend_word_of _ _ e)) h i st
 helps_own z r r' s choice l a l' (is_wanted e) h i st p = key_wanted z r r' s choice l e h i st
 helps_own z r r' s choice l a l' loads_to_help h i st p = loaded_to_help z r r' s choice l h i st

@@ -30,7 +30,7 @@ use Rattle.kw_core.specs.Run.{Run}
 use Rattle.kw_core.specs.Stages.{IsFresh}
 use Rattle.kw_core.specs.Words.{Words}
 use Rattle.kw_core.proofs.Building.{Building, makes_normal, makes_last_normal, draws_number, retires_ahead, retires_row, retires_and_leaves}
-use Rattle.kw_core.proofs.Arrows.{builds, Arrow, NextLook, looks, lists, NextLeftOver, goes_to_left_over, answers, ends_scan, scans_on, decides, marks_led}
+use Rattle.kw_core.proofs.Arrows.{builds, Arrow, NextLook, looks, lists, NextLeftOver, goes_to_left_over, answers, ends_scan, scans_on, decides, marks_led, asks_of_pin, looks_at_pin}
 use Rattle.kw_core.proofs.Arrows.{sees_stamped, sees_neither, is_gone_by, helps, finds_stamped, finds_other, list_ends, key_above, left_over_gone_by, gathers_left_over, takes_cell, stores_key, stores_value}
 use Rattle.kw_core.proofs.Arrows.{freezes_count, sees_idle, sees_unstamped, remembers, remembers_last, sees_frozen, sees_frozen_last, freezes_entry, freezes_last, looks_again, sees_quiet, sees_quiet_last, helps_scan, sees_drawn, sees_drawn_last, draws_for, settles_scan, settles_last, finds_drawn, finds_drawn_last, finds_no_scan, finds_no_scan_last}
 use Rattle.kw_core.proofs.Arrows.{take_leads, takes_left, takes_no_more, takes_key, takes_version, keeps_taken, takes_left_key, keeps_left, keeps_no_more, first_ends, marks_led, decides, next_leads, marks_next}
@@ -40,13 +40,13 @@ use Rattle.kw_core.proofs.Grouping.{goes_alone, claims_row, NextCounted, NextFro
 use Rattle.kw_rows.specs.Rows.{WasLinked}
 use Rattle.kw_shape.specs.Hands.{Hand, HasHand}
 use Rattle.kw_shape.specs.Shape.{Shape}
-use Rattle.kw_shape.proofs.AfterBuilding.{frozen_builds}
+use Rattle.kw_shape.proofs.AfterBuilding.{frozen_builds, no_call_of_pin, kind_at}
 use Rattle.kw_shape.proofs.LinkedRows.{linked_entry, was_below}
 use Rattle.kw_core.proofs.Happens.{Happens, knows_next, knows_other, not_exchanged}
 use Rattle.kw_shape.specs.RowsIn.{has_frozen}
 use Rattle.kw_puts.specs.Freezes.{IsFrozen, IsToFreeze, IsUnsettled, HasFrozen, HasPassed, IsAllFrozen, IsBehind, IsOfGroup, IsSettled, settled_frozen, settled_stamped, settled_idle, Freezes}
 use Rattle.kw_puts.specs.Below.{Below}
-use Rattle.kw_puts.proofs.BuiltStages.{balancing_puts, counted_not, freezing_goes, gathering_goes}
+use Rattle.kw_puts.proofs.BuiltStages.{balancing_puts, counted_not, freezing_goes, gathering_goes, of_pin_is}
 use Rattle.kw_puts.proofs.Owners.{true_false}
 use Rattle.kw_puts.proofs.RelyEntry.{fresh_puts}
 use Rattle.kw_puts.proofs.NewAttempts.{stays_frozen}
@@ -102,6 +102,7 @@ stamped_stays z r r' s choice l a l' h i q j c n b o e = inl (linked_entry a h i
 -- a seat that has a cell which is not announced had it before its event, or was given it
 fresh_from : (z : Sizes) (v : Words) (s : ℕ) (choice : Choice) (l : Local) (a : Activity) (l' : Local) → Arrow z v s choice l a l' → IsFresh l'.activity → (l'.row ≡ l.row) × (IsFresh a ⊎ (a ≡ Activity.Put Put.Add) × (has_room z (count_of (v (name.Count l.row))) ≡ true))
 fresh_from z v s choice l a l' (builds b next y t) p = built_puts next.activity (built_next z v choice l b next t) (fresh_puts next.activity p)
+fresh_from z v s choice l a l' (asks_of_pin next o n) p = absurd (of_pin_is (λ b. IsFresh b → ⊥) (λ y. y) (λ y. y) (λ y. y) (λ y. y) (λ y. y) (λ y. y) n p)
 fresh_from z v s choice l a l' (takes_cell m) p = (refl, inr (refl, m))
 fresh_from z v s choice l a l' stores_key p = (refl, inl tt)
 fresh_from z v s choice l a l' stores_value p = (refl, inl tt)
@@ -338,6 +339,8 @@ freezes_own z r r' s choice l a l' (builds b next y t) h i after = record { coun
         let was = built_frozen z (word z r.world) choice l b next t all.0 in
         let group : (y : ℕ) → HasFrozen next.activity next y → IsOfGroup l y = λ y f. of_group_before l next y keeps.row keeps.second (after_all next.activity next y n f).1 in
         goes_on z r r' s choice l b next h i next.activity next (λ y f. all_frozen b l y was (group y f)) (λ y j f. all_passed b l y j was (group y (passed_frozen next.activity next y j f)))
+freezes_own z r r' s choice l a l' (asks_of_pin next o n) h i after = no_call_of_pin _ h i.shape o
+freezes_own z r r' s choice l a l' (looks_at_pin j next n) h i after = absurd (kind_at _ h i.shape)
 freezes_own z r r' s choice l a l' freezes_count h i after = record { count = count; settled = settled }
   where
     count : (q : ℕ) → IsBehind l q ⊎ (q ≡ l.rebalance.hand) → IsFrozen (word z r'.world) q

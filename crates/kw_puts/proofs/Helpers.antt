@@ -38,8 +38,8 @@ use Rattle.kw_core.specs.Step.{Step}
 use Rattle.kw_core.specs.Words.{Words}
 use Rattle.kw_core.proofs.BuiltNext.{built_next}
 use Rattle.kw_core.proofs.Grouping.{NextFrozen, NextGathered, freezes_ahead, froze_all, gathered_all, gathers_ahead}
-use Rattle.kw_puts.proofs.BuiltStages.{after_helps, counted_not, no_scan_replaced}
-use Rattle.kw_core.proofs.Arrows.{builds, Arrow, helps_scan, draws_for, freezes_last, keeps_no_more, remembers_last, sees_frozen_last, takes_no_more, decides, marks_led}
+use Rattle.kw_puts.proofs.BuiltStages.{after_helps, counted_not, no_scan_replaced, of_pin_is, pin_look_is}
+use Rattle.kw_core.proofs.Arrows.{builds, Arrow, helps_scan, draws_for, freezes_last, keeps_no_more, remembers_last, sees_frozen_last, takes_no_more, decides, marks_led, asks_of_pin, looks_at_pin}
 use Rattle.kw_core.proofs.Frame.{unwritten, no_link, same_scan}
 use Rattle.kw_core.proofs.FreezeFrame.{clock_never_falls, scan_stays}
 use Rattle.kw_core.proofs.Happens.{Happens, log_entry, knows_next, knows_other, exchanged, not_exchanged}
@@ -185,6 +185,8 @@ gathered_helps t z l k (gathered_all e) x = absurd x
 
 helps_from : (z : Sizes) (v : Words) (s : ℕ) (choice : Choice) (l : Local) (a : Activity) (k : Local) (t : ℕ) → Arrow z v s choice l a k → HelpsScan t k.activity → HelpsFrom v l a k t
 helps_from z v s choice l a k t (builds b next y u) x = after_helps t next.activity (built_next z v choice l b next u) x
+helps_from z v s choice l a k t (asks_of_pin next o n) x = absurd (of_pin_is (λ b. HelpsScan t b → ⊥) (λ y. y) (λ y. y) (λ y. y) (λ y. y) (λ y. y) (λ y. y) n x)
+helps_from z v s choice l a k t (looks_at_pin j next n) x = absurd (pin_look_is (λ b. HelpsScan t b → ⊥) (λ q y. y) (λ y. y) n x)
 helps_from z v s choice l a k t (helps_scan j c y) x = has_looked j c x refl y refl
 helps_from z v s choice l a k t (draws_for j) x = has_drawn j x refl refl
 helps_from z v s choice l (Activity.Look (Look.Entry j)) k t b x = absurd (helps_not_read t k.activity x (after_read z v s choice l (Activity.Look (Look.Entry j)) k b tt))

@@ -21,7 +21,7 @@ use Rattle.kw_core.specs.declared.history.Attempt.{Attempt}
 use Rattle.kw_core.specs.declared.seat_log.SeatLog.{SeatLog}
 use Rattle.kw_core.specs.Stages.{IsAtRow, IsPutting}
 use Rattle.kw_core.specs.Step.{Step}
-use Rattle.kw_core.proofs.Arrows.{builds, Arrow, decides, marks_led}
+use Rattle.kw_core.proofs.Arrows.{builds, Arrow, decides, marks_led, asks_of_pin}
 use Rattle.kw_core.proofs.Arrows.{sees_stamped, sees_neither, is_gone_by, helps, finds_stamped, finds_other, list_ends, key_above, left_over_gone_by, gathers_left_over, takes_cell, stores_key, stores_value, announces, loads_clock, stamps, is_stamped, stores_version, reaches_cell, sees_none, key_before, key_same, key_after, version_before, version_after, stores_after, inserts, loses, first_ends, first_reaches, first_sees_none, inserts_at_first, inserts_behind}
 use Rattle.kw_core.proofs.BuiltNext.{built_next}
 use Rattle.kw_core.proofs.Fates.{fate_stays}
@@ -31,7 +31,7 @@ use Rattle.kw_puts.specs.Below.{Below}
 use Rattle.kw_puts.specs.Puts.{IsHere}
 use Rattle.kw_puts.proofs.NewAttempts.{IsNew, one_more_is}
 use Rattle.kw_puts.proofs.OwnAttempts.{built_puts, cell_puts, look_puts}
-use Rattle.kw_puts.proofs.BuiltStages.{balancing_puts, counted_not, freezing_goes, gathering_goes}
+use Rattle.kw_puts.proofs.BuiltStages.{balancing_puts, counted_not, freezing_goes, gathering_goes, of_pin_is}
 use Rattle.kw_puts.proofs.Owners.{puts_at_row, row_linked}
 use Rattle.kw_puts.proofs.Rely.{SameAttempt}
 use Rattle.kw_puts.proofs.RelyProof.{goes_on_by}
@@ -45,6 +45,7 @@ pub data PutsFrom (z : Sizes) (r r' : Run) (s : ℕ) (l : Local) (a : Activity) 
 -- by what it does
 puts_from : (z : Sizes) (r r' : Run) (s : ℕ) (choice : Choice) (l : Local) (a : Activity) (l' : Local) → Arrow z (word z r.world) s choice l a l' → Happens z r r' s choice l l' a → IsPutting l'.activity → PutsFrom z r r' s l a
 puts_from z r r' s choice l a l' (builds b next y t) h p = built_puts next.activity (built_next z (word z r.world) choice l b next t) p
+puts_from z r r' s choice l a l' (asks_of_pin next o n) h p = absurd (of_pin_is (λ b. IsPutting b → ⊥) (λ y. y) (λ y. y) (λ y. y) (λ y. y) (λ y. y) (λ y. y) n p)
 puts_from z r r' s choice l a l' (takes_cell m) h p = takes_now refl m
 puts_from z r r' s choice l a l' stores_key h p = puts_on tt (ap (λ (g : SeatLog). g.own) h.log)
 puts_from z r r' s choice l a l' stores_value h p = puts_on tt (ap (λ (g : SeatLog). g.own) h.log)

@@ -45,7 +45,7 @@ use Rattle.kw_core.proofs.InRange.{unmarked_in_range}
 use Rattle.kw_core.proofs.Marks.{marked_last, marked_more, marked_other}
 use Rattle.kw_core.proofs.NotedLaws.{attempt_set_same}
 use Rattle.kw_core.proofs.Changes.{Makes, makes_nothing, makes_begin, makes_add, makes_announce, makes_stamp, makes_help, makes_end, made, makes_lose}
-use Rattle.kw_core.proofs.Arrows.{builds, Arrow, NextLook, looks, lists, NextLeftOver, goes_to_left_over, answers, ends_scan, scans_on, marks_led, decides, next_leads, marks_next}
+use Rattle.kw_core.proofs.Arrows.{builds, Arrow, NextLook, looks, lists, NextLeftOver, goes_to_left_over, answers, ends_scan, scans_on, marks_led, decides, next_leads, marks_next, asks_of_pin, looks_at_pin}
 use Rattle.kw_core.proofs.Arrows.{sees_stamped, sees_neither, is_gone_by, helps, finds_stamped, finds_other, list_ends, key_above, left_over_gone_by, gathers_left_over}
 use Rattle.kw_core.proofs.Arrows.{freezes_count, sees_idle, sees_unstamped, remembers, remembers_last, sees_frozen, sees_frozen_last, freezes_entry, freezes_last, looks_again, sees_quiet, sees_quiet_last, helps_scan, sees_drawn, sees_drawn_last, draws_for, settles_scan, settles_last, finds_drawn, finds_drawn_last, finds_no_scan, finds_no_scan_last}
 use Rattle.kw_core.proofs.Arrows.{take_leads, takes_left, takes_no_more, takes_key, takes_version, keeps_taken, takes_left_key, keeps_left, keeps_no_more, first_ends}
@@ -69,6 +69,7 @@ use Rattle.kw_puts.proofs.FrozenRows.{not_pending}
 use Rattle.kw_puts.proofs.Freezes.{its_hand, its_row, not_unsettled, passed_frozen}
 use Rattle.kw_puts.proofs.GroupCells.{is_this_row, place_within, row_is, source_in_hand}
 use Rattle.kw_puts.proofs.GroupRows.{first_at_hand, frozen_linked, group_linked, none_ahead, second_apart}
+use Rattle.kw_shape.proofs.AfterBuilding.{no_call_of_pin, kind_at}
 
 -- a place of the row that is ahead is none of the row at hand
 ahead_apart : (z : Sizes) (l : Local) (q c d : ℕ) → Hand l → l.rebalance.second ≢ Some l.row → l.rebalance.ahead ≡ Some q → d < place_in_group z l.rebalance z.cells → place_of z l q c ≢ d
@@ -447,6 +448,8 @@ counted_remembers z r r' s choice n h after (goes_alone d) = record { marks = λ
 -- what the acting seat remembers
 pub remembers_own : (z : Sizes) (r r' : Run) (s : ℕ) (choice : Choice) (l : Local) (a : Activity) (l' : Local) → Arrow z (word z r.world) s choice l a l' → Happens z r r' s choice l l' a → Below z r → Step r.history r'.history (log_entry z r a s choice l) → Shape z r' → Remembers z r'.ledger.rows r'.history r'.origin r'.listed l'.activity l'
 remembers_own z r r' s choice l a l' (builds b next y t) h i st after = forgets z r r' s choice l b next h i st next.activity next (after_remembers next.activity (built_next z (word z r.world) choice l b next t))
+remembers_own z r r' s choice l a l' (asks_of_pin next o n) h i st after = no_call_of_pin _ h i.shape o
+remembers_own z r r' s choice l a l' (looks_at_pin j next n) h i st after = absurd (kind_at _ h i.shape)
 remembers_own z r r' s choice l a l' freezes_count h i st after = goes_on z r r' s choice l (Activity.Rebalance (Rebalance.Freeze Freeze.Count)) l' h i st _ l' (λ y. y) (λ y. own_marks z r r' s choice l (Activity.Rebalance (Rebalance.Freeze Freeze.Count)) l' h i st tt) (λ q u. u) passed (λ q c u v. v)
   where
     passed : (q j : ℕ) → IsBehind l q ⊎ (q ≡ l.rebalance.hand) × (j < 0) → IsBehind l q

@@ -11,7 +11,7 @@ use Rattle.kw_words.specs.Plain.{key_of_word, value_of_word}
 use Rattle.kw_words.proofs.PendWords.{pend_of-Pending, pend_of-Stamped, pend_word_of}
 use Rattle.kw_words.proofs.PlainWords.{key_of_word-key_word, value_of_word-value_word}
 use Rattle.kw_model.specs.declared.call.Call.{Call}
-use Rattle.kw_model.specs.declared.call.Call.TheVariants.{Put, Del, Get, Scan}
+use Rattle.kw_model.specs.declared.call.Call.TheVariants.{Put, Del, Get, Scan, Pin, ScanAt, Unpin}
 use Rattle.kw_world.specs.declared.activity.Activity.{Activity}
 use Rattle.kw_world.specs.declared.activity.rebalance.freeze.Freeze.TheVariants as Freeze
 use Rattle.kw_world.specs.declared.activity.insert.Insert.TheVariants as Insert
@@ -41,7 +41,7 @@ use Rattle.kw_core.proofs.NotedLaws.{attempt_set_same}
 use Rattle.kw_core.proofs.Steps.{new_stands}
 use Rattle.kw_core.proofs.Happens.{Happens, chosen, not_chosen, exchanged, not_exchanged}
 use Rattle.kw_core.proofs.BuiltNext.{IsAfterBuilding, built_next}
-use Rattle.kw_core.proofs.Arrows.{builds, Arrow, NextLook, looks, lists, NextLeftOver, goes_to_left_over, answers, ends_scan, scans_on, IsNotOwn, decides, marks_led}
+use Rattle.kw_core.proofs.Arrows.{builds, Arrow, NextLook, looks, lists, NextLeftOver, goes_to_left_over, answers, ends_scan, scans_on, IsNotOwn, decides, marks_led, asks_of_pin}
 use Rattle.kw_core.proofs.Arrows.{sees_stamped, sees_neither, is_gone_by, helps, finds_stamped, finds_other, list_ends, key_above, left_over_gone_by, gathers_left_over, takes_cell, stores_key, stores_value, announces, loads_clock, stamps, is_stamped, stores_version, reaches_cell, sees_none, key_before, key_same, key_after, version_before, version_after, stores_after, inserts, loses, first_ends, first_reaches, first_sees_none, inserts_at_first, inserts_behind}
 use Rattle.kw_core.proofs.Frame.{WritesOwnEntry}
 use Rattle.kw_core.proofs.FreezeFrame.{FreezesEntry}
@@ -55,6 +55,7 @@ use Rattle.kw_puts.proofs.Rely.{GoesOn}
 use Rattle.kw_puts.proofs.RelyEntry.{attempt_left}
 use Rattle.kw_puts.proofs.RelyProof.{goes_on_by}
 use Rattle.kw_puts.proofs.NewAttempts.{added, one_more_is, one_more_within}
+use Rattle.kw_shape.proofs.AfterBuilding.{no_call_of_pin}
 
 -- a seat that inserts its cell puts it, and has announced, stamped and stored it
 pub inserting_puts : (a : Activity) → IsInserting a → IsPutting a
@@ -165,6 +166,9 @@ first_below (Some (Put key value)) h = h.0
 first_below (Some (Del key)) h = h
 first_below (Some (Get key)) h = h
 first_below (Some (Scan from upto)) h = h.0
+first_below (Some Pin) h = absurd h
+first_below (Some (ScanAt from upto)) h = absurd h
+first_below (Some Unpin) h = absurd h
 first_below None h = omega arith
 
 -- What the acting seat does with its own attempt, one lemma for each event of a put.
@@ -532,6 +536,7 @@ built_puts _ n p = absurd p
 -- the acting seat's own attempt
 pub owns_own : (z : Sizes) (r r' : Run) (s : ℕ) (choice : Choice) (l : Local) (a : Activity) (l' : Local) → Arrow z (word z r.world) s choice l a l' → Happens z r r' s choice l l' a → Below z r → Step r.history r'.history (log_entry z r a s choice l) → Shape z r' → Keeps r'.history → IsPutting l'.activity → OwnsAttempt (word z r'.world) r'.history s l'.activity l' (r'.seats s)
 owns_own z r r' s choice l a l' (builds b next y t) h i st after k p = built_puts next.activity (built_next z (word z r.world) choice l b next t) p
+owns_own z r r' s choice l a l' (asks_of_pin next o n) h i st after k p = no_call_of_pin _ h i.shape o
 owns_own z r r' s choice l a l' (takes_cell m) h i st after k p = cell_given z r r' s choice l m h
 owns_own z r r' s choice l a l' stores_key h i st after k p = key_stored z r r' s choice l h i st
 owns_own z r r' s choice l a l' stores_value h i st after k p = value_stored z r r' s choice l h i st

@@ -29,7 +29,7 @@ use Rattle.kw_world.proofs.Transitions.{first_loads}
 use Rattle.kw_core.specs.Run.{Run}
 use Rattle.kw_core.specs.Stages.{IsPublished, IsPutting, IsStamped, IsStored, IsInserting, IsUnlisted, IsAtRow}
 use Rattle.kw_core.proofs.BuiltNext.{built_next}
-use Rattle.kw_core.proofs.Arrows.{builds, Arrow, sees_stamped, sees_neither, is_gone_by, helps, finds_stamped, finds_other, list_ends, key_above, left_over_gone_by, gathers_left_over, stores_version, reaches_cell, sees_none, key_before, key_same, key_after, version_before, version_after, stores_after, loses, first_ends, first_sees_none, first_reaches, inserts_behind, inserts_at_first, decides, marks_led}
+use Rattle.kw_core.proofs.Arrows.{builds, Arrow, sees_stamped, sees_neither, is_gone_by, helps, finds_stamped, finds_other, list_ends, key_above, left_over_gone_by, gathers_left_over, stores_version, reaches_cell, sees_none, key_before, key_same, key_after, version_before, version_after, stores_after, loses, first_ends, first_sees_none, first_reaches, inserts_behind, inserts_at_first, decides, marks_led, asks_of_pin}
 use Rattle.kw_core.proofs.InfantFrames.{key_stays, version_stays}
 use Rattle.kw_core.proofs.Happens.{Happens}
 use Rattle.kw_rows.specs.Rows.{WasLinked}
@@ -42,6 +42,7 @@ use Rattle.kw_puts.proofs.ListWords.{link_is, leads_there, leads_elsewhere}
 use Rattle.kw_puts.proofs.ListSteps.{leaves, list_step, lost_listed, is_set}
 use Rattle.kw_puts.proofs.BuiltStages.{balancing_puts, counted_not, freezing_goes, gathering_goes}
 use Rattle.kw_puts.proofs.OwnAttempts.{acting_own, built_puts, inserting_puts, inserting_published, inserting_stamped, inserting_stored, look_puts, cell_puts}
+use Rattle.kw_shape.proofs.AfterBuilding.{no_call_of_pin}
 
 -- What events leave.
 
@@ -244,6 +245,7 @@ loses_insert z r r' s choice l l' n h i = rw (one_more_is z l.lost (omega (arith
 -- what the acting seat knows of the list of its row
 pub inserts_own : (z : Sizes) (r r' : Run) (s : ℕ) (choice : Choice) (l : Local) (a : Activity) (l' : Local) → Arrow z (word z r.world) s choice l a l' → Happens z r r' s choice l l' a → Below z r → IsInserting l'.activity → Inserts z.cells (list_in (word z r'.world) r'.listed l'.row) l'.activity l'
 inserts_own z r r' s choice l a l' (builds b next y t) h i m = built_puts next.activity (built_next z (word z r.world) choice l b next t) (inserting_puts next.activity m)
+inserts_own z r r' s choice l a l' (asks_of_pin next o n) h i m = no_call_of_pin _ h i.shape o
 inserts_own z r r' s choice l a l' stores_version h i m = begins_insert z r r' s choice l l' h i
 inserts_own z r r' s choice l a l' (first_reaches c e) h i m =
     let k = knows_list z r r' s choice l (Activity.Insert Insert.Start) l' h i in
@@ -324,6 +326,7 @@ inserts_own z r r' s choice l a l' _ h i m = absurd m
 -- where the acting seat's walk is
 pub walks_own : (z : Sizes) (r r' : Run) (s : ℕ) (choice : Choice) (l : Local) (a : Activity) (l' : Local) → Arrow z (word z r.world) s choice l a l' → Happens z r r' s choice l l' a → Below z r → IsInserting l'.activity → WalksList z.cells (list_in (word z r'.world) r'.listed l'.row) l'.activity l'
 walks_own z r r' s choice l a l' (builds b next y t) h i m = built_puts next.activity (built_next z (word z r.world) choice l b next t) (inserting_puts next.activity m)
+walks_own z r r' s choice l a l' (asks_of_pin next o n) h i m = no_call_of_pin _ h i.shape o
 walks_own z r r' s choice l a l' stores_version h i m = (walk_begins z.cells _, refl)
 walks_own z r r' s choice l a l' (first_reaches c e) h i m =
     let before = row z r r' s choice l (Activity.Insert Insert.Start) l' h i in

@@ -16,7 +16,7 @@ use Rattle.kw_core.specs.Run.{Run}
 use Rattle.kw_core.specs.Stages.{IsAtRow, IsPutting, IsUnlisted, IsPutClear}
 use Rattle.kw_core.specs.Words.{given_in}
 use Rattle.kw_core.proofs.BuiltNext.{built_next}
-use Rattle.kw_core.proofs.Arrows.{builds, Arrow, sees_stamped, sees_neither, is_gone_by, helps, finds_stamped, finds_other, list_ends, key_above, left_over_gone_by, gathers_left_over, takes_cell, stores_key, stores_value, announces, loads_clock, stamps, is_stamped, stores_version, reaches_cell, sees_none, key_before, key_same, key_after, version_before, version_after, stores_after, inserts, loses, first_ends, first_reaches, first_sees_none, inserts_at_first, inserts_behind, decides, marks_led}
+use Rattle.kw_core.proofs.Arrows.{builds, Arrow, sees_stamped, sees_neither, is_gone_by, helps, finds_stamped, finds_other, list_ends, key_above, left_over_gone_by, gathers_left_over, takes_cell, stores_key, stores_value, announces, loads_clock, stamps, is_stamped, stores_version, reaches_cell, sees_none, key_before, key_same, key_after, version_before, version_after, stores_after, inserts, loses, first_ends, first_reaches, first_sees_none, inserts_at_first, inserts_behind, decides, marks_led, asks_of_pin}
 use Rattle.kw_core.proofs.Happens.{Happens}
 use Rattle.kw_core.proofs.RoomBelow.{room_below}
 use Rattle.kw_puts.specs.Lists.{IsOwnListed}
@@ -26,6 +26,7 @@ use Rattle.kw_puts.proofs.OwnAttempts.{built_puts, look_puts, cell_puts}
 use Rattle.kw_puts.proofs.BuiltStages.{balancing_puts, counted_not, freezing_goes, gathering_goes}
 use Rattle.kw_puts.proofs.Owners.{row_linked}
 use Rattle.kw_puts.proofs.RelyProof.{unlisted_puts}
+use Rattle.kw_shape.proofs.AfterBuilding.{no_call_of_pin}
 
 -- a cell that is given is not listed: it was nobody's
 given_unlisted : (z : Sizes) (r r' : Run) (s : ℕ) (choice : Choice) (l l' : Local) → has_room z (count_of (word z r.world (name.Count l.row))) ≡ true → Happens z r r' s choice l l' (Activity.Put Put.Add) → Below z r → r.listed l.row (given_in (word z r.world) l.row) ≡ false
@@ -42,6 +43,7 @@ given_unlisted z r r' s choice l l' m h i = which (r.listed l.row (given_in (wor
 -- the own cell of a put is not listed before it is inserted
 unlisted_own : (z : Sizes) (r r' : Run) (s : ℕ) (choice : Choice) (l : Local) (a : Activity) (l' : Local) → Arrow z (word z r.world) s choice l a l' → Happens z r r' s choice l l' a → Below z r → IsUnlisted l'.activity → r'.listed l'.row l'.cell ≡ false
 unlisted_own z r r' s choice l a l' (builds b next y t) h i u = built_puts next.activity (built_next z (word z r.world) choice l b next t) (unlisted_puts next.activity u)
+unlisted_own z r r' s choice l a l' (asks_of_pin next o n) h i u = no_call_of_pin _ h i.shape o
 unlisted_own z r r' s choice l a l' (takes_cell m) h i u = ap (λ f. f l.row (given_in (word z r.world) l.row)) h.listed ∙ given_unlisted z r r' s choice l l' m h i
 unlisted_own z r r' s choice l a l' (loses n) h i u = ap (λ f. f l.row l.cell) (lost_listed z r r' s choice l l' h i n) ∙ (i.lists.own s l h.knows).unlisted (subst IsUnlisted (sym h.activity) tt)
 unlisted_own z r r' s choice l a l' stores_key h i u = ap (λ f. f l.row l.cell) h.listed ∙ (i.lists.own s l h.knows).unlisted (subst IsUnlisted (sym h.activity) tt)
@@ -87,6 +89,7 @@ clear_puts _ u = absurd u
 
 listed_own : (z : Sizes) (r r' : Run) (s : ℕ) (choice : Choice) (l : Local) (a : Activity) (l' : Local) → Arrow z (word z r.world) s choice l a l' → Happens z r r' s choice l l' a → Below z r → IsPutClear l'.activity → r'.listed l'.row l'.cell ≡ true
 listed_own z r r' s choice l a l' (builds b next y t) h i u = built_puts next.activity (built_next z (word z r.world) choice l b next t) (clear_puts next.activity u)
+listed_own z r r' s choice l a l' (asks_of_pin next o n) h i u = no_call_of_pin _ h i.shape o
 listed_own z r r' s choice l a l' (inserts e) h i u = ap (λ f. f l.cell) (ap (λ f. f l.row) (made_listed z r r' s choice l l' h i e) ∙ with_listed_here r.listed l.row l.cell) ∙ cell_here (r.listed l.row) l.cell
 listed_own z r r' s choice l a l' (sees_stamped j c version next e n) h i u = look_puts z _ next n (clear_puts next u)
 listed_own z r r' s choice l a l' (sees_neither j next e n) h i u = look_puts z _ next n (clear_puts next u)

@@ -6,7 +6,7 @@ use Rattle.kw_words.specs.declared.scan.ScanWord.TheVariants.{Quiet, Waiting, Dr
 use Rattle.kw_words.specs.Scan.{scan_of, scan_word}
 use Rattle.kw_words.proofs.ScanWords.{scan_of-Waiting, scan_of-scan_word}
 use Rattle.kw_model.specs.declared.call.Call.{Call}
-use Rattle.kw_model.specs.declared.call.Call.TheVariants.{Put, Del, Get, Scan}
+use Rattle.kw_model.specs.declared.call.Call.TheVariants.{Put, Del, Get, Scan, Pin, ScanAt, Unpin}
 use Rattle.kw_world.specs.declared.activity.Activity.{Activity}
 use Rattle.kw_world.specs.declared.activity.draw.Draw.TheVariants as Draw
 use Rattle.kw_world.specs.declared.activity.rebalance.freeze.Freeze.TheVariants as Freeze
@@ -47,14 +47,16 @@ use Rattle.kw_puts.proofs.RelyProof.{goes_on_by}
 use Rattle.kw_core.proofs.Happens.{Changed, Happens, exchanged}
 use Rattle.kw_core.proofs.Building.{IsBuilding}
 use Rattle.kw_core.proofs.BuiltNext.{built_next}
-use Rattle.kw_puts.proofs.BuiltStages.{after_at_read, after_drawn, after_loaded, after_reading, after_settled, after_settling, after_waiting, balancing_drawn, balancing_loaded, balancing_reading, balancing_settled, balancing_waiting, building_after, building_underway, counted_not, freezing_goes, gathering_goes, no_scan_replaced}
-use Rattle.kw_core.proofs.Arrows.{builds, NextLook, looks, lists, NextLeftOver, goes_to_left_over, answers, ends_scan, scans_on, Arrow, begins, enters, stores_waiting, draws, settles_empty, settles, stops, starts_at_head, guesses, guess_fails, takes_head, guess_serves, guess_is_above, reads_last, reads_before, puts_in_last, puts_before, reaches_next, walks_on, sees_pending, is_wanted, loads_to_help, list_leads, key_below, key_within, loads_version, gathers_listed, left_over_wanted, sees_stamped, sees_neither, is_gone_by, helps, finds_stamped, finds_other, list_ends, key_above, left_over_gone_by, gathers_left_over, clears_scan, leaves, waits, begins_at_first, begins_behind, first_ends, first_leads, decides, marks_led}
+use Rattle.kw_puts.proofs.BuiltStages.{after_at_read, after_drawn, after_loaded, after_reading, after_settled, after_settling, after_waiting, balancing_drawn, balancing_loaded, balancing_reading, balancing_settled, balancing_waiting, building_after, building_underway, counted_not, freezing_goes, gathering_goes, no_scan_replaced, of_pin_is}
+use Rattle.kw_core.proofs.Arrows.{builds, NextLook, looks, lists, NextLeftOver, goes_to_left_over, answers, ends_scan, scans_on, Arrow, begins, enters, stores_waiting, draws, settles_empty, settles, stops, starts_at_head, guesses, guess_fails, takes_head, guess_serves, guess_is_above, reads_last, reads_before, puts_in_last, puts_before, reaches_next, walks_on, sees_pending, is_wanted, loads_to_help, list_leads, key_below, key_within, loads_version, gathers_listed, left_over_wanted, sees_stamped, sees_neither, is_gone_by, helps, finds_stamped, finds_other, list_ends, key_above, left_over_gone_by, gathers_left_over, clears_scan, leaves, waits, begins_at_first, begins_behind, first_ends, first_leads, decides, marks_led, asks_of_pin, stores_pin, settles_pin}
 use Rattle.kw_core.proofs.SeatLogs.{IsNoDraw, call_kept, draw_kept, look_kept, settle_kept, settle_lost}
 use Rattle.kw_shape.proofs.NextCalls.{arrow_call}
 use Rattle.kw_core.specs.Ledger.{Ledger}
 use Rattle.kw_world.specs.Sane.{IsVersion}
 use Rattle.kw_words.specs.declared.kind.Kind.{Kind}
 use Rattle.kw_core.proofs.FreezeFrame.{SettlesScan, clock_never_falls}
+use Rattle.kw_core.proofs.Pinning.{IsOfPin}
+use Rattle.kw_shape.proofs.AfterBuilding.{of_pin_goes, scan_is_no_pin, kind_at}
 
 -- Where a seat goes on to.
 
@@ -126,6 +128,7 @@ settling_waits _ x = absurd x
 -- the event that leads to a waiting scan is the store of its word, or its draw
 pub waits_from : (z : Sizes) (v : Words) (s : ℕ) (choice : Choice) (l : Local) (a : Activity) (k : Local) → Arrow z v s choice l a k → IsWaiting k.activity → ((a ≡ Activity.Draw Draw.Wait) × (k ≡ record l { activity = Activity.Draw Draw.Version })) ⊎ ((a ≡ Activity.Draw Draw.Version) × (k ≡ record l { drawn = v name.Clock; activity = Activity.Draw Draw.Settle }))
 waits_from z v s choice l a k (builds b next y t) x = after_waiting next.activity (built_next z v choice l b next t) x
+waits_from z v s choice l a k (asks_of_pin next o n) x = absurd (of_pin_is (λ b. IsWaiting b → ⊥) (λ y. y) (λ y. y) (λ y. y) (λ y. y) (λ y. y) (λ y. y) n x)
 waits_from z v s choice l a k stores_waiting x = inl (refl, refl)
 waits_from z v s choice l a k draws x = inr (refl, refl)
 waits_from z v s choice l (Activity.Look (Look.Entry j)) k b x = absurd (waiting_not_read k.activity x (after_read z v s choice l (Activity.Look (Look.Entry j)) k b tt))
@@ -146,39 +149,55 @@ waits_from z v s choice l a k (marks_led count next d n) x = absurd (counted_not
 waits_from z v s choice l a k (decides count m next e n) x = absurd (counted_not IsWaiting (λ x. x) (λ x. x) n x)
 waits_from z v s choice l a k b x = absurd x
 
+-- a call of a pin is no scan
+of_pin_not_scan : {A : Type 0} (c : Option Call) → IsOfPin c → is_scan c ≡ true → A
+of_pin_not_scan (Some (Put key value)) o f = absurd o
+of_pin_not_scan (Some (Del key)) o f = absurd o
+of_pin_not_scan (Some (Get key)) o f = absurd o
+of_pin_not_scan (Some (Scan from upto)) o f = absurd o
+of_pin_not_scan (Some Pin) o f = true_false refl (sym f)
+of_pin_not_scan (Some (ScanAt from upto)) o f = true_false refl (sym f)
+of_pin_not_scan (Some Unpin) o f = true_false refl (sym f)
+of_pin_not_scan None o f = absurd o
+
 -- a scan that has its version had it, or has just settled it; and a seat on its way that is no scan
 -- began so
-pub drawn_from : (z : Sizes) (v : Words) (s : ℕ) (choice : Choice) (l : Local) (a : Activity) (k : Local) → Arrow z v s choice l a k → is_scan k.call ≡ true → HasDrawn k.activity → HasDrawn a ⊎ IsSettling a
-drawn_from z v s choice l a k (builds b next y t) e x = after_drawn next.activity (built_next z v choice l b next t) x
-drawn_from z v s choice l (Activity.Walk _) k b e x = inl tt
-drawn_from z v s choice l (Activity.Look _) k b e x = inl tt
-drawn_from z v s choice l (Activity.Read _) k b e x = inl tt
-drawn_from z v s choice l (Activity.EndScan answer) k b e x = inl tt
-drawn_from z v s choice l (Activity.Draw Draw.Settle) k b e x = inr tt
-drawn_from z v s choice l a k (enters n) e x = true_false e n
-drawn_from z v s choice l (Activity.Rebalance (Rebalance.Freeze f)) k b e x = balancing_drawn k.activity (freezing_goes z v s choice l f k b) x
-drawn_from z v s choice l (Activity.Rebalance (Rebalance.Gather g)) k b e x = balancing_drawn k.activity (gathering_goes z v s choice l g k b) x
-drawn_from z v s choice l a k (marks_led count next d n) f x = absurd (counted_not HasDrawn (λ x. x) (λ x. x) n x)
-drawn_from z v s choice l a k (decides count m next e n) f x = absurd (counted_not HasDrawn (λ x. x) (λ x. x) n x)
-drawn_from z v s choice l a k b e x = absurd x
+pub drawn_from : (z : Sizes) (v : Words) (s : ℕ) (choice : Choice) (l : Local) (a : Activity) (k : Local) → Arrow z v s choice l a k → IsKind a l → is_scan k.call ≡ true → HasDrawn k.activity → HasDrawn a ⊎ IsSettling a
+drawn_from z v s choice l a k (builds b next y t) m e x = after_drawn next.activity (built_next z v choice l b next t) x
+drawn_from z v s choice l (Activity.Walk _) k b m e x = inl tt
+drawn_from z v s choice l (Activity.Look _) k b m e x = inl tt
+drawn_from z v s choice l (Activity.Read _) k b m e x = inl tt
+drawn_from z v s choice l (Activity.EndScan answer) k b m e x = inl tt
+drawn_from z v s choice l (Activity.Draw Draw.Settle) k b m e x = inr tt
+drawn_from z v s choice l a k (asks_of_pin next o n) m e x = of_pin_not_scan l.call o (ap is_scan (sym (of_pin_goes l next n).call) ∙ e)
+drawn_from z v s choice l a k stores_pin m e x = absurd m
+drawn_from z v s choice l a k (enters n) m e x = true_false e n
+drawn_from z v s choice l (Activity.Rebalance (Rebalance.Freeze f)) k b m e x = balancing_drawn k.activity (freezing_goes z v s choice l f k b) x
+drawn_from z v s choice l (Activity.Rebalance (Rebalance.Gather g)) k b m e x = balancing_drawn k.activity (gathering_goes z v s choice l g k b) x
+drawn_from z v s choice l a k (marks_led count next d n) m f x = absurd (counted_not HasDrawn (λ x. x) (λ x. x) n x)
+drawn_from z v s choice l a k (decides count c next e n) m f x = absurd (counted_not HasDrawn (λ x. x) (λ x. x) n x)
+drawn_from z v s choice l a k b m e x = absurd x
 
 -- the scan's word says so from then on, until it is cleared
-pub settled_from : (z : Sizes) (v : Words) (s : ℕ) (choice : Choice) (l : Local) (a : Activity) (k : Local) → Arrow z v s choice l a k → is_scan k.call ≡ true → IsSettled k.activity → IsCovering a ⊎ IsSettling a
-settled_from z v s choice l a k (builds b next y t) e x = after_settled next.activity (built_next z v choice l b next t) x
-settled_from z v s choice l (Activity.Walk _) k b e x = inl tt
-settled_from z v s choice l (Activity.Look _) k b e x = inl tt
-settled_from z v s choice l (Activity.Read _) k b e x = inl tt
-settled_from z v s choice l (Activity.Draw Draw.Settle) k b e x = inr tt
-settled_from z v s choice l a k (enters n) e x = true_false e n
-settled_from z v s choice l (Activity.Rebalance (Rebalance.Freeze f)) k b e x = balancing_settled k.activity (freezing_goes z v s choice l f k b) x
-settled_from z v s choice l (Activity.Rebalance (Rebalance.Gather g)) k b e x = balancing_settled k.activity (gathering_goes z v s choice l g k b) x
-settled_from z v s choice l a k (marks_led count next d n) f x = absurd (counted_not IsSettled (λ x. x) (λ x. x) n x)
-settled_from z v s choice l a k (decides count m next e n) f x = absurd (counted_not IsSettled (λ x. x) (λ x. x) n x)
-settled_from z v s choice l a k b e x = absurd x
+pub settled_from : (z : Sizes) (v : Words) (s : ℕ) (choice : Choice) (l : Local) (a : Activity) (k : Local) → Arrow z v s choice l a k → IsKind a l → is_scan k.call ≡ true → IsSettled k.activity → IsCovering a ⊎ IsSettling a
+settled_from z v s choice l a k (builds b next y t) m e x = after_settled next.activity (built_next z v choice l b next t) x
+settled_from z v s choice l (Activity.Walk _) k b m e x = inl tt
+settled_from z v s choice l (Activity.Look _) k b m e x = inl tt
+settled_from z v s choice l (Activity.Read _) k b m e x = inl tt
+settled_from z v s choice l (Activity.Draw Draw.Settle) k b m e x = inr tt
+settled_from z v s choice l a k (asks_of_pin next o n) m e x = of_pin_not_scan l.call o (ap is_scan (sym (of_pin_goes l next n).call) ∙ e)
+settled_from z v s choice l a k stores_pin m e x = absurd m
+settled_from z v s choice l a k (enters n) m e x = true_false e n
+settled_from z v s choice l (Activity.Rebalance (Rebalance.Freeze f)) k b m e x = balancing_settled k.activity (freezing_goes z v s choice l f k b) x
+settled_from z v s choice l (Activity.Rebalance (Rebalance.Gather g)) k b m e x = balancing_settled k.activity (gathering_goes z v s choice l g k b) x
+settled_from z v s choice l a k (marks_led count next d n) m f x = absurd (counted_not IsSettled (λ x. x) (λ x. x) n x)
+settled_from z v s choice l a k (decides count c next e n) m f x = absurd (counted_not IsSettled (λ x. x) (λ x. x) n x)
+settled_from z v s choice l a k b m e x = absurd x
 
 -- a reader that has looked at the first entry had looked at it, or looks at it now
 reading_from : (z : Sizes) (v : Words) (s : ℕ) (choice : Choice) (l : Local) (a : Activity) (k : Local) → Arrow z v s choice l a k → IsReading k.activity → IsReading a ⊎ (a ≡ Activity.Look (Look.Entry 0))
 reading_from z v s choice l a k (builds b next y t) x = after_reading next.activity (built_next z v choice l b next t) x
+reading_from z v s choice l a k (asks_of_pin next o n) x = absurd (of_pin_is (λ b. IsReading b → ⊥) (λ y. y) (λ y. y) (λ y. y) (λ y. y) (λ y. y) (λ y. y) n x)
 reading_from z v s choice l (Activity.Look (Look.Entry zero)) k b x = inr refl
 reading_from z v s choice l (Activity.Look (Look.Entry (suc j))) k b x = inl (omega arith)
 reading_from z v s choice l (Activity.Look _) k b x = inl tt
@@ -206,6 +225,7 @@ not_idle_drawn z v s choice l a k (list_ends next e n) x y = cell_version _ next
 not_idle_drawn z v s choice l a k (key_above next e n) x y = cell_version _ next n
 not_idle_drawn z v s choice l a k (left_over_gone_by next e n) x y = cell_version _ next n
 not_idle_drawn z v s choice l a k (gathers_left_over next n) x y = cell_version _ next n
+not_idle_drawn z v s choice l a k (asks_of_pin next o n) x y = absurd x
 not_idle_drawn z v s choice l a k (leaves answer) x y = absurd y
 not_idle_drawn z v s choice l (Activity.Draw Draw.Settle) k b x y = absurd x
 not_idle_drawn z v s choice l (Activity.Rebalance _) k b x y = absurd x
@@ -334,6 +354,9 @@ scan_call (Some (Scan from upto)) x = refl
 scan_call (Some (Put key value)) x = absurd x
 scan_call (Some (Del key)) x = absurd x
 scan_call (Some (Get key)) x = absurd x
+scan_call (Some Pin) x = absurd x
+scan_call (Some (ScanAt from upto)) x = absurd x
+scan_call (Some Unpin) x = absurd x
 scan_call None x = absurd x
 
 -- a put is no scan
@@ -342,6 +365,9 @@ put_not_scan (Some (Put key value)) e f = true_false refl (sym f)
 put_not_scan (Some (Del key)) e f = true_false refl (sym f)
 put_not_scan (Some (Get key)) e f = true_false refl (sym e)
 put_not_scan (Some (Scan from upto)) e f = true_false refl (sym e)
+put_not_scan (Some Pin) e f = true_false refl (sym e)
+put_not_scan (Some (ScanAt from upto)) e f = true_false refl (sym e)
+put_not_scan (Some Unpin) e f = true_false refl (sym e)
 put_not_scan None e f = true_false refl (sym e)
 
 -- a scan that stores its word waits
@@ -358,10 +384,11 @@ draw_waits z v s choice l (Activity.Draw Draw.Settle) k b x = inr tt
 draw_waits z v s choice l a k _ x = absurd x
 
 -- a scan that settles is on its way
-settling_next : (z : Sizes) (v : Words) (s : ℕ) (choice : Choice) (l : Local) (a : Activity) (k : Local) → Arrow z v s choice l a k → IsSettling a → is_scan l.call ≡ true → IsScanning k.activity k
+settling_next : (z : Sizes) (v : Words) (s : ℕ) (choice : Choice) (l : Local) (a : Activity) (k : Local) → Arrow z v s choice l a k → IsSettling a → IsScanCall l.call → IsScanning k.activity k
 settling_next z v s choice l a k (builds b next y t) x f = after_settling b (building_after b y) x
-settling_next z v s choice l a k (settles_empty e) x f = inr (f, tt)
-settling_next z v s choice l a k (settles e) x f = inr (f, tt)
+settling_next z v s choice l a k (settles_empty e) x f = inr (scan_call l.call f, tt)
+settling_next z v s choice l a k (settles e) x f = inr (scan_call l.call f, tt)
+settling_next z v s choice l a k (settles_pin e) x f = scan_is_no_pin l.call f e
 settling_next z v s choice l a k _ x f = absurd x
 
 -- a look at the next entry keeps a scan on its way
@@ -439,10 +466,6 @@ module _ (z : Sizes) (r r' : Run) (s : ℕ) (choice : Choice) (l : Local) (a : A
   kind : IsKind a l
   kind = subst (λ q. IsKind q l) h.activity (i.shape.kinds s l h.knows).kind
 
-  -- the call of a seat that settles is a scan
-  settling_call : IsSettling a → is_scan l.call ≡ true
-  settling_call x = scan_call l.call (settling_scans a l x kind)
-
   -- a seat that settles the scan of a seat has none at work itself
   own_quiet : (c : Activity) → Happens z r r' s choice l l' c → SettlesScan s c → word z r.world (name.Scan s) ≡ scan_word Quiet
   own_quiet (Activity.Rebalance (Rebalance.Freeze (Freeze.Settle j))) g x = which (i.positions.scans s l g.knows)
@@ -488,7 +511,7 @@ module _ (z : Sizes) (r r' : Run) (s : ℕ) (choice : Choice) (l : Local) (a : A
 
       waits : IsWaiting l'.activity ⊎ (IsWaiting l'.activity → ⊥) → IsSettling a ⊎ (IsSettling a → ⊥) → IsScanning l'.activity l' ⊎ (word z r'.world (name.Scan s) ≡ scan_word Quiet)
       waits (inl w) x = inl (inl w)
-      waits (inr w) (inl x) = inl (settling_next z (word z r.world) s choice l a l' b x (settling_call x))
+      waits (inr w) (inl x) = inl (settling_next z (word z r.world) s choice l a l' b x (settling_scans a l x kind))
       waits (inr w) (inr n) = next n w (word_next a h n w (wait_waits z (word z r.world) s choice l a l' b) (own_quiet a h))
 
 -- Where it drew and looked.
@@ -534,11 +557,13 @@ settles_to : (z : Sizes) (r r' : Run) (s : ℕ) (choice : Choice) (l : Local) (a
 settles_to z r r' s choice l a k (builds b next y t) h x m w = after_settling b (building_after b y) x
 settles_to z r r' s choice l a k (settles_empty e) h x m w = settles_at z r r' s choice l k h refl m w
 settles_to z r r' s choice l a k (settles e) h x m w = settles_at z r r' s choice l k h refl m w
+settles_to z r r' s choice l a k (settles_pin e) h x m w = settles_at z r r' s choice l k h refl m w
 settles_to z r r' s choice l a k _ h x m w = absurd x
 
 -- a scan that has loaded the clock has just done so, or is about to draw
 pub loaded_from : (z : Sizes) (v : Words) (s : ℕ) (choice : Choice) (l : Local) (a : Activity) (k : Local) → Arrow z v s choice l a k → HasLoaded k.activity → ((a ≡ Activity.Draw Draw.Clock) × (k ≡ record l { waiting = v name.Clock; activity = Activity.Draw Draw.Wait })) ⊎ ((a ≡ Activity.Draw Draw.Wait) × (k ≡ record l { activity = Activity.Draw Draw.Version }))
 loaded_from z v s choice l a k (builds b next y t) x = after_loaded next.activity (built_next z v choice l b next t) x
+loaded_from z v s choice l a k (asks_of_pin next o n) x = absurd (of_pin_is (λ b. HasLoaded b → ⊥) (λ y. y) (λ y. y) (λ y. y) (λ y. y) (λ y. y) (λ y. y) n x)
 loaded_from z v s choice l a k (waits e) x = inl (refl, refl)
 loaded_from z v s choice l a k stores_waiting x = inr (refl, refl)
 loaded_from z v s choice l (Activity.Look (Look.Entry j)) k b x = absurd (loaded_not_read k.activity x (after_read z v s choice l (Activity.Look (Look.Entry j)) k b tt))
@@ -671,7 +696,7 @@ module _ (z : Sizes) (r r' : Run) (s : ℕ) (choice : Choice) (l : Local) (a : A
 
   -- the word of a scan that has settled
   its_settled : is_scan l'.call ≡ true → IsSettled l'.activity → word z r'.world (name.Scan s) ≡ scan_word (Drawn l'.version)
-  its_settled e x = which (settled_from z (word z r.world) s choice l a l' b e x)
+  its_settled e x = which (settled_from z (word z r.world) s choice l a l' b (kind_at a h i.shape) e x)
     where
       u : IsUnderway a
       u = drawn_underway z (word z r.world) s choice l a l' b (settled_draws l'.activity x)
@@ -686,7 +711,7 @@ module _ (z : Sizes) (r r' : Run) (s : ℕ) (choice : Choice) (l : Local) (a : A
 
   -- the draw of a scan that has its version
   its_drawn : is_scan l'.call ≡ true → HasDrawn l'.activity → IsDrawnAt r'.history (r'.seats s).drawn l'.version × ((called r'.history (r'.seats s).call).first < (r'.seats s).drawn)
-  its_drawn e x = which (drawn_from z (word z r.world) s choice l a l' b e x)
+  its_drawn e x = which (drawn_from z (word z r.world) s choice l a l' b (kind_at a h i.shape) e x)
     where
       u : IsUnderway a
       u = drawn_underway z (word z r.world) s choice l a l' b x

@@ -24,7 +24,7 @@ use Rattle.kw_core.specs.History.{History}
 use Rattle.kw_core.specs.Run.{Origins, Run}
 use Rattle.kw_core.specs.Step.{Step}
 use Rattle.kw_core.specs.Words.{Words}
-use Rattle.kw_core.proofs.Arrows.{builds, Arrow, decides, marks_led}
+use Rattle.kw_core.proofs.Arrows.{builds, Arrow, decides, marks_led, asks_of_pin, looks_at_pin}
 use Rattle.kw_core.proofs.Arrows.{sees_stamped, sees_neither, is_gone_by, helps, finds_stamped, finds_other, list_ends, key_above, left_over_gone_by, gathers_left_over}
 use Rattle.kw_core.proofs.Arrows.{remembers_last, sees_frozen_last, freezes_last, sees_quiet_last, sees_drawn_last, settles_last, finds_drawn_last, finds_no_scan_last}
 use Rattle.kw_core.proofs.Arrows.{take_leads, takes_left, takes_no_more, takes_key, takes_version, keeps_taken, takes_left_key, keeps_left, keeps_no_more, first_ends}
@@ -44,6 +44,7 @@ use Rattle.kw_puts.proofs.Freezes.{all_passed, left_over_freezes, look_freezes}
 use Rattle.kw_puts.proofs.Gathering.{AreOfGroup, Gathers, gathered_of_group, gathers_frozen, gathers_last, gathers_other, leaves_group, rows_linked}
 use Rattle.kw_puts.proofs.GroupRows.{all_frozen, second_apart}
 use Rattle.kw_puts.proofs.Taking.{IsBegun, IsLeft, begins_ahead, begins_first, begins_walk, holds_all, keeps_gathered, keeps_listed, keeps_left_over, takes_cell, takes_its_key, takes_its_version, takes_least, takes_left_over_key, walk_ended}
+use Rattle.kw_shape.proofs.AfterBuilding.{no_call_of_pin, kind_at}
 
 -- The events that build rows.
 
@@ -210,6 +211,8 @@ module _ {z : Sizes} {r r' : Run} {s : ℕ} {choice : Choice} {l l' : Local} {g 
 -- what the acting seat knows then
 pub gathers_own : (z : Sizes) (r r' : Run) (s : ℕ) (choice : Choice) (l : Local) (a : Activity) (l' : Local) → Arrow z (word z r.world) s choice l a l' → Happens z r r' s choice l l' a → Below z r → Step r.history r'.history (log_entry z r a s choice l) → Gathers z (list_in (word z r'.world) r'.listed l'.rebalance.hand) r'.history r'.origin l'.activity l'
 gathers_own z r r' s choice l a l' (builds c next y b) h i st = goes_on z r r' s choice l a l' h i st next b
+gathers_own z r r' s choice l a l' (asks_of_pin next o n) h i st = no_call_of_pin _ h i.shape o
+gathers_own z r r' s choice l a l' (looks_at_pin j next n) h i st = absurd (kind_at _ h i.shape)
 gathers_own z r r' s choice l a l' (sees_quiet_last m e u) h i st = begins_group z r r' s choice l _ l' h i st tt l' refl refl refl refl refl refl refl (inl refl)
 gathers_own z r r' s choice l a l' (sees_drawn_last m version e u) h i st = begins_group z r r' s choice l _ l' h i st tt l' refl refl refl refl refl refl refl (inl refl)
 gathers_own z r r' s choice l a l' (settles_last m e u) h i st = begins_group z r r' s choice l _ l' h i st tt l' refl refl refl refl refl refl refl (inl refl)

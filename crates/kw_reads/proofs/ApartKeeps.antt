@@ -25,13 +25,14 @@ use Rattle.kw_puts.proofs.Owners.{true_false}
 use Rattle.kw_puts.specs.Builds.{has_place}
 use Rattle.kw_reads.specs.Readers.{HasReachedCell, Apart}
 use Rattle.kw_reads.specs.Inv.{Inv}
-use Rattle.kw_core.proofs.Arrows.{builds, NextLook, looks, lists, NextLeftOver, goes_to_left_over, answers, ends_scan, scans_on, Arrow, sees_stamped, sees_neither, is_gone_by, helps, finds_stamped, finds_other, list_leads, list_ends, key_below, key_within, key_above, loads_version, gathers_listed, left_over_wanted, left_over_gone_by, gathers_left_over, first_ends, begins_at_first, begins_behind, first_leads}
+use Rattle.kw_core.proofs.Arrows.{builds, NextLook, looks, lists, NextLeftOver, goes_to_left_over, answers, ends_scan, scans_on, Arrow, sees_stamped, sees_neither, is_gone_by, helps, finds_stamped, finds_other, list_leads, list_ends, key_below, key_within, key_above, loads_version, gathers_listed, left_over_wanted, left_over_gone_by, gathers_left_over, first_ends, begins_at_first, begins_behind, first_leads, asks_of_pin}
 use Rattle.kw_core.proofs.Happens.{Happens}
 use Rattle.kw_core.proofs.Marks.{least_marked, marked_back, marked_none}
 use Rattle.kw_reads.proofs.BuiltReads.{after_rests, rebalance_next}
 use Rattle.kw_puts.proofs.GatheredCells.{place_back, few_more, few_room, gathered_at}
 use Rattle.kw_reads.proofs.Ready.{apart_lasts}
 use Rattle.kw_reads.proofs.WalksKeep.{row_left, walks_before, walks_after}
+use Rattle.kw_shape.proofs.AfterBuilding.{no_call_of_pin}
 
 -- of what a reader has gathered no cell is there twice, and none that is remembered
 record ApartLeft (z : Sizes) (l : Local) : Type 0 where
@@ -166,6 +167,7 @@ apart_listed {z} {r} {r'} {s} {choice} {l} {l'} h i k g m e = record {
 pub apart_by : (z : Sizes) (r r' : Run) (s : ℕ) (choice : Choice) (l : Local) (a : Activity) (l' : Local) → Arrow z (word z r.world) s choice l a l' → Happens z r r' s choice l l' a → Inv z r → IsTaking l'.activity → Apart z (list_in (word z r'.world) r'.listed l'.row) l'.activity l'
 apart_by z r r' s choice l (Activity.Rebalance b) l' x h i p = after_rests l'.activity (rebalance_next z (word z r.world) s choice l b l' x) (inr p)
 apart_by z r r' s choice l a l' (builds b next y t) h i p = absurd y
+apart_by z r r' s choice l a l' (asks_of_pin next o n) h i p = no_call_of_pin _ h i.shape o
 apart_by z r r' s choice l _ _ (sees_stamped j c version next e n) h i p = apart_look z _ (j + 1) next (remembering c version l) n p (none_gathered h i tt)
 apart_by z r r' s choice l _ _ (sees_neither j next e n) h i p = apart_look z _ (j + 1) next l n p (none_gathered h i tt)
 apart_by z r r' s choice l _ _ (is_gone_by next e n) h i p = apart_look z _ (l.looked + 1) next l n p (none_gathered h i tt)

@@ -19,12 +19,13 @@ use Rattle.kw_core.specs.Run.{Run}
 use Rattle.kw_core.specs.Stages.{IsAtRead, IsBalancing, IsCovering, IsEarly, IsLooking, IsReading, IsTaking}
 use Rattle.kw_core.specs.Words.{Words}
 use Rattle.kw_core.specs.declared.seat_log.SeatLog.{SeatLog}
-use Rattle.kw_core.proofs.Arrows.{Arrow, builds, freezes_last, keeps_no_more, remembers_last, sees_frozen_last, takes_no_more, decides, marks_led}
+use Rattle.kw_core.proofs.Arrows.{Arrow, builds, freezes_last, keeps_no_more, remembers_last, sees_frozen_last, takes_no_more, decides, marks_led, looks_at_pin}
 use Rattle.kw_core.proofs.BuiltNext.{IsAfterBuilding, built_goes}
 use Rattle.kw_core.proofs.Grouping.{GroupGoes, frozen_goes, gathered_goes, counted_goes}
 use Rattle.kw_core.proofs.Happens.{Happens}
 use Rattle.kw_reads.specs.Readers.{ReadsList}
 use Rattle.kw_reads.specs.Replies.{HasPairs, IsCovered}
+use Rattle.kw_shape.proofs.AfterBuilding.{look_goes}
 
 -- a reader that looks at entries or reads cells is at its row
 pub looking_reads : (a : Activity) → IsLooking a → IsAtRead a
@@ -74,6 +75,7 @@ group_on m k n = record { call = n.call; gathered = n.gathered; pairs = n.pairs;
 
 pub rebalance_goes : (z : Sizes) (v : Words) (s : ℕ) (choice : Choice) (l : Local) (b : Rebalance) (k : Local) → Arrow z v s choice l (Activity.Rebalance b) k → RebalanceGoes l k
 rebalance_goes z v s choice l b k (builds c next y t) = let n = built_goes z v choice l c next t in record { call = n.call; gathered = n.gathered; pairs = n.pairs; next = after_built next.activity n.next }
+rebalance_goes z v s choice l b k (looks_at_pin i next n) = group_on l next (look_goes z _ _ l next n)
 rebalance_goes z v s choice l b k (remembers_last i c version next e o n) = let x = group_on _ next (frozen_goes _ next n) in record { call = x.call; gathered = x.gathered; pairs = x.pairs; next = x.next }
 rebalance_goes z v s choice l b k (sees_frozen_last i next e o n) = group_on l next (frozen_goes l next n)
 rebalance_goes z v s choice l b k (freezes_last i next e o n) = group_on l next (frozen_goes l next n)

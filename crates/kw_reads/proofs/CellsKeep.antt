@@ -36,7 +36,7 @@ use Rattle.kw_reads.specs.Readers.{IsDue, IsNoted, IsReady, IsMarkOf, IsInHand, 
 use Rattle.kw_reads.specs.Inv.{Inv}
 use Rattle.kw_core.proofs.Steps.{announced_within}
 use Rattle.kw_puts.proofs.Owners.{true_false}
-use Rattle.kw_core.proofs.Arrows.{builds, NextLook, looks, lists, sees_stamped, sees_neither, is_gone_by, helps, finds_stamped, finds_other, NextLeftOver, goes_to_left_over, answers, ends_scan, scans_on, Arrow, list_leads, list_ends, key_below, key_within, key_above, loads_version, gathers_listed, left_over_wanted, left_over_gone_by, gathers_left_over, begins_at_first, begins_behind, first_ends, first_leads}
+use Rattle.kw_core.proofs.Arrows.{builds, NextLook, looks, lists, sees_stamped, sees_neither, is_gone_by, helps, finds_stamped, finds_other, NextLeftOver, goes_to_left_over, answers, ends_scan, scans_on, Arrow, list_leads, list_ends, key_below, key_within, key_above, loads_version, gathers_listed, left_over_wanted, left_over_gone_by, gathers_left_over, begins_at_first, begins_behind, first_ends, first_leads, asks_of_pin}
 use Rattle.kw_core.proofs.Happens.{Happens}
 use Rattle.kw_core.proofs.InRange.{least_holds}
 use Rattle.kw_core.proofs.Marks.{marked_other, least_none, contains_new, contains_old}
@@ -48,6 +48,7 @@ use Rattle.kw_reads.proofs.BuiltReads.{after_rests, rebalance_next, taking_reads
 use Rattle.kw_puts.proofs.CellsOf.{cell_key, cell_value, cell_within}
 use Rattle.kw_reads.proofs.LooksKeep.{goes, looks_by, marks_after, within}
 use Rattle.kw_reads.proofs.WalksKeep.{link_reads, link_loads, row_linked, row_linked_on, row_left, row_sound, walking_after, walks_before, walks_after, link_loaded, cell_next}
+use Rattle.kw_shape.proofs.AfterBuilding.{no_call_of_pin}
 
 -- the walk along the list is over: each attempt that is due is stamped, and is gathered, or the
 -- cell that stands for it is remembered still
@@ -354,6 +355,7 @@ reads_gathered {z} {r} {r'} {s} {choice} {l} {l'} h i k m at row call link marks
 pub reads_by : (z : Sizes) (r r' : Run) (s : ℕ) (choice : Choice) (l : Local) (a : Activity) (l' : Local) → Arrow z (word z r.world) s choice l a l' → Happens z r r' s choice l l' a → Inv z r → Below z r' → IsTaking l'.activity → Reads (list_in (word z r'.world) r'.listed l'.row) r'.history r'.origin l'.activity l' (r'.seats s)
 reads_by z r r' s choice l (Activity.Rebalance b) l' x h i k p = after_rests l'.activity (rebalance_next z (word z r.world) s choice l b l' x) (inr p)
 reads_by z r r' s choice l a l' (builds b next y t) h i k p = absurd y
+reads_by z r r' s choice l a l' (asks_of_pin next o n) h i k p = no_call_of_pin _ h i.shape o
 reads_by z r r' s choice l _ _ (first_leads c e) h i k p = subst (Reads (list_in (word z r'.world) r'.listed l.row) r'.history r'.origin (Activity.Read Read.Key) _) (sym h.log) (reads_reached h i tt k c e _ refl refl refl refl)
 reads_by z r r' s choice l _ _ (list_leads c e) h i k p = subst (Reads (list_in (word z r'.world) r'.listed l.row) r'.history r'.origin (Activity.Read Read.Key) _) (sym h.log) (reads_reached h i tt k c e _ refl refl refl refl)
 reads_by z r r' s choice l _ _ (first_ends next e n) h i k p = subst (Reads _ r'.history r'.origin next.activity next) (sym h.log) (reads_next _ r'.history r'.origin l next (r.seats s) n (left_at_end h i tt k e) (marks_after h i (inr tt)) p)

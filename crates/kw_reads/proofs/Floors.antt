@@ -2,7 +2,7 @@
 -- as long as the call walks and reads.
 use Rattle.std.proofs.Common.{ℕ, ◌≡◌, ◌<◌, Bool, true, false, Option, Some, None, refl, ◌∙◌, ap, length, slice_get, if◌then◌else◌}
 use Rattle.kw_model.specs.declared.call.Call.{Call}
-use Rattle.kw_model.specs.declared.call.Call.TheVariants.{Put, Del, Get, Scan}
+use Rattle.kw_model.specs.declared.call.Call.TheVariants.{Put, Del, Get, Scan, Pin, ScanAt, Unpin}
 use Rattle.kw_world.specs.declared.activity.Activity.{Activity}
 use Rattle.kw_world.specs.declared.activity.walk.Walk.TheVariants as Walk
 use Rattle.kw_world.specs.declared.event.Choice.{Choice}
@@ -15,7 +15,7 @@ use Rattle.kw_core.specs.Stages.{HasDrawn, IsBusy, IsUnderway}
 use Rattle.kw_core.specs.Step.{Step}
 use Rattle.kw_core.specs.Words.{Words}
 use Rattle.kw_core.specs.declared.seat_log.SeatLog.{SeatLog}
-use Rattle.kw_core.proofs.Arrows.{Arrow, builds}
+use Rattle.kw_core.proofs.Arrows.{Arrow, builds, asks_of_pin}
 use Rattle.kw_core.proofs.Happens.{Happens, log_entry}
 use Rattle.kw_core.proofs.SeatLogs.{IsNoDraw}
 use Rattle.kw_core.proofs.Steps.{stands_before}
@@ -27,6 +27,7 @@ use Rattle.kw_reads.specs.Inv.{Inv, lower}
 use Rattle.kw_reads.proofs.HistoryKeeps.{history_step}
 use Rattle.kw_reads.proofs.Later.{after_rebalance}
 use Rattle.kw_reads.proofs.BuiltReads.{rebalance_next}
+use Rattle.kw_puts.proofs.BuiltStages.{of_pin_is}
 
 -- the seat is about to walk, walks, or is at its row
 abbrev pub IsOnWay : Activity → Type 0
@@ -45,6 +46,9 @@ not_scan (Some (Put key value)) x e = let y : false ≡ true = e in absurd (cc)
 not_scan (Some (Del key)) x e = let y : false ≡ true = e in absurd (cc)
 not_scan (Some (Get key)) x e = absurd x
 not_scan (Some (Scan from upto)) x e = absurd x
+not_scan (Some Pin) x e = absurd x
+not_scan (Some (ScanAt from upto)) x e = absurd x
+not_scan (Some Unpin) x e = absurd x
 not_scan None x e = absurd x
 
 -- a scan that is on its way has drawn
@@ -60,6 +64,7 @@ way_draws _ l x k e = absurd x
 pub row_from : (z : Sizes) (v : Words) (s : ℕ) (choice : Choice) (l : Local) (a : Activity) (k : Local) → Arrow z v s choice l a k → HasRow k.activity → IsOnWay a × IsUnderway a × IsNoDraw a
 row_from z v s choice l (Activity.Rebalance b) k u x = after_rebalance k.activity (rebalance_next z v s choice l b k u) x
 row_from z v s choice l a k (builds b next y t) x = absurd y
+row_from z v s choice l a k (asks_of_pin next o n) x = absurd (of_pin_is (λ b. HasRow b → ⊥) (λ y. y) (λ y. y) (λ y. y) (λ y. y) (λ y. y) (λ y. y) n x)
 row_from z v s choice l (Activity.Walk _) k b x = (tt, tt, tt)
 row_from z v s choice l (Activity.Look _) k b x = (tt, tt, tt)
 row_from z v s choice l (Activity.Read _) k b x = (tt, tt, tt)

@@ -100,7 +100,7 @@ module _ (z : Sizes) (r : Run) (i : Inv z r) (c : Contents z r) (t : ℕ) (l : L
       seat = omega (arith, slice_get_within r.world.locals t l k, i.shape.sane.seats)
 
       saw : (b : Bool) → is_scan l.call ≡ b → Needed z r (if b then l.version else NEWEST)
-      saw true e = inr (t, has_drawn seat ((i.positions.draws t l k).settled e (subst IsSettled (sym at) tt)))
+      saw true e = inr (t, inl (has_drawn seat ((i.positions.draws t l k).settled e (subst IsSettled (sym at) tt))))
       saw false e = inl (omega (arith, (i.shape.sane.each name.Clock tt).1))
 
   at_row : IsAtItsRow (word z r.world) r.ledger.rows t l

@@ -13,7 +13,7 @@ use Rattle.kw_core.specs.Run.{Origins, Run, seat_after}
 use Rattle.kw_core.specs.Stages.{IsAtRow, IsReading, IsUnderway}
 use Rattle.kw_core.specs.Words.{Words}
 use Rattle.kw_core.specs.declared.seat_log.SeatLog.{SeatLog}
-use Rattle.kw_core.proofs.Arrows.{Arrow, NextLeftOver, goes_to_left_over, answers, ends_scan, scans_on, builds, reads_last, reads_before, list_ends, key_above, left_over_gone_by, gathers_left_over, first_ends}
+use Rattle.kw_core.proofs.Arrows.{Arrow, NextLeftOver, goes_to_left_over, answers, ends_scan, scans_on, builds, reads_last, reads_before, list_ends, key_above, left_over_gone_by, gathers_left_over, first_ends, asks_of_pin}
 use Rattle.kw_core.proofs.Happens.{Happens, each_seat}
 use Rattle.kw_core.proofs.SeatLogs.{IsNoDraw}
 use Rattle.kw_shape.proofs.LinkedRows.{fresh_linked}
@@ -26,6 +26,7 @@ use Rattle.kw_reads.proofs.HistoryKeeps.{history_step}
 use Rattle.kw_reads.proofs.Later.{after_rebalance}
 use Rattle.kw_reads.proofs.BuiltReads.{rebalance_next}
 use Rattle.kw_reads.proofs.Relying.{rely}
+use Rattle.kw_puts.proofs.BuiltStages.{of_pin_is}
 
 -- a reader is at its row
 pub reading_row : (a : Activity) → IsReading a → HasRow a × IsAtRow a × IsOnWay a
@@ -64,6 +65,7 @@ left_over_from l m k a x row call version (scans_on q e f n o) y = absurd y
 reading_from : (z : Sizes) (v : Words) (s : ℕ) (choice : Choice) (l : Local) (a : Activity) (k : Local) → Arrow z v s choice l a k → IsReading k.activity → FromReading l a k
 reading_from z v s choice l (Activity.Rebalance b) k u x = after_rebalance k.activity (rebalance_next z v s choice l b k u) (reading_row k.activity x).0
 reading_from z v s choice l a k (builds b next y t) x = absurd y
+reading_from z v s choice l a k (asks_of_pin next o n) x = absurd (of_pin_is (λ b. IsReading b → ⊥) (λ y. y) (λ y. y) (λ y. y) (λ y. y) (λ y. y) (λ y. y) n x)
 reading_from z v s choice l a k (reads_last f n) x = absurd (omega (arith, x))
 reading_from z v s choice l a k (reads_before f w) x = absurd (omega (arith, x))
 reading_from z v s choice l a k (first_ends next e n) x = left_over_from l _ next (Activity.Read Read.Start) tt refl refl refl n x

@@ -16,8 +16,8 @@ use Rattle.kw_core.specs.Noted.{MayNote}
 use Rattle.kw_core.specs.Step.{Step}
 use Rattle.kw_words.proofs.Refusals.{none_unless}
 use Rattle.kw_model.specs.declared.call.Call.{Call}
-use Rattle.kw_model.specs.declared.call.Call.TheVariants.{Put, Del, Get, Scan}
-use Rattle.kw_world.specs.declared.answer.Answer.TheVariants.{Done, Value, Absent, Pairs, NoRows, Spent, Stopped}
+use Rattle.kw_model.specs.declared.call.Call.TheVariants.{Put, Del, Get, Scan, Pin, ScanAt, Unpin}
+use Rattle.kw_world.specs.declared.answer.Answer.TheVariants.{Done, Value, Absent, Pairs, NoRows, Spent, Stopped, Held, NotPinned}
 use Rattle.kw_world.specs.Calls.{first_key, last_key, put_value, is_scan}
 use Rattle.kw_core.specs.declared.history.Drawn.{Drawn}
 use Rattle.kw_core.specs.History.{LoadClock}
@@ -72,6 +72,8 @@ module _ (z : Sizes) (r r' : Run) (s : ℕ) (choice : Choice) (l l' : Local) (i 
   answers_call (Put key value) Absent pairs put f d n = absurd f
   answers_call (Put key value) Pairs pairs put f d n = absurd f
   answers_call (Put key value) Stopped pairs put f d n = absurd f
+  answers_call (Put key value) Held pairs put f d n = absurd f
+  answers_call (Put key value) NotPinned pairs put f d n = absurd f
   answers_call (Del key) Done pairs put f d n = d tt
   answers_call (Del key) NoRows pairs put f d n = none_unless put (λ p e. n p e)
   answers_call (Del key) Spent pairs put f d n = none_unless put (λ p e. n p e)
@@ -79,6 +81,8 @@ module _ (z : Sizes) (r r' : Run) (s : ℕ) (choice : Choice) (l l' : Local) (i 
   answers_call (Del key) Absent pairs put f d n = absurd f
   answers_call (Del key) Pairs pairs put f d n = absurd f
   answers_call (Del key) Stopped pairs put f d n = absurd f
+  answers_call (Del key) Held pairs put f d n = absurd f
+  answers_call (Del key) NotPinned pairs put f d n = absurd f
   answers_call (Get key) Done pairs put f d n = absurd f
   answers_call (Get key) NoRows pairs put f d n = absurd f
   answers_call (Get key) Spent pairs put f d n = absurd f
@@ -86,6 +90,8 @@ module _ (z : Sizes) (r r' : Run) (s : ℕ) (choice : Choice) (l l' : Local) (i 
   answers_call (Get key) Absent pairs put f d n = tt
   answers_call (Get key) Pairs pairs put f d n = absurd f
   answers_call (Get key) Stopped pairs put f d n = absurd f
+  answers_call (Get key) Held pairs put f d n = absurd f
+  answers_call (Get key) NotPinned pairs put f d n = absurd f
   answers_call (Scan from upto) Done pairs put f d n = absurd f
   answers_call (Scan from upto) NoRows pairs put f d n = absurd f
   answers_call (Scan from upto) Spent pairs put f d n = tt
@@ -93,6 +99,11 @@ module _ (z : Sizes) (r r' : Run) (s : ℕ) (choice : Choice) (l l' : Local) (i 
   answers_call (Scan from upto) Absent pairs put f d n = absurd f
   answers_call (Scan from upto) Pairs pairs put f d n = tt
   answers_call (Scan from upto) Stopped pairs put f d n = tt
+  answers_call (Scan from upto) Held pairs put f d n = absurd f
+  answers_call (Scan from upto) NotPinned pairs put f d n = absurd f
+  answers_call Pin answer pairs put f d n = absurd f
+  answers_call (ScanAt from upto) answer pairs put f d n = absurd f
+  answers_call Unpin answer pairs put f d n = absurd f
 
 -- a call of this kind makes the attempt
 makes_call : (c : Call) → IsPutCall (Some c) → Makes c (first_key (Some c)) (put_value (Some c))
@@ -100,6 +111,9 @@ makes_call (Put key value) h = (refl, refl)
 makes_call (Del key) h = (refl, refl)
 makes_call (Get key) h = absurd h
 makes_call (Scan from upto) h = absurd h
+makes_call Pin h = absurd h
+makes_call (ScanAt from upto) h = absurd h
+makes_call Unpin h = absurd h
 
 -- pairs below a bound lie up to the number before it
 rises_within : (low upto : ℕ) (pairs : List (ℕ × ℕ)) → RisesBelow low (upto + 1) pairs → RisesWithin low upto pairs
@@ -124,6 +138,11 @@ may_end z r s l i k (Scan from upto) Absent a e = tt
 may_end z r s l i k (Scan from upto) NoRows a e = tt
 may_end z r s l i k (Scan from upto) Spent a e = tt
 may_end z r s l i k (Scan from upto) Stopped a e = tt
+may_end z r s l i k (Scan from upto) Held a e = tt
+may_end z r s l i k (Scan from upto) NotPinned a e = tt
+may_end z r s l i k Pin answer a e = tt
+may_end z r s l i k (ScanAt from upto) answer a e = tt
+may_end z r s l i k Unpin answer a e = tt
 
 -- pairs are the answer of a scan
 pairs_of_scan : (c : Option Call) → IsAnswerOf c Pairs → is_scan c ≡ true
@@ -131,6 +150,9 @@ pairs_of_scan (Some (Put key value)) h = absurd h
 pairs_of_scan (Some (Del key)) h = absurd h
 pairs_of_scan (Some (Get key)) h = absurd h
 pairs_of_scan (Some (Scan from upto)) h = refl
+pairs_of_scan (Some Pin) h = absurd h
+pairs_of_scan (Some (ScanAt from upto)) h = absurd h
+pairs_of_scan (Some Unpin) h = absurd h
 pairs_of_scan None h = absurd h
 
 -- where a scan that ends with pairs drew
@@ -147,6 +169,8 @@ may_draw z r s l i k Absent a d e = let x : None ≡ Some d = e in absurd (cc)
 may_draw z r s l i k NoRows a d e = let x : None ≡ Some d = e in absurd (cc)
 may_draw z r s l i k Spent a d e = let x : None ≡ Some d = e in absurd (cc)
 may_draw z r s l i k Stopped a d e = let x : None ≡ Some d = e in absurd (cc)
+may_draw z r s l i k Held a d e = let x : None ≡ Some d = e in absurd (cc)
+may_draw z r s l i k NotPinned a d e = let x : None ≡ Some d = e in absurd (cc)
 
 -- the change of every event may happen there
 may_make : (z : Sizes) (r r' : Run) (s : ℕ) (choice : Choice) (l : Local) (a : Activity) (l' : Local) (c : Change) → changes.Makes z (word z r.world) s choice l (r.seats s) r.origin a c → Happens z r r' s choice l l' a → Inv z r →

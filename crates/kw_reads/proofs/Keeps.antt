@@ -11,7 +11,7 @@ use Rattle.kw_puts.specs.Below.{Below}
 use Rattle.kw_reads.specs.Contents.{Contents}
 use Rattle.kw_reads.specs.Inv.{Inv, lower}
 use Rattle.kw_reads.proofs.FrontsKeep.{front_keeps}
-use Rattle.kw_reads.proofs.RowsKept.{borns_keeps, over_keeps, past_keeps, inside_keeps, older_keeps, kept_keeps, dead_keeps, needs_keeps}
+use Rattle.kw_reads.proofs.RowsKept.{borns_keeps, over_keeps, past_keeps, inside_keeps, older_keeps, unpinned_keeps, kept_keeps, dead_keeps, needs_keeps}
 use Rattle.kw_reads.proofs.LaterKeeps.{later_keeps}
 use Rattle.kw_world.specs.declared.event.Event.{Event}
 use Rattle.kw_world.specs.declared.opening.Opening.{Opening}
@@ -33,6 +33,7 @@ contents_keep z r r' s choice l a l' h i after = record {
   past = past_keeps z r r' s choice l a l' h i after;
   inside = inside_keeps z r r' s choice l a l' h i after;
   older = older_keeps z r r' s choice l a l' h i after;
+  unpinned = unpinned_keeps z r r' s choice l a l' h i after;
   kept = kept_keeps z r r' s choice l a l' h i after;
   dead = dead_keeps z r r' s choice l a l' h i after;
   later = later_keeps z r r' s choice l a l' h i after i.contents;

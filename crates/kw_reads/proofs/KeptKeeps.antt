@@ -34,7 +34,7 @@ use Rattle.kw_kept.proofs.StampKept.{stamp_kept}
 use Rattle.kw_puts.specs.Below.{Below}
 use Rattle.kw_puts.proofs.Rely.{SameAttempt}
 use Rattle.kw_puts.proofs.RelyProof.{goes_on_by}
-use Rattle.kw_reads.specs.Contents.{Contents, InRow, IsHolding, IsOlder, Needed, Needs, Through, has_drawn, is_held, is_helped, puts_of, rows_of}
+use Rattle.kw_reads.specs.Contents.{Contents, InRow, IsHolding, IsOlder, Needed, Needs, Through, has_drawn, is_held, is_helped, ThroughPin, puts_of, rows_of}
 use Rattle.kw_shape.proofs.LinkedRows.{ComesNow, FreesNow, GoesNow, linked_before, linked_fate, linked_keeps, rows_live}
 use Rattle.kw_reads.proofs.NewRows.{held_by_group}
 use Rattle.kw_reads.proofs.Rebuilt.{is_rebuilt}
@@ -74,7 +74,7 @@ module _ {z : Sizes} {r r' : Run} {s : ℕ} {choice : Choice} {l l' : Local} (a 
 
 -- what is needed is listed, or at least all versions of the group
 need_covered : (z : Sizes) (r : Run) (l : Local) (n : Needs z r (Activity.Rebalance (Rebalance.Replace Replace.Exchange)) l) (u : ℕ) → Needed z r u → Contains l.rebalance.needed u ⊎ (n.most ≤ u)
-need_covered z r l n u m = all_covered (word z r.world name.Clock) (Through z r) (λ j. j < z.seats) (Contains l.rebalance.needed) n.most u n.reached within n.covered m
+need_covered z r l n u m = all_covered (word z r.world name.Clock) (Through z r) (ThroughPin z r) (λ j. j < z.seats) (λ j. (j < z.seats) × (j < z.seats)) (Contains l.rebalance.needed) n.most u n.reached within (λ j v t. (t.0, t.0)) n.covered n.pinned m
   where
     within : (j v : ℕ) → Through z r j v → j < z.seats
     within j v (has_drawn o w) = o

@@ -14,7 +14,7 @@ use Rattle.kw_world.specs.Sizes.{Sizes}
 use Rattle.kw_world.specs.Transition.{row_or_first}
 use Rattle.kw_core.specs.Stages.{IsAtRow}
 use Rattle.kw_core.specs.Words.{Words, next_in}
-use Rattle.kw_core.proofs.Arrows.{Arrow, starts_at_head, guesses, takes_head, guess_serves, puts_in_last, reads_last, reaches_next, walks_on, puts_before, reads_before, sees_pending, sees_stamped, sees_neither, is_wanted, is_gone_by, loads_to_help, helps, finds_stamped, finds_other, list_leads, list_ends, key_below, key_within, key_above, loads_version, gathers_listed, left_over_wanted, left_over_gone_by, gathers_left_over, finds_room, takes_cell, stores_key, stores_value, announces, loads_clock, stamps, is_stamped, stores_version, reaches_cell, sees_none, key_before, key_same, key_after, version_before, version_after, stores_after, inserts, loses, NextLook, looks, lists, NextLeftOver, goes_to_left_over, answers, ends_scan, scans_on, builds, begins_at_first, begins_behind, first_ends, first_leads, first_reaches, first_sees_none, inserts_at_first, inserts_behind}
+use Rattle.kw_core.proofs.Arrows.{Arrow, starts_at_head, guesses, takes_head, guess_serves, puts_in_last, reads_last, reaches_next, walks_on, puts_before, reads_before, sees_pending, sees_stamped, sees_neither, is_wanted, is_gone_by, loads_to_help, helps, finds_stamped, finds_other, list_leads, list_ends, key_below, key_within, key_above, loads_version, gathers_listed, left_over_wanted, left_over_gone_by, gathers_left_over, finds_room, takes_cell, stores_key, stores_value, announces, loads_clock, stamps, is_stamped, stores_version, reaches_cell, sees_none, key_before, key_same, key_after, version_before, version_after, stores_after, inserts, loses, NextLook, looks, lists, NextLeftOver, goes_to_left_over, answers, ends_scan, scans_on, builds, begins_at_first, begins_behind, first_ends, first_leads, first_reaches, first_sees_none, inserts_at_first, inserts_behind, asks_of_pin}
 use Rattle.kw_rows.specs.Ledger.{Dead, IsDead, IsFresh, IsHeld, IsLive, Ledger, Live}
 use Rattle.kw_rows.specs.Rows.{Closed}
 use Rattle.kw_rows.specs.Structure.{Structure}
@@ -23,6 +23,7 @@ use Rattle.kw_shape.specs.RowsIn.{rows_in, state_seen}
 use Rattle.kw_shape.specs.Shape.{Walks}
 use Rattle.kw_reads.specs.Contents.{HasCandidate, HasRow, IsLater, IsSince}
 use Rattle.kw_reads.proofs.BuiltReads.{IsAfterRebalance, rebalance_next}
+use Rattle.kw_puts.proofs.BuiltStages.{of_pin_is}
 
 -- Along the arrows; the ledger is that before the event.
 
@@ -104,6 +105,7 @@ later_by z v g s choice l (Activity.Rebalance b) l' d u c k w =
     let x = rebalance_next z v s choice l b l' u in
     record { row = λ q. after_rebalance l'.activity x q; saw = λ q. after_rebalance l'.activity x (candidate_has l'.activity q); next = λ q. after_rebalance l'.activity x (at_row_has l'.activity q) }
 later_by z v g s choice l a l' d (builds b next y t) c k w = absurd y
+later_by z v g s choice l a l' d (asks_of_pin next o n) c k w = nowhere g d next.activity next (of_pin_is (λ b. HasRow b → ⊥) (λ y. y) (λ y. y) (λ y. y) (λ y. y) (λ y. y) (λ y. y) n) (of_pin_is (λ b. HasCandidate b → ⊥) (λ y. y) (λ y. y) (λ y. y) (λ y. y) (λ y. y) (λ y. y) n) (of_pin_is (λ b. IsAtRow b → ⊥) (λ y. y) (λ y. y) (λ y. y) (λ y. y) (λ y. y) (λ y. y) n)
 later_by z v g s choice l a l' d starts_at_head c k w = in_list g d (Activity.Walk Walk.Next) _ (subst (IsLive g) (sym (ap row_or_first c.chain.leads)) c.chain.first_live) (λ x. x) (λ x. x)
 later_by z v g s choice l a l' d takes_head c k w = in_list g d (Activity.Walk Walk.Next) _ (subst (IsLive g) (sym (ap row_or_first c.chain.leads)) c.chain.first_live) (λ x. x) (λ x. x)
 later_by z v g s choice l a l' d (guesses q y n) c k w = in_list g d (Activity.Walk Walk.GuessedLeast) _ (normal_live (rows_in v) g q c.states (ap state_seen n)) (λ x. x) (λ x. x)

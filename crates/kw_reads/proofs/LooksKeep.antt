@@ -22,7 +22,7 @@ use Rattle.kw_world.specs.Sizes.{Sizes}
 use Rattle.kw_world.specs.Step.{word}
 use Rattle.kw_world.specs.WriteTransitions.{infant_cells}
 use Rattle.kw_core.specs.Run.{Origins, Run, copied, with_copy, with_origin}
-use Rattle.kw_core.proofs.Arrows.{eq_from, builds, NextLook, looks, lists, NextLeftOver, goes_to_left_over, answers, ends_scan, scans_on, Arrow, reads_last, reads_before, sees_pending, sees_stamped, sees_neither, is_wanted, is_gone_by, loads_to_help, helps, finds_stamped, finds_other, list_leads, list_ends, key_below, key_within, key_above, loads_version, gathers_listed, left_over_wanted, left_over_gone_by, gathers_left_over, begins_at_first, begins_behind, first_ends, first_leads}
+use Rattle.kw_core.proofs.Arrows.{eq_from, builds, NextLook, looks, lists, NextLeftOver, goes_to_left_over, answers, ends_scan, scans_on, Arrow, reads_last, reads_before, sees_pending, sees_stamped, sees_neither, is_wanted, is_gone_by, loads_to_help, helps, finds_stamped, finds_other, list_leads, list_ends, key_below, key_within, key_above, loads_version, gathers_listed, left_over_wanted, left_over_gone_by, gathers_left_over, begins_at_first, begins_behind, first_ends, first_leads, asks_of_pin}
 use Rattle.kw_core.proofs.Happens.{Happens, exchanged, not_exchanged}
 use Rattle.kw_core.proofs.RoomBelow.{room_below}
 use Rattle.kw_reads.specs.Inv.{Inv, lower}
@@ -54,6 +54,7 @@ use Rattle.kw_reads.proofs.Ready.{KeepsListed, RecordStays, looks_last, marks_la
 use Rattle.kw_reads.proofs.WalksKeep.{row_linked, row_linked_on}
 use Rattle.kw_puts.specs.Below.{Below}
 use Rattle.kw_reads.proofs.EntrySays.{EntrySays, is_listed, is_pending, is_stamped, listed_ready, entry_says, stamped_owner}
+use Rattle.kw_shape.proofs.AfterBuilding.{no_call_of_pin}
 
 -- where one cell more stands for an attempt, it is this one or one that did so before
 set_within : (n : ℕ) (o : Origins) (r c : ℕ) (x : Option ℕ) → c < n → ((q d p : ℕ) → o q d ≡ Some p → d < n) → (q d p : ℕ) → with_copy o r c x q d ≡ Some p → d < n
@@ -233,6 +234,7 @@ module _ {z : Sizes} {r r' : Run} {s : ℕ} {choice : Choice} {l l' : Local} (h 
 pub marks_by : (z : Sizes) (r r' : Run) (s : ℕ) (choice : Choice) (l : Local) (a : Activity) (l' : Local) → Arrow z (word z r.world) s choice l a l' → Happens z r r' s choice l l' a → Inv z r → Below z r' → IsLooking l'.activity ⊎ IsTaking l'.activity → All (IsMarkOf r'.history r'.origin l'.row) l'.remembered
 marks_by z r r' s choice l (Activity.Rebalance b) l' x h i k p = after_rests l'.activity (rebalance_next z (word z r.world) s choice l b l' x) p
 marks_by z r r' s choice l a l' (builds b next y t) h i k p = absurd y
+marks_by z r r' s choice l a l' (asks_of_pin next o n) h i k p = no_call_of_pin _ h i.shape o
 marks_by z r r' s choice l _ _ (reads_last f n) h i k p = All-nil (IsMarkOf r'.history r'.origin l.row)
 marks_by z r r' s choice l _ _ (reads_before f w) h i k p = All-nil (IsMarkOf r'.history r'.origin l.row)
 marks_by z r r' s choice l _ _ (sees_pending j c e) h i k p = marks_after h i (inl tt)
@@ -281,6 +283,7 @@ pub looks_by : (z : Sizes) (r r' : Run) (s : ℕ) (choice : Choice) (l : Local) 
 looks_by z r r' s choice l (Activity.Rebalance b) l' x h i k (inl p) = after_rests l'.activity (rebalance_next z (word z r.world) s choice l b l' x) (inl p)
 looks_by z r r' s choice l (Activity.Rebalance b) l' x h i k (inr p) = absurd p
 looks_by z r r' s choice l a l' (builds b next y t) h i k p = absurd y
+looks_by z r r' s choice l a l' (asks_of_pin next o n) h i k p = no_call_of_pin _ h i.shape o
 looks_by z r r' s choice l _ _ (reads_last f n) h i k p = record { past = λ c p d w. absurd (omega (arith, w)); here = λ m. absurd m }
 looks_by z r r' s choice l _ _ (reads_before f w) h i k p = record { past = λ c p d w. absurd (omega (arith, w)); here = λ m. absurd m }
 looks_by z r r' s choice l _ _ (sees_pending j d e) h i k p = record {

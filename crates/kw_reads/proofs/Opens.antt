@@ -15,7 +15,7 @@ use Rattle.kw_reads.specs.Readers.{IsMarkOf, Looks, ReadsList, Reads, Gathers, A
 use Rattle.kw_reads.specs.Replies.{HasPairs, IsAnswered, Replies}
 use Rattle.kw_reads.specs.Contents.{Contents, IsFronted, IsLater, floor_of, version_of}
 use Rattle.kw_reads.specs.Inv.{Inv}
-use Rattle.kw_reads.proofs.RowsKept.{borns_start, over_start, past_start, inside_start, older_start, kept_start, dead_start, needs_start}
+use Rattle.kw_reads.proofs.RowsKept.{borns_start, over_start, past_start, inside_start, older_start, unpinned_start, kept_start, dead_start, needs_start}
 use Rattle.kw_core.proofs.NotedLaws.{nothing_keeps}
 use Rattle.kw_shape.proofs.ShapeOpens.{each_rests, shape_starts}
 use Rattle.kw_shape.specs.Shape.{IsPutCall}
@@ -43,6 +43,7 @@ module _ (z : Sizes) (o : Opening) (i : IsOpening z o) where
     past = past_start z o i;
     inside = inside_start z o i;
     older = older_start z o i;
+    unpinned = unpinned_start z o i;
     kept = kept_start z o i;
     dead = dead_start z o i;
     later = each_rests z o (λ t l. IsLater (start z o).ledger.rows (floor_of (start z o) t l) l.activity l) (λ t. record { row = λ x. absurd x; saw = λ x. absurd x; next = λ x. absurd x });

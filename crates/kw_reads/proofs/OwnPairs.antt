@@ -4,8 +4,8 @@ use Rattle.std.proofs.Common.{ℕ, ◌≡◌, ◌⊎◌, inl, inr, ◌+◌, ◌<
 use Rattle.kw_cells.specs.Cells.{shown_at, pairs_of}
 use Rattle.kw_world.proofs.Replies.{reply_of-found}
 use Rattle.kw_model.specs.declared.call.Call.{Call}
-use Rattle.kw_model.specs.declared.call.Call.TheVariants.{Put, Del, Get, Scan}
-use Rattle.kw_world.specs.declared.answer.Answer.TheVariants.{Done, Value, Absent, Pairs, NoRows, Spent, Stopped}
+use Rattle.kw_model.specs.declared.call.Call.TheVariants.{Put, Del, Get, Scan, Pin, ScanAt, Unpin}
+use Rattle.kw_world.specs.declared.answer.Answer.TheVariants.{Done, Value, Absent, Pairs, NoRows, Spent, Stopped, Held, NotPinned}
 use Rattle.kw_world.specs.declared.answer.Answer.{Answer}
 use Rattle.kw_world.specs.Answers.{answer_found}
 use Rattle.kw_world.specs.declared.activity.Activity.{Activity}
@@ -50,6 +50,7 @@ use Rattle.kw_core.proofs.Happens.{log_entry}
 use Rattle.kw_reads.specs.Inv.{lower}
 use Rattle.kw_reads.proofs.HistoryKeeps.{history_step}
 use Rattle.kw_reads.proofs.ReadersKeep.{Before}
+use Rattle.kw_shape.proofs.AfterBuilding.{kind_at}
 
 -- what a scan gave lasts
 pub covers_last : (h h' : History) (from version drawn bound : ℕ) (pairs : List (ℕ × ℕ)) → Grows h h' (length h.log) → drawn ≤ length h.log → Covers h from version drawn bound pairs → Covers h' from version drawn bound pairs
@@ -160,7 +161,7 @@ module _ (z : Sizes) (r r' : Run) (s : ℕ) (choice : Choice) (l : Local) (a : A
   }
     where
       covering : is_scan l'.call ≡ true → IsCovering l'.activity → IsCovering a
-      covering f x = which (settled_from z (word z r.world) s choice l a l' b f (covering_settled l'.activity x))
+      covering f x = which (settled_from z (word z r.world) s choice l a l' b (kind_at a h i.inv.shape) f (covering_settled l'.activity x))
         where
           which : IsCovering a ⊎ IsSettling a → IsCovering a
           which (inl y) = y
@@ -211,6 +212,8 @@ leave_covered h h' l k g answer choice y w c v p x = chosen choice
     kept NoRows x = tt
     kept Spent x = tt
     kept Stopped x = tt
+    kept Held x = tt
+    kept NotPinned x = tt
 
     chosen : (q : Choice) → IsCovered (Activity.Leave (answer_or_stopped answer q)) h' k g
     chosen (Begin call) = kept answer x
@@ -294,6 +297,9 @@ put_answered (Some (Put key value)) answer h l g x = tt
 put_answered (Some (Del key)) answer h l g x = tt
 put_answered (Some (Get key)) answer h l g x = absurd x
 put_answered (Some (Scan from upto)) answer h l g x = tt
+put_answered (Some Pin) answer h l g x = tt
+put_answered (Some (ScanAt from upto)) answer h l g x = tt
+put_answered (Some Unpin) answer h l g x = tt
 put_answered None answer h l g x = tt
 
 -- nor has a scan
@@ -302,6 +308,9 @@ scan_answered (Some (Put key value)) answer h l g x = tt
 scan_answered (Some (Del key)) answer h l g x = tt
 scan_answered (Some (Get key)) answer h l g x = true_false x refl
 scan_answered (Some (Scan from upto)) answer h l g x = tt
+scan_answered (Some Pin) answer h l g x = tt
+scan_answered (Some (ScanAt from upto)) answer h l g x = tt
+scan_answered (Some Unpin) answer h l g x = tt
 scan_answered None answer h l g x = tt
 
 -- nor has a call that is a scan
@@ -310,6 +319,9 @@ scan_call_answered (Some (Put key value)) answer h l g x = tt
 scan_call_answered (Some (Del key)) answer h l g x = tt
 scan_call_answered (Some (Get key)) answer h l g x = absurd x
 scan_call_answered (Some (Scan from upto)) answer h l g x = tt
+scan_call_answered (Some Pin) answer h l g x = tt
+scan_call_answered (Some (ScanAt from upto)) answer h l g x = tt
+scan_call_answered (Some Unpin) answer h l g x = tt
 scan_call_answered None answer h l g x = tt
 
 -- a reader that goes on to a remembered cell, or has read its row
@@ -342,4 +354,7 @@ cell_answered z r r' s choice l a m l' b h i n v x q (answers w e) = which m.cal
     which (Some (Del key)) c = tt
     which (Some (Get key)) c = get key c
     which (Some (Scan from upto)) c = tt
+    which (Some Pin) c = tt
+    which (Some (ScanAt from upto)) c = tt
+    which (Some Unpin) c = tt
     which None c = tt

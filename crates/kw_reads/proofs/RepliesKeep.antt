@@ -7,6 +7,7 @@ use Rattle.kw_world.specs.declared.activity.Activity.{Activity}
 use Rattle.kw_world.specs.declared.activity.look.Look.TheVariants as Look
 use Rattle.kw_world.specs.declared.activity.read.Read.TheVariants as Read
 use Rattle.kw_world.specs.declared.activity.rebalance.engage.Engage.TheVariants as Engage
+use Rattle.kw_world.specs.declared.activity.rebalance.freeze.Freeze.TheVariants as Freeze
 use Rattle.kw_world.specs.declared.activity.rebalance.Rebalance.{Rebalance}
 use Rattle.kw_world.specs.declared.activity.rebalance.Rebalance.TheVariants as Rebalance
 use Rattle.kw_world.specs.declared.activity.walk.Walk.TheVariants as Walk
@@ -14,8 +15,8 @@ use Rattle.kw_world.specs.declared.local.Local.{Local}
 use Rattle.kw_world.specs.declared.event.Choice.{Choice}
 use Rattle.kw_world.specs.Sizes.{Sizes}
 use Rattle.kw_model.specs.declared.call.Call.{Call}
-use Rattle.kw_model.specs.declared.call.Call.TheVariants.{Put, Del, Get, Scan}
-use Rattle.kw_world.specs.declared.answer.Answer.TheVariants.{Done, Value, Absent, Pairs, NoRows, Spent, Stopped}
+use Rattle.kw_model.specs.declared.call.Call.TheVariants.{Put, Del, Get, Scan, Pin, ScanAt, Unpin}
+use Rattle.kw_world.specs.declared.answer.Answer.TheVariants.{Done, Value, Absent, Pairs, NoRows, Spent, Stopped, Held, NotPinned}
 use Rattle.kw_world.specs.Step.{word}
 use Rattle.kw_core.specs.History.{History, called}
 use Rattle.kw_core.specs.Step.{Keeps}
@@ -31,7 +32,7 @@ use Rattle.kw_reads.specs.Contents.{Contents}
 use Rattle.kw_reads.specs.Inv.{Inv}
 use Rattle.kw_core.proofs.Lasts.{get_lasts}
 use Rattle.kw_core.proofs.Happens.{Happens, each_seat}
-use Rattle.kw_core.proofs.Arrows.{builds, Arrow}
+use Rattle.kw_core.proofs.Arrows.{builds, Arrow, asks_of_pin, settles_pin, clears_pin}
 use Rattle.kw_puts.proofs.Rely.{Rely}
 use Rattle.kw_reads.proofs.BuiltReads.{IsAfterRebalance, after_enters, after_pairs, rebalance_goes, rebalance_next}
 use Rattle.kw_reads.proofs.Relying.{rely}
@@ -47,6 +48,7 @@ use Rattle.kw_reads.proofs.Relying.{goes_on_by}
 use Rattle.kw_core.proofs.Arrows.{NextLook, looks, lists, begins, enters, is_spent, settles_empty, settles, stops, sees_stamped, sees_neither, is_gone_by, helps, finds_stamped, finds_other, list_ends, key_above, left_over_gone_by, gathers_left_over, clears_scan, clears, leaves, NextLeftOver, retries, first_ends}
 use Rattle.kw_puts.proofs.OwnScans.{IsAfterRead, after_read}
 use Rattle.kw_reads.proofs.OwnPairs.{covers_last, stays, settled_pairs, no_pairs, leave_covered, cell_pairs, put_answered, scan_answered, scan_call_answered, cell_answered}
+use Rattle.kw_shape.proofs.AfterBuilding.{no_call_of_pin}
 
 -- What survives every event of another seat: it began or drew before the event.
 
@@ -68,6 +70,8 @@ pairs_stable z r r' t k y d n = subst (λ g. HasPairs r'.history k.activity k g)
     ended NoRows x = tt
     ended Spent x = tt
     ended Stopped x = tt
+    ended Held x = tt
+    ended NotPinned x = tt
 
     cleared : (answer : Answer) → IsCovered (Activity.EndScan answer) r.history k (r.seats t) → IsCovered (Activity.EndScan answer) r'.history k (r.seats t)
     cleared Pairs x = covers_last r.history r'.history _ _ _ _ _ y.goes_on.grows d x
@@ -77,6 +81,8 @@ pairs_stable z r r' t k y d n = subst (λ g. HasPairs r'.history k.activity k g)
     cleared NoRows x = tt
     cleared Spent x = tt
     cleared Stopped x = tt
+    cleared Held x = tt
+    cleared NotPinned x = tt
 
     covered : (a : Activity) → IsCovered a r.history k (r.seats t) → IsCovered a r'.history k (r.seats t)
     covered (Activity.Leave answer) x = ended answer x
@@ -159,8 +165,10 @@ arrow_early z v s choice l a k b n x = absurd x
 pub pairs_own : (z : Sizes) (r r' : Run) (s : ℕ) (choice : Choice) (l : Local) (a : Activity) (l' : Local) → Arrow z (word z r.world) s choice l a l' → Happens z r r' s choice l l' a → Before z r r' → Readers z r' → Contents z r' → HasPairs r'.history l'.activity l' (r'.seats s)
 pairs_own z r r' s choice l (Activity.Rebalance b) l' x h i n w = after_pairs r'.history l'.activity l' (r'.seats s) (rebalance_next z (word z r.world) s choice l b l' x)
 pairs_own z r r' s choice l a l' (builds b next y t) h i n w = absurd y
+pairs_own z r r' s choice l a l' (asks_of_pin next o q) h i n w = no_call_of_pin _ h i.inv.shape o
 pairs_own z r r' s choice l a l' (settles_empty e) h i n w = record { early = λ x. absurd x; from = λ f x. absurd x; upto = λ f x. absurd x; covers = λ f x. absurd x; covered = subst (Covers r'.history (first_key l.call) _ (r'.seats s).drawn (last_key l.call + 1)) (sym ((i.inv.replies.pairs s l h.knows).early (subst IsEarly (sym h.activity) tt))) (no_pairs r'.history l.call _ (r'.seats s).drawn e) }
 pairs_own z r r' s choice l a l' (settles e) h i n w = settled_pairs r'.history l _ (r'.seats s) refl refl ((i.inv.replies.pairs s l h.knows).early (subst IsEarly (sym h.activity) tt)) e
+pairs_own z r r' s choice l a l' (settles_pin e) h i n w = record { early = λ x. (i.inv.replies.pairs s l h.knows).early (subst IsEarly (sym h.activity) tt); from = λ f x. absurd x; upto = λ f x. absurd x; covers = λ f x. absurd x; covered = tt }
 pairs_own z r r' s choice l a l' (clears_scan answer) h i n w = record {
   early = λ x. absurd x;
   from = λ f x. absurd x;
@@ -193,6 +201,9 @@ reads_or_puts (Some (Put key value)) x y = absurd x
 reads_or_puts (Some (Del key)) x y = absurd x
 reads_or_puts (Some (Get key)) x y = absurd y
 reads_or_puts (Some (Scan from upto)) x y = absurd y
+reads_or_puts (Some Pin) x y = absurd x
+reads_or_puts (Some (ScanAt from upto)) x y = absurd x
+reads_or_puts (Some Unpin) x y = absurd x
 reads_or_puts None x y = absurd x
 
 left_over_unpaired : {A : Type 0} (l k next : Local) → k.call ≡ l.call → NextLeftOver k next → IsReadCall l.call → IsPutCall next.call → A
@@ -201,6 +212,7 @@ left_over_unpaired l k next e n x y = reads_or_puts l.call x (subst IsPutCall ((
 unpaired_own : (z : Sizes) (r r' : Run) (s : ℕ) (choice : Choice) (l : Local) (a : Activity) (l' : Local) → Arrow z (word z r.world) s choice l a l' → Happens z r r' s choice l l' a → Inv z r → IsPutCall l'.call → l'.pairs ≡ []
 unpaired_own z r r' s choice l (Activity.Rebalance b) l' x h i p = let n = rebalance_goes z (word z r.world) s choice l b l' x in n.pairs ∙ i.replies.unpaired s l h.knows (subst IsPutCall n.call p)
 unpaired_own z r r' s choice l a l' (builds b next y t) h i p = absurd y
+unpaired_own z r r' s choice l a l' (asks_of_pin next o n) h i p = no_call_of_pin _ h i.shape o
 unpaired_own z r r' s choice l a l' (begins call e x) h i p = (i.replies.pairs s l h.knows).early (subst IsEarly (sym h.activity) tt)
 unpaired_own z r r' s choice l a l' (first_ends next e x) h i p = left_over_unpaired l _ next refl x (kind_of z r r' s choice l l' h i) p
 unpaired_own z r r' s choice l a l' (list_ends next e x) h i p = left_over_unpaired l _ next refl x (kind_of z r r' s choice l l' h i) p
@@ -218,6 +230,7 @@ after_answered _ call h l g b p = tt
 -- a call that rebalances is a put or a delete
 rebalance_puts : (b : Rebalance) (l : Local) → IsKind (Activity.Rebalance b) l → IsPutCall l.call
 rebalance_puts (Rebalance.Engage (Engage.Decide count)) l k = k.0
+rebalance_puts (Rebalance.Freeze (Freeze.Pin i)) l k = absurd k
 rebalance_puts _ l k = k
 
 -- the answer of the acting get
@@ -226,10 +239,12 @@ answers_own z r r' s choice l (Activity.Rebalance b) l' x h i n w =
     let g = rebalance_goes z (word z r.world) s choice l b l' x in
     after_answered l'.activity l'.call r'.history l' (r'.seats s) g.next (subst IsPutCall (sym g.call) (rebalance_puts b l (kind_of z r r' s choice l l' h i.inv)))
 answers_own z r r' s choice l a l' (builds b next y t) h i n w = absurd y
+answers_own z r r' s choice l a l' (asks_of_pin next o q) h i n w = no_call_of_pin _ h i.inv.shape o
 answers_own z r r' s choice l a l' (is_spent e) h i n w = scan_call_answered l.call Spent r'.history (leave Spent l).local (r'.seats s) (kind_of z r r' s choice l l' h i.inv)
 answers_own z r r' s choice l a l' (clears_scan answer) h i n w = scan_call_answered l.call (answer_or_stopped answer choice) r'.history (leave (answer_or_stopped answer choice) l).local (r'.seats s) (kind_of z r r' s choice l l' h i.inv).0
 answers_own z r r' s choice l a l' (stops e) h i n w = scan_answered l.call Stopped r'.history (leave Stopped l).local (r'.seats s) (and_parts _ _ (and_parts _ _ e).1).0
 answers_own z r r' s choice l a l' clears h i n w = put_answered l.call Done r'.history (leave Done l).local (r'.seats s) (kind_of z r r' s choice l l' h i.inv)
+answers_own z r r' s choice l a l' clears_pin h i n w = absurd (kind_of z r r' s choice l l' h i.inv)
 answers_own z r r' s choice l a l' (first_ends next e x) h i n w = cell_answered z r r' s choice l _ _ l' (first_ends next e x) h i n w tt (record { call = refl; row = refl; want = refl; next = refl; upper = refl; version = refl; pairs = refl }) x
 answers_own z r r' s choice l a l' (list_ends next e x) h i n w = cell_answered z r r' s choice l _ _ l' (list_ends next e x) h i n w tt (record { call = refl; row = refl; want = refl; next = refl; upper = refl; version = refl; pairs = refl }) x
 answers_own z r r' s choice l a l' (key_above next e x) h i n w = cell_answered z r r' s choice l _ _ l' (key_above next e x) h i n w tt (record { call = refl; row = refl; want = refl; next = refl; upper = refl; version = refl; pairs = refl }) x

@@ -1,8 +1,10 @@
 -- What rows have kept of the stamped puts, over every event and at the opening: each part of it
 -- from the whole invariant.
-use Rattle.std.proofs.Common.{ℕ, zero, suc, ◌≡◌, ◌⊎◌, ◌<◌, true, inl, Option, Some, None, arith, refl, slice_get}
+use Rattle.std.proofs.Common.{ℕ, zero, suc, ◌≡◌, ◌⊎◌, ◌<◌, true, inl, Option, Some, None, arith, refl, sym, ◌∙◌, slice_get}
 use Rattle.kw_words.specs.declared.kind.Kind.{Kind}
 use Rattle.kw_words.specs.declared.layout.Name.TheVariants as name
+use Rattle.kw_words.specs.declared.scan.ScanWord.TheVariants.{Quiet, Drawn}
+use Rattle.kw_words.specs.Scan.{scan_word}
 use Rattle.kw_rows.specs.Ledger.{Dead, Free, IsDead, Live}
 use Rattle.kw_world.specs.declared.activity.Activity.{Activity}
 use Rattle.kw_world.specs.declared.event.Choice.{Choice}
@@ -27,7 +29,7 @@ use Rattle.kw_kept.specs.Kept.{Kept}
 use Rattle.kw_kept.specs.Puts.{Greatest, Same, Shows}
 use Rattle.kw_puts.specs.Below.{Below}
 use Rattle.kw_puts.specs.Here.{IsHere}
-use Rattle.kw_reads.specs.Contents.{Borns, InRow, IsGone, IsOlder, IsPast, IsStanding, Needed, Needs, WasPut, puts_of, rows_of}
+use Rattle.kw_reads.specs.Contents.{Borns, InRow, IsGone, IsOlder, IsPast, IsStanding, Needed, Needs, ThroughPin, WasPut, puts_of, rows_of}
 use Rattle.kw_reads.specs.Inv.{Inv, lower}
 use Rattle.kw_reads.proofs.DeadRows as dead_rows
 use Rattle.kw_reads.proofs.DeadRows.{inside_of, over_of}
@@ -37,6 +39,7 @@ use Rattle.kw_reads.proofs.NeedsKeep.{needs_other, needs_own}
 use Rattle.kw_reads.proofs.PastAttempts as past_attempts
 use Rattle.kw_reads.proofs.RowTimes as row_times
 use Rattle.kw_reads.proofs.RowTimes.{borns_keep}
+use Rattle.kw_reads.proofs.ScanMoves.{pinned_was}
 
 -- Over every event.
 
@@ -64,6 +67,10 @@ module _ (z : Sizes) (r r' : Run) (s : ℕ) (choice : Choice) (l : Local) (a : A
   -- what rows have no cells of
   pub older_keeps : (q p : ℕ) → IsPut r'.history p → IsStanding r' q p → HoldsKey (word z r'.world) r'.ledger.rows q (attempt r'.history p).key → InRow z r' q p ⊎ IsOlder r' q p
   older_keeps = row_times.older_keeps z r r' s choice l a l' h (lower i) step i.contents
+
+  -- no pin is made
+  pub unpinned_keeps : (j u : ℕ) → ThroughPin z r' j u → ⊥
+  unpinned_keeps j u t = i.contents.unpinned j u (pinned_was z r r' s choice l a l' h (lower i) j u t)
 
   -- what the rows of the list show
   pub kept_keeps : Kept (puts_of r'.history) (rows_of z r') (Needed z r')
@@ -122,6 +129,10 @@ module _ (z : Sizes) (o : Opening) (i : IsOpening z o) where
   -- what rows have no cells of
   pub older_start : (q p : ℕ) → IsPut (start z o).history p → IsStanding (start z o) q p → HoldsKey (word z (start z o).world) (start z o).ledger.rows q (attempt (start z o).history p).key → InRow z (start z o) q p ⊎ IsOlder (start z o) q p
   older_start q p x s y = no_put p x
+
+  -- no pin is made
+  pub unpinned_start : (j u : ℕ) → ThroughPin z (start z o) j u → ⊥
+  unpinned_start j u t = let x : scan_word Quiet ≡ scan_word (Drawn u) = sym (opens z o i (name.Pin j) t.0) ∙ t.1 in omega (arith, x)
 
   -- what the rows of the list show
   pub kept_start : Kept (puts_of (start z o).history) (rows_of z (start z o)) (Needed z (start z o))

@@ -1,5 +1,6 @@
--- What is needed through scans only shrinks: over any event a version is newly needed through a
--- seat only if it has just been drawn, and a scan that begins to wait needs none.
+-- What is needed only shrinks: over any event a version is newly needed through the scan of a seat
+-- only if it has just been drawn, and a scan that begins to wait needs none; and what is pinned
+-- stays as it is.
 use Rattle.std.proofs.Common.{ℕ, ◌≡◌, ◌≢◌, ◌⊎◌, inl, inr, ◌<◌, ◌≤◌, Bool, true, false, Option, Some, None, arith, refl, sym, ◌∙◌, ap, subst, slice_get}
 use Rattle.std.proofs.lemmas.Bool.{cases_eq}
 use Rattle.std.proofs.lemmas.Option.{same_Some}
@@ -31,21 +32,23 @@ use Rattle.kw_world.specs.Step.{word}
 use Rattle.kw_world.specs.WalkTransitions.{is_stopped}
 use Rattle.kw_core.specs.Run.{Run}
 use Rattle.kw_core.specs.Words.{Words}
-use Rattle.kw_core.proofs.Arrows.{builds, Arrow, NextLook, looks, lists, NextLeftOver, goes_to_left_over, answers, ends_scan, scans_on, sees_stamped, sees_neither, is_gone_by, helps, finds_stamped, finds_other, list_ends, key_above, left_over_gone_by, gathers_left_over, draws, draws_for, first_ends, freezes_last, keeps_no_more, remembers_last, sees_frozen_last, takes_no_more, decides, marks_led}
+use Rattle.kw_core.proofs.Arrows.{builds, Arrow, NextLook, looks, lists, NextLeftOver, goes_to_left_over, answers, ends_scan, scans_on, sees_stamped, sees_neither, is_gone_by, helps, finds_stamped, finds_other, list_ends, key_above, left_over_gone_by, gathers_left_over, draws, draws_for, first_ends, freezes_last, keeps_no_more, remembers_last, sees_frozen_last, takes_no_more, decides, marks_led, asks_of_pin, looks_at_pin}
 use Rattle.kw_core.proofs.Grouping.{NextFrozen, freezes_ahead, froze_all, NextGathered, gathers_ahead, gathered_all}
-use Rattle.kw_core.proofs.Frame.{no_link, same_scan, unwritten, writes}
+use Rattle.kw_core.proofs.Frame.{no_link, same_scan, unwritten, walk_writes, writes}
 use Rattle.kw_core.proofs.FreezeFrame.{clock_never_falls}
 use Rattle.kw_core.proofs.Happens.{Happens, knows_next, knows_other, exchanged, not_exchanged}
-use Rattle.kw_kept.specs.Needed.{Moves}
+use Rattle.kw_shape.specs.Shape.{IsKind}
+use Rattle.kw_kept.specs.Needed.{Moves, Pins}
 use Rattle.kw_kept.proofs.NeededLists.{needed_was}
-use Rattle.kw_puts.proofs.BuiltStages.{counted_not}
+use Rattle.kw_puts.proofs.BuiltStages.{counted_not, of_pin_is, pin_look_is}
 use Rattle.kw_puts.specs.Below.{Below}
 use Rattle.kw_puts.specs.Positions.{HelpsScan, IsToWait}
 use Rattle.kw_puts.proofs.OwnScans.{goes_on_walk, stopped_clears}
 use Rattle.kw_puts.proofs.Helpers.{ScanStep, is_kept, begins_to_wait, waits_no_more, scan_step}
-use Rattle.kw_reads.specs.Contents.{Through, has_drawn, is_held, is_helped, Needed}
+use Rattle.kw_reads.specs.Contents.{Through, has_drawn, is_held, is_helped, ThroughPin, Needed}
 use Rattle.kw_core.proofs.BuiltNext.{IsAfterBuilding, built_goes}
 use Rattle.kw_puts.proofs.RelyProof.{waits_stay}
+use Rattle.kw_shape.proofs.AfterBuilding.{kind_at}
 
 -- Whoever holds a version for a scan has just drawn it, or held it before.
 
@@ -90,6 +93,8 @@ gathered_holds z l k (gathered_all e) x = absurd x
 -- a seat that holds one has just drawn it
 drawn_now : (z : Sizes) (v : Words) (s : ℕ) (choice : Choice) (l : Local) (a : Activity) (k : Local) → Arrow z v s choice l a k → IsHolder k.activity → held_by k.activity k ≡ v name.Clock
 drawn_now z v s choice l a k (builds b next y t) x = built_holds k.activity (built_goes z v choice l b k t).next x
+drawn_now z v s choice l a k (asks_of_pin next o n) x = absurd (of_pin_is (λ b. IsHolder b → ⊥) (λ y. y) (λ y. y) (λ y. y) (λ y. y) (λ y. y) (λ y. y) n x)
+drawn_now z v s choice l a k (looks_at_pin j next n) x = absurd (pin_look_is (λ b. IsHolder b → ⊥) (λ q y. y) (λ y. y) n x)
 drawn_now z v s choice l a k draws x = refl
 drawn_now z v s choice l a k (draws_for j) x = refl
 drawn_now z v s choice l a k (sees_stamped j c version next e n) x = look_holds z _ next n x
@@ -182,6 +187,43 @@ module _ {z : Sizes} {r r' : Run} {s : ℕ} {choice : Choice} {l l' : Local} whe
   drawn_was (Activity.Rebalance (Rebalance.Write Write.Count)) h i u o w = has_drawn o (sym (unwritten (Activity.Rebalance (Rebalance.Write Write.Count)) h (name.Scan i) o (λ e. cc)) ∙ w)
   drawn_was a h i u o w = has_drawn o (sym (unwritten a h (name.Scan i) o (λ e. cc)) ∙ w)
 
+-- No event writes the word of a pin, since no seat is in a call that would.
+
+-- the link that is exchanged is none
+no_pin_link : (b : Option ℕ) (t : ℕ) → Some (replaced_link b) ≡ Some (name.Pin t) → ⊥
+no_pin_link (Some p) t e = let x : Some (name.Next p) ≡ Some (name.Pin t) = e in cc
+no_pin_link None t e = let x : Some name.Head ≡ Some (name.Pin t) = e in cc
+
+-- nor is what a walk writes
+no_pin_walk : (b : Bool) (s t : ℕ) → walk_writes b s ≡ Some (name.Pin t) → ⊥
+no_pin_walk true s t e = let x : Some (name.Scan s) ≡ Some (name.Pin t) = e in cc
+no_pin_walk false s t e = let x : None ≡ Some (name.Pin t) = e in cc
+
+-- none of its names is that of a pin
+not_pin : (a : Activity) (s : ℕ) (b : Bool) (l : Local) (t : ℕ) → IsKind a l → writes a s b l ≡ Some (name.Pin t) → ⊥
+not_pin (Activity.Insert Insert.Exchange) s b l t k e = no_link l.row l.link (name.Pin t) refl e
+not_pin (Activity.Walk Walk.Next) s b l t k e = no_pin_walk b s t e
+not_pin (Activity.Rebalance (Rebalance.Replace Replace.Exchange)) s b l t k e = no_pin_link l.rebalance.before t e
+not_pin (Activity.Enter Enter.Announce) s b l t k e = cc
+not_pin (Activity.Draw Draw.Clock) s b l t k e = cc
+not_pin (Activity.Look Look.Key) s b l t k e = cc
+not_pin (Activity.Read Read.Link) s b l t k e = cc
+not_pin (Activity.Put Put.Count) s b l t k e = cc
+not_pin (Activity.Rebalance (Rebalance.Engage Engage.Clock)) s b l t k e = cc
+not_pin (Activity.Rebalance (Rebalance.Claim Claim.Count)) s b l t k e = cc
+not_pin (Activity.Rebalance (Rebalance.Freeze Freeze.Count)) s b l t k e = cc
+not_pin (Activity.Rebalance (Rebalance.Left Left.Next)) s b l t k e = cc
+not_pin (Activity.Rebalance (Rebalance.Gather Gather.Link)) s b l t k e = cc
+not_pin (Activity.Rebalance (Rebalance.Seek Seek.Next)) s b l t k e = cc
+not_pin (Activity.Rebalance (Rebalance.Write Write.Count)) s b l t k e = cc
+not_pin (Activity.Draw Draw.Pin) s b l t k e = absurd k
+not_pin Activity.ClearPin s b l t k e = absurd k
+not_pin a s b l t k e = cc
+
+-- so it stays
+pin_stays : {z : Sizes} {r r' : Run} {s : ℕ} {choice : Choice} {l l' : Local} (a : Activity) → Happens z r r' s choice l l' a → Below z r → (j : ℕ) → j < z.seats → word z r'.world (name.Pin j) ≡ word z r.world (name.Pin j)
+pin_stays {s = s} {choice = choice} {l = l} a h i j o = unwritten a h (name.Pin j) o (not_pin a s (is_stopped choice l) l j (kind_at a h i.shape))
+
 -- Over an event.
 
 module _ (z : Sizes) (r r' : Run) (s : ℕ) (choice : Choice) (l : Local) (a : Activity) (l' : Local) (h : Happens z r r' s choice l l' a) (i : Below z r) where
@@ -249,6 +291,14 @@ wait_renews z r r' s choice l a l' h i q = inl (waits_stay z r r' s choice l a l
 pub scans_move : (z : Sizes) (r r' : Run) (s : ℕ) (choice : Choice) (l : Local) (a : Activity) (l' : Local) → Happens z r r' s choice l l' a → Below z r → Moves (word z r.world name.Clock) (word z r'.world name.Clock) r.ledger.waits r'.ledger.waits (Through z r) (Through z r')
 scans_move z r r' s choice l a l' h i = record { rises = clock_never_falls a h; goes_on = through_was z r r' s choice l a l' h i; renews = wait_renews z r r' s choice l a l' h i }
 
+-- what is pinned was
+pub pinned_was : (z : Sizes) (r r' : Run) (s : ℕ) (choice : Choice) (l : Local) (a : Activity) (l' : Local) → Happens z r r' s choice l l' a → Below z r → (j u : ℕ) → ThroughPin z r' j u → ThroughPin z r j u
+pinned_was z r r' s choice l a l' h i j u t = (t.0, sym (pin_stays a h i j t.0) ∙ t.1)
+
+-- so nothing is newly pinned
+pub pins_move : (z : Sizes) (r r' : Run) (s : ℕ) (choice : Choice) (l : Local) (a : Activity) (l' : Local) → Happens z r r' s choice l l' a → Below z r → Pins (Through z r) (ThroughPin z r) (ThroughPin z r')
+pins_move z r r' s choice l a l' h i = record { goes_on = λ j u t. inl (pinned_was z r r' s choice l a l' h i j u t) }
+
 -- each version that is needed was needed before
 pub needed_before : (z : Sizes) (r r' : Run) (s : ℕ) (choice : Choice) (l : Local) (a : Activity) (l' : Local) → Happens z r r' s choice l l' a → Below z r → (u : ℕ) → Needed z r' u → Needed z r u
-needed_before z r r' s choice l a l' h i u n = needed_was (word z r.world name.Clock) (word z r'.world name.Clock) r.ledger.waits r'.ledger.waits (Through z r) (Through z r') (scans_move z r r' s choice l a l' h i) u n
+needed_before z r r' s choice l a l' h i u n = needed_was (word z r.world name.Clock) (word z r'.world name.Clock) r.ledger.waits r'.ledger.waits (Through z r) (Through z r') (scans_move z r r' s choice l a l' h i) (ThroughPin z r) (ThroughPin z r') (pins_move z r r' s choice l a l' h i) u n

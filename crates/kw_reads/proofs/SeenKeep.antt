@@ -45,7 +45,7 @@ use Rattle.kw_rows.specs.Rows.{WasLinked}
 use Rattle.kw_reads.specs.Readers.{IsDue, IsCopyOf, IsInHand, AreCopies, Gathers, Apart, HasSeen, IsReadRow}
 use Rattle.kw_reads.specs.Inv.{Inv}
 use Rattle.kw_core.proofs.Attempts.{in_range}
-use Rattle.kw_core.proofs.Arrows.{builds, NextLook, looks, lists, Arrow, begins, reads_last, reads_before, sees_pending, sees_stamped, sees_neither, is_wanted, is_gone_by, loads_to_help, helps, finds_stamped, finds_other, list_leads, list_ends, key_below, key_within, key_above, loads_version, gathers_listed, left_over_wanted, left_over_gone_by, gathers_left_over, takes_cell, enters, enters_scan, leaves, retries, takes_full, settles_empty, settles, begins_at_first, begins_behind, first_ends, first_leads}
+use Rattle.kw_core.proofs.Arrows.{builds, NextLook, looks, lists, Arrow, begins, reads_last, reads_before, sees_pending, sees_stamped, sees_neither, is_wanted, is_gone_by, loads_to_help, helps, finds_stamped, finds_other, list_leads, list_ends, key_below, key_within, key_above, loads_version, gathers_listed, left_over_wanted, left_over_gone_by, gathers_left_over, takes_cell, enters, enters_scan, leaves, retries, takes_full, settles_empty, settles, begins_at_first, begins_behind, first_ends, first_leads, settles_pin, asks_of_pin}
 use Rattle.kw_core.proofs.SeatLogs.{settled_same}
 use Rattle.kw_core.proofs.Fates.{others_stay}
 use Rattle.kw_core.proofs.Frame.{WritesPass}
@@ -56,7 +56,7 @@ use Rattle.kw_puts.specs.Below.{Below}
 use Rattle.kw_reads.proofs.LooksKeep.{goes}
 use Rattle.kw_reads.proofs.CellsKeep.{seen_next, copies_next, cells_before, unread_before, left_at_end, left_above, left_gone_by, left_gathered, value_stands}
 use Rattle.kw_reads.proofs.BuiltReads.{after_reading, after_rests, rebalance_goes, rebalance_log, taking_reads}
-use Rattle.kw_shape.proofs.AfterBuilding.{built_pass}
+use Rattle.kw_shape.proofs.AfterBuilding.{built_pass, no_call_of_pin}
 use Rattle.kw_shape.proofs.LinkedRows.{fresh_linked}
 use Rattle.kw_shape.proofs.NextCalls.{arrow_call}
 use Rattle.kw_shape.proofs.RowsKeep.{own_rely}
@@ -140,6 +140,7 @@ seen_by z r r' s choice l (Activity.Rebalance b) l' x h i k =
     let n = rebalance_goes z (word z r.world) s choice l b l' x in
     seen_kept h i l'.activity tt n.call g.looked g.ids g.read (λ u. after_reading l'.activity n.next u)
 seen_by z r r' s choice l a l' (builds b next y t) h i k = absurd y
+seen_by z r r' s choice l a l' (asks_of_pin next o n) h i k = no_call_of_pin _ h i.shape o
 seen_by z r r' s choice l _ _ (begins call e b) h i k = seen_unread r'.history r'.origin (Activity.Enter Enter.Announce) _ (r'.seats s) (ap (λ g. g.read) h.log ∙ ap (λ c. (log_begun c (length r.history.calls) (r.seats s)).read) e)
 seen_by z r r' s choice l _ _ (reads_last f n) h i k = record { unread = λ x. absurd (omega (arith, x)); stamped = λ x. absurd x; taken = λ x. absurd x }
 seen_by z r r' s choice l _ _ (reads_before f w) h i k = record { unread = λ x. absurd (omega (arith, x)); stamped = λ x. absurd x; taken = λ x. absurd x }
@@ -171,6 +172,7 @@ seen_by z r r' s choice l _ _ (takes_full e) h i k = seen_kept h i _ tt refl (ap
 seen_by z r r' s choice l _ _ (leaves answer) h i k = record { unread = λ x. absurd x; stamped = λ x. absurd x; taken = λ x. absurd x }
 seen_by z r r' s choice l _ _ (settles_empty e) h i k = seen_kept h i _ tt refl (ap (λ g. g.looked) h.log ∙ settled_same (λ g. g.looked) l.waiting _ (r.settled s) (r.seats s) refl) (ap (λ g. g.ids) h.log ∙ settled_same (λ g. g.ids) l.waiting _ (r.settled s) (r.seats s) refl) (ap (λ g. g.read) h.log ∙ settled_same (λ g. g.read) l.waiting _ (r.settled s) (r.seats s) refl) (λ x. x)
 seen_by z r r' s choice l _ _ (settles e) h i k = seen_kept h i _ tt refl (ap (λ g. g.looked) h.log ∙ settled_same (λ g. g.looked) l.waiting _ (r.settled s) (r.seats s) refl) (ap (λ g. g.ids) h.log ∙ settled_same (λ g. g.ids) l.waiting _ (r.settled s) (r.seats s) refl) (ap (λ g. g.read) h.log ∙ settled_same (λ g. g.read) l.waiting _ (r.settled s) (r.seats s) refl) (λ x. x)
+seen_by z r r' s choice l _ _ (settles_pin e) h i k = seen_kept h i _ tt refl (ap (λ g. g.looked) h.log ∙ settled_same (λ g. g.looked) l.waiting _ (r.settled s) (r.seats s) refl) (ap (λ g. g.ids) h.log ∙ settled_same (λ g. g.ids) l.waiting _ (r.settled s) (r.seats s) refl) (ap (λ g. g.read) h.log ∙ settled_same (λ g. g.read) l.waiting _ (r.settled s) (r.seats s) refl) (λ x. x)
 seen_by z r r' s choice l a l' b h i k = seen_kept h i l'.activity tt refl (ap (λ g. g.looked) h.log) (ap (λ g. g.ids) h.log) (ap (λ g. g.read) h.log) (λ x. x)
 
 -- Gathering.
@@ -239,6 +241,7 @@ gathers_by z r r' s choice l (Activity.Rebalance b) l' x h i k =
     let n = rebalance_goes z (word z r.world) s choice l b l' x in
     gathers_kept h i l'.activity tt n.call n.gathered g.ids g.read (λ u. after_rests l'.activity n.next (inl u)) (λ u. after_reading l'.activity n.next (looked_reading l'.activity u)) (λ u. after_rests l'.activity n.next (inr u))
 gathers_by z r r' s choice l a l' (builds b next y t) h i k = absurd y
+gathers_by z r r' s choice l a l' (asks_of_pin next o n) h i k = no_call_of_pin _ h i.shape o
 gathers_by z r r' s choice l _ _ (begins call e b) h i k = record { empty = λ x. absurd x; no_ids = λ x. absurd x; taking = λ x. absurd x; kept = λ x q f. let y : None ≡ Some q = sym (ap (λ g. g.read) h.log ∙ ap (λ c. (log_begun c (length r.history.calls) (r.seats s)).read) e) ∙ f in absurd (cc) }
 gathers_by z r r' s choice l _ _ (reads_last f n) h i k = record { empty = λ x. refl; no_ids = λ x. absurd (omega (arith, x)); taking = λ x. absurd x; kept = λ x. absurd x }
 gathers_by z r r' s choice l _ _ (reads_before f w) h i k = record { empty = λ x. refl; no_ids = λ x. absurd (omega (arith, x)); taking = λ x. absurd x; kept = λ x. absurd x }
@@ -270,6 +273,7 @@ gathers_by z r r' s choice l _ _ (takes_full e) h i k = gathers_kept h i _ tt re
 gathers_by z r r' s choice l _ _ (leaves answer) h i k = record { empty = λ x. absurd x; no_ids = λ x. absurd x; taking = λ x. absurd x; kept = λ x. absurd x }
 gathers_by z r r' s choice l _ _ (settles_empty e) h i k = gathers_kept h i _ tt refl refl (ap (λ g. g.ids) h.log ∙ settled_same (λ g. g.ids) l.waiting _ (r.settled s) (r.seats s) refl) (ap (λ g. g.read) h.log ∙ settled_same (λ g. g.read) l.waiting _ (r.settled s) (r.seats s) refl) (λ x. x) (λ x. x) (λ x. x)
 gathers_by z r r' s choice l _ _ (settles e) h i k = gathers_kept h i _ tt refl refl (ap (λ g. g.ids) h.log ∙ settled_same (λ g. g.ids) l.waiting _ (r.settled s) (r.seats s) refl) (ap (λ g. g.read) h.log ∙ settled_same (λ g. g.read) l.waiting _ (r.settled s) (r.seats s) refl) (λ x. x) (λ x. x) (λ x. x)
+gathers_by z r r' s choice l _ _ (settles_pin e) h i k = gathers_kept h i _ tt refl refl (ap (λ g. g.ids) h.log ∙ settled_same (λ g. g.ids) l.waiting _ (r.settled s) (r.seats s) refl) (ap (λ g. g.read) h.log ∙ settled_same (λ g. g.read) l.waiting _ (r.settled s) (r.seats s) refl) (λ x. x) (λ x. x) (λ x. x)
 gathers_by z r r' s choice l a l' b h i k = gathers_kept h i l'.activity tt refl refl (ap (λ g. g.ids) h.log) (ap (λ g. g.read) h.log) (λ x. x) (λ x. x) (λ x. x)
 
 -- Rows that were read.
@@ -305,6 +309,7 @@ read_goes_on : (z : Sizes) (v : Words) (s : ℕ) (choice : Choice) (l : Local) (
 read_goes_on z v s choice l a k (builds b next y t) c u p n w = built_pass b y w
 read_goes_on z v s choice l a k (enters e) c u p n w = p
 read_goes_on z v s choice l a k (enters_scan e) c u p n w = p
+read_goes_on z v s choice l a k (asks_of_pin next o m) c u p n w = p
 read_goes_on z v s choice l a k (leaves answer) c u p n w = n
 read_goes_on z v s choice l a k retries c u p n w = reads_or_puts l.call c u
 read_goes_on z v s choice l a k b c u p n w = w

@@ -31,10 +31,11 @@ use Rattle.kw_puts.proofs.ListSteps.{list_step, leaves, stays_sound}
 use Rattle.kw_puts.proofs.ListWords.{link_is}
 use Rattle.kw_reads.specs.Readers.{HasReachedCell, ReadsList}
 use Rattle.kw_reads.specs.Inv.{Inv, lower}
-use Rattle.kw_core.proofs.Arrows.{builds, NextLook, looks, lists, NextLeftOver, goes_to_left_over, answers, ends_scan, scans_on, Arrow, reads_last, reads_before, sees_pending, sees_stamped, sees_neither, is_wanted, is_gone_by, loads_to_help, helps, finds_stamped, finds_other, list_leads, list_ends, key_below, key_within, key_above, loads_version, gathers_listed, left_over_gone_by, gathers_left_over, begins_at_first, begins_behind, first_ends, first_leads}
+use Rattle.kw_core.proofs.Arrows.{builds, NextLook, looks, lists, NextLeftOver, goes_to_left_over, answers, ends_scan, scans_on, Arrow, reads_last, reads_before, sees_pending, sees_stamped, sees_neither, is_wanted, is_gone_by, loads_to_help, helps, finds_stamped, finds_other, list_leads, list_ends, key_below, key_within, key_above, loads_version, gathers_listed, left_over_gone_by, gathers_left_over, begins_at_first, begins_behind, first_ends, first_leads, asks_of_pin}
 use Rattle.kw_core.proofs.Happens.{Happens}
 use Rattle.kw_reads.proofs.BuiltReads.{after_walks, rebalance_next}
 use Rattle.kw_reads.proofs.Ready.{walks_last}
+use Rattle.kw_shape.proofs.AfterBuilding.{no_call_of_pin}
 
 -- a reader at its row is at a row
 pub read_at_row : (a : Activity) → IsAtRead a → IsAtRow a
@@ -152,6 +153,7 @@ module _ {z : Sizes} {r r' : Run} {s : ℕ} {choice : Choice} {l l' : Local} {a 
 pub walks_by : (z : Sizes) (r r' : Run) (s : ℕ) (choice : Choice) (l : Local) (a : Activity) (l' : Local) → Arrow z (word z r.world) s choice l a l' → Happens z r r' s choice l l' a → Inv z r → ReadsList z.cells (list_in (word z r'.world) r'.listed l'.row) l'.activity l'
 walks_by z r r' s choice l (Activity.Rebalance b) l' x h i = after_walks z.cells _ l'.activity l' (rebalance_next z (word z r.world) s choice l b l' x)
 walks_by z r r' s choice l a l' (builds b next y t) h i = absurd y
+walks_by z r r' s choice l a l' (asks_of_pin next o n) h i = no_call_of_pin _ h i.shape o
 walks_by z r r' s choice l _ _ (reads_last f n) h i = (refl, refl)
 walks_by z r r' s choice l _ _ (reads_before f w) h i = (refl, refl)
 walks_by z r r' s choice l _ _ (sees_pending j c e) h i = walks_after h i tt

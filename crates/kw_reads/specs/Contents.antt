@@ -11,7 +11,6 @@ use Rattle.kw_world.specs.declared.activity.walk.Walk.TheVariants as Walk
 use Rattle.kw_world.specs.declared.limits.TheConstants.{NEWEST}
 use Rattle.kw_world.specs.declared.local.Local.{Local}
 use Rattle.kw_world.specs.Calls.{is_scan}
-use Rattle.kw_world.specs.Sane.{needed_by}
 use Rattle.kw_world.specs.Sizes.{Sizes}
 use Rattle.kw_world.specs.Step.{word}
 use Rattle.kw_core.specs.History.{History, attempt, called, Stands}
@@ -56,8 +55,12 @@ pub data Through (z : Sizes) (r : Run) (i u : ℕ) : Type 0 where
   is_held : (k : Local) → i < z.seats → slice_get r.world.locals i ≡ Some k → k.activity ≡ Activity.Draw Draw.Settle → k.drawn ≡ u → word z r.world (name.Scan i) ≡ scan_word (Waiting k.waiting) → Through z r i u
   is_helped : (s : ℕ) (k : Local) → i < z.seats → slice_get r.world.locals s ≡ Some k → k.activity ≡ Activity.Rebalance (Rebalance.Freeze (Freeze.Settle i)) → k.rebalance.drawn ≡ u → word z r.world (name.Scan i) ≡ scan_word (Waiting k.rebalance.waiting) → Through z r i u
 
+-- u is needed through the pin of seat i: it stands in its word
+abbrev pub ThroughPin : Sizes → Run → ℕ → ℕ → Type 0
+ThroughPin z r i u = (i < z.seats) × (word z r.world (name.Pin i) ≡ scan_word (Drawn u))
+
 abbrev pub Needed : Sizes → Run → ℕ → Type 0
-Needed z r = IsNeeded (word z r.world name.Clock) (Through z r)
+Needed z r = IsNeeded (word z r.world name.Clock) (Through z r) (ThroughPin z r)
 
 -- stamped before the row went
 abbrev pub WasPut : Run → ℕ → ℕ → Type 0
@@ -123,12 +126,31 @@ pub record IsLater (g : Ledger) (d : ℕ) (a : Activity) (l : Local) : Type 0 wh
   pub saw : HasCandidate a → IsSince g d l.candidate
   pub next : IsAtRow a → (n : ℕ) → l.next ≡ Some n → IsSince g d n
 
+-- how many scans a seat has gone by that has frozen its group
+abbrev pub scans_by : Sizes → Activity → ℕ
+scans_by z (Activity.Rebalance (Rebalance.Freeze (Freeze.Scan i))) = i
+scans_by z (Activity.Rebalance (Rebalance.Freeze (Freeze.Draw i))) = i
+scans_by z (Activity.Rebalance (Rebalance.Freeze (Freeze.Settle i))) = i
+scans_by z _ = z.seats
+
 -- it looks at the scans, or has looked at all
 abbrev pub scans_gone_by : Sizes → Activity → ℕ → Type 0
-scans_gone_by z a i = i < needed_by z a
+scans_gone_by z a i = i < scans_by z a
 
--- of what the scans need that the seat has gone by, all is listed, or at least `most`, which no
--- cell of its group is above
+-- how many pins it has gone by: none while it looks at the scans
+abbrev pub pins_by : Sizes → Activity → ℕ
+pins_by z (Activity.Rebalance (Rebalance.Freeze (Freeze.Scan i))) = 0
+pins_by z (Activity.Rebalance (Rebalance.Freeze (Freeze.Draw i))) = 0
+pins_by z (Activity.Rebalance (Rebalance.Freeze (Freeze.Settle i))) = 0
+pins_by z (Activity.Rebalance (Rebalance.Freeze (Freeze.Pin i))) = i
+pins_by z _ = z.seats
+
+-- it has gone by this pin, and so by all scans
+abbrev pub pins_gone_by : Sizes → Activity → ℕ → Type 0
+pins_gone_by z a i = (i < pins_by z a) × scans_gone_by z a i
+
+-- of what the scans and pins need that the seat has gone by, all is listed, or at least `most`,
+-- which no cell of its group is above
 pub record Needs (z : Sizes) (r : Run) (a : Activity) (l : Local) : Type 0 where
   pub most : ℕ
   pub since : ℕ
@@ -137,6 +159,7 @@ pub record Needs (z : Sizes) (r : Run) (a : Activity) (l : Local) : Type 0 where
   pub reached : most ≤ word z r.world name.Clock
   pub late : IsLate since r.ledger.waits (Through z r) most
   pub covered : IsCovered (Through z r) (scans_gone_by z a) (Contains l.rebalance.needed) most
+  pub pinned : IsCovered (ThroughPin z r) (pins_gone_by z a) (Contains l.rebalance.needed) most
   pub again : (i clock : ℕ) → HelpsScan i a → word z r.world (name.Scan i) ≡ scan_word (Waiting clock) → (clock ≡ l.rebalance.waiting) ⊎ (since < r.ledger.waits i)
 
 -- what no event takes from a row: it was linked before it went, its clock was that of its link, and
@@ -155,6 +178,8 @@ pub record Contents (z : Sizes) (r : Run) : Type 0 where
   pub past : (p : ℕ) → (attempt r.history p).is_announced ≡ true → (IsHere r.ledger.rows r.history p → ⊥) → IsPast r p
   pub inside : (q p : ℕ) → IsDead r.ledger.rows q → InRow z r q p → (attempt r.history p).at < (r.ledger.rows.fates q).gone
   pub older : (q p : ℕ) → IsPut r.history p → IsStanding r q p → HoldsKey (word z r.world) r.ledger.rows q (attempt r.history p).key → InRow z r q p ⊎ IsOlder r q p
+  -- no seat makes a pin
+  pub unpinned : (i u : ℕ) → ThroughPin z r i u → ⊥
   pub kept : Kept (puts_of r.history) (rows_of z r) (Needed z r)
   pub dead : (q k u : ℕ) → IsDead r.ledger.rows q → HoldsKey (word z r.world) r.ledger.rows q k → Needed z r u → Shows (puts_of r.history) (InRow z r q) (WasPut r q) k u
   pub later : (t : ℕ) (l : Local) → slice_get r.world.locals t ≡ Some l → IsLater r.ledger.rows (floor_of r t l) l.activity l

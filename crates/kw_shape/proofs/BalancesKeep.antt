@@ -36,17 +36,17 @@ use Rattle.kw_core.specs.declared.stage.Stage.{Stage}
 use Rattle.kw_core.specs.declared.stage.Stage.TheVariants.{Rebalancing}
 use Rattle.kw_core.specs.Stages.{stage_of, IsAtRow, IsBalancingStage, IsVisitingStage, IsBalancing, IsVisiting}
 use Rattle.kw_core.specs.Words.{Words, least_in, next_in}
-use Rattle.kw_core.proofs.Arrows.{Arrow, NextLook, NextLeftOver, answers, clock_serves, decides, ends_scan, engages, epoch_serves, finds_follower, finds_infant, finds_leader, finds_normal, finds_other, finds_stamped, gathers_left_over, helps, is_engaged, is_gone_by, key_above, list_ends, lists, looks, marks_last, marks_link, marks_led, sees_neither, sees_stamped, normalises, left_over_gone_by, goes_to_left_over, scans_on, finds_full, takes_full, announces_full, stamps_full, freezes_count, sees_idle, sees_unstamped, remembers, remembers_last, sees_frozen, sees_frozen_last, freezes_entry, freezes_last, looks_again, sees_quiet, sees_quiet_last, helps_scan, sees_drawn, sees_drawn_last, draws_for, settles_scan, settles_last, finds_drawn, finds_drawn_last, finds_no_scan, finds_no_scan_last, take_leads, takes_left, takes_key, takes_version, keeps_taken, takes_left_key, keeps_left, takes_no_more, keeps_no_more, builds, tidies, first_ends, counts_next, claims_next, next_is_infant, next_leads, normalises_next, marks_next, begins_left, takes_leader, reaches_leader, leads_left, walks_left}
+use Rattle.kw_core.proofs.Arrows.{Arrow, NextLook, NextLeftOver, answers, clock_serves, decides, ends_scan, engages, epoch_serves, finds_follower, finds_infant, finds_leader, finds_normal, finds_other, finds_stamped, gathers_left_over, helps, is_engaged, is_gone_by, key_above, list_ends, lists, looks, marks_last, marks_link, marks_led, sees_neither, sees_stamped, normalises, left_over_gone_by, goes_to_left_over, scans_on, finds_full, takes_full, announces_full, stamps_full, freezes_count, sees_idle, sees_unstamped, remembers, remembers_last, sees_frozen, sees_frozen_last, freezes_entry, freezes_last, looks_again, sees_quiet, sees_quiet_last, helps_scan, sees_drawn, sees_drawn_last, draws_for, settles_scan, settles_last, finds_drawn, finds_drawn_last, finds_no_scan, finds_no_scan_last, take_leads, takes_left, takes_key, takes_version, keeps_taken, takes_left_key, keeps_left, takes_no_more, keeps_no_more, builds, tidies, first_ends, counts_next, claims_next, next_is_infant, next_leads, normalises_next, marks_next, begins_left, takes_leader, reaches_leader, leads_left, walks_left, asks_of_pin, looks_at_pin}
 use Rattle.kw_core.proofs.Building.{Building, IsBuilding, draws_number, makes_last_normal, makes_normal, retires_ahead, retires_row, retires_and_leaves}
 use Rattle.kw_core.proofs.BuiltNext.{BuiltKeeps, IsAfterBuilding, built_keeps, built_next}
 use Rattle.kw_core.proofs.Frame.{WritesPass}
 use Rattle.kw_core.proofs.Grouping.{NextCounted, claims_row, goes_alone, NextFrozen, freezes_ahead, froze_all, NextGathered, gathered_all, gathers_ahead}
 use Rattle.kw_core.proofs.Happens.{Happens}
-use Rattle.kw_shape.proofs.AfterBuilding.{built_balancing, built_pass, built_visits}
+use Rattle.kw_shape.proofs.AfterBuilding.{built_balancing, built_pass, built_visits, kind_at, no_call_of_pin}
 use Rattle.kw_shape.proofs.Hands.{HasGroup, IsGrouped, ahead_second, all_behind, built_known, built_late, early_balances, frozen_group, frozen_of_group, group_apart, group_balances, group_known, group_late, hand_balances, hand_first, led_alone, named_claiming, named_led, named_marking, next_balances, same_group, same_hand, second_next, undecided, view_led}
 use Rattle.kw_shape.proofs.LinkedRows.{fresh_linked, group_named, linked_keeps, named_of_group, search_at}
 use Rattle.kw_shape.proofs.Engaging.{marking_along, next_there}
-use Rattle.kw_shape.proofs.RowsKeep.{claimed_state, decided_bounds, leader_left, own_rely, balance_at, decided_state, engaged_state, freezing, group_keeps, kinds_at, others_kept, read_state, rely_rows, row_marked, row_next, structure_keeps}
+use Rattle.kw_shape.proofs.RowsKeep.{claimed_state, decided_bounds, leader_left, own_rely, balance_at, decided_state, engaged_state, freezing, group_keeps, others_kept, read_state, rely_rows, row_marked, row_next, structure_keeps}
 use Rattle.kw_shape.proofs.RelyRows.{RelyRows, is_visiting}
 use Rattle.kw_shape.proofs.Walking.{past}
 use Rattle.kw_shape.proofs.WonKeep.{WonBy, has_ahead, has_next, has_number, head_open, moves_by, was_last, wins_now, won_by}
@@ -494,6 +494,8 @@ balances_own z r r' s choice l a l' takes_left_key h i = hand_on z r r' s choice
 balances_own z r r' s choice l a l' (keeps_left m n o) h i = hand_on z r r' s choice l _ l' h i (Activity.Rebalance (Rebalance.Gather Gather.LeftOverKey)) _ tt tt tt refl refl refl refl refl refl (λ q x. x)
 balances_own z r r' s choice l a l' (takes_no_more next e m n) h i = row_gathered_on z r r' s choice l _ l' h i _ next n tt tt refl refl refl refl refl (λ q x. (tt, x))
 balances_own z r r' s choice l a l' (keeps_no_more next m n) h i = row_gathered_on z r r' s choice l _ l' h i _ next n tt tt refl refl refl refl refl (λ q x. (tt, x))
+balances_own z r r' s choice l a l' (asks_of_pin next c n) h i = no_call_of_pin _ h i c
+balances_own z r r' s choice l a l' (looks_at_pin j next n) h i = absurd (kind_at _ h i)
 balances_own z r r' s choice l a l' _ h i = outside _ _ s _ _ (λ x. x) tt
 
 -- another seat

@@ -21,7 +21,7 @@ use Rattle.kw_world.specs.ReplaceTransitions.{at_before}
 use Rattle.kw_world.specs.Sizes.{Sizes}
 use Rattle.kw_world.specs.Transition.{row_linked, row_or_first}
 use Rattle.kw_core.specs.Words.{Words, least_in, next_in}
-use Rattle.kw_core.proofs.Arrows.{Arrow, NextLeftOver, NextLook, answers, begins_left, builds, decides, ends_scan, finds_follower, finds_other, finds_stamped, first_ends, freezes_last, gathers_left_over, goes_to_left_over, helps, is_gone_by, keeps_no_more, key_above, leads_left, left_over_gone_by, list_ends, lists, looks, marks_led, remembers_last, scans_on, sees_frozen_last, sees_neither, sees_stamped, takes_no_more, walks_left}
+use Rattle.kw_core.proofs.Arrows.{Arrow, NextLeftOver, NextLook, answers, begins_left, builds, decides, ends_scan, finds_follower, finds_other, finds_stamped, first_ends, freezes_last, gathers_left_over, goes_to_left_over, helps, is_gone_by, keeps_no_more, key_above, leads_left, left_over_gone_by, list_ends, lists, looks, marks_led, remembers_last, scans_on, sees_frozen_last, sees_neither, sees_stamped, takes_no_more, walks_left, asks_of_pin, looks_at_pin}
 use Rattle.kw_core.proofs.BuiltNext.{IsAfterBuilding, built_next}
 use Rattle.kw_core.proofs.Grouping.{NextCounted, NextFrozen, NextGathered, claims_row, freezes_ahead, froze_all, gathered_all, gathers_ahead, goes_alone}
 use Rattle.kw_shape.proofs.SearchKeep.{elsewhere, first_left}
@@ -33,6 +33,7 @@ use Rattle.kw_core.proofs.Building.{Building, IsBuilding}
 use Rattle.kw_shape.proofs.InfantsStay.{measured}
 use Rattle.kw_shape.specs.Infants.{HasNone, nursing_of}
 use Rattle.kw_shape.specs.Won.{HasWon}
+use Rattle.kw_core.proofs.Pinning.{NextOfPin, pins, NextPinLook, sees_pin}
 
 -- How a seat comes to the way left, from a follower to its leader, and what it knows there: the row
 -- that the follower's state named, and then the row at which its walk is.
@@ -76,6 +77,14 @@ counted_right : (count : ℕ) (l k : Local) → NextCounted count l k → IsGoin
 counted_right count l k (claims_row q m e) x = x
 counted_right count l k (goes_alone d) x = x
 
+of_pin_right : (l k : Local) → NextOfPin l k → IsGoingLeft k.activity → ⊥
+of_pin_right l k (pins e f) x = x
+of_pin_right l k _ x = x
+
+pin_right : (z : Sizes) (i w : ℕ) (l k : Local) → NextPinLook z i w l k → IsGoingLeft k.activity → ⊥
+pin_right z i w l k (sees_pin version e o) x = x
+pin_right z i w l k _ x = x
+
 built_right : (a : Activity) → IsAfterBuilding a → IsGoingLeft a → ⊥
 built_right (Activity.Rebalance (Rebalance.Left _)) o x = o
 built_right _ o x = x
@@ -105,6 +114,8 @@ left_by z v s choice l a k (takes_no_more next e m n) = inr (gathered_right z _ 
 left_by z v s choice l a k (keeps_no_more next m n) = inr (gathered_right z _ next n)
 left_by z v s choice l a k (marks_led count next d n) = inr (counted_right _ _ next n)
 left_by z v s choice l a k (decides count m next e n) = inr (counted_right _ _ next n)
+left_by z v s choice l a k (asks_of_pin next c n) = inr (of_pin_right _ next n)
+left_by z v s choice l a k (looks_at_pin j next n) = inr (pin_right z _ _ _ next n)
 left_by z v s choice l a k _ = inr (λ x. x)
 
 -- a seat on that way rebalances its row, and stays so
@@ -157,7 +168,16 @@ frozen_out : (l k : Local) → NextFrozen l k → IsBuilding k.activity → ⊥
 frozen_out l k (freezes_ahead q e) x = x
 frozen_out l k (froze_all e) x = x
 
--- or gathered
+-- a pin is asked of, or looked at
+of_pin_out : (l k : Local) → NextOfPin l k → IsBuilding k.activity → ⊥
+of_pin_out l k (pins e f) x = x
+of_pin_out l k _ x = x
+
+pin_out : (z : Sizes) (i w : ℕ) (l k : Local) → NextPinLook z i w l k → IsBuilding k.activity → ⊥
+pin_out z i w l k (sees_pin version e o) x = x
+pin_out z i w l k _ x = x
+
+-- a row of the group is gathered
 gathered_comes : (z : Sizes) (v : Words) (choice : Choice) (l m : Local) (a : Activity) (k : Local) → NextGathered z m k → Comes z v choice l a k
 gathered_comes z v choice l m a k (gathers_ahead q e) = stays_out (λ x. x)
 gathered_comes z v choice l m a k (gathered_all e) = seeks refl refl
@@ -183,6 +203,8 @@ comes z v s choice l a k (sees_frozen_last j next e o n) = stays_out (frozen_out
 comes z v s choice l a k (freezes_last j next e o n) = stays_out (frozen_out _ next n)
 comes z v s choice l a k (marks_led count next d n) = stays_out (counted_out _ _ next n)
 comes z v s choice l a k (decides count m next e n) = stays_out (counted_out _ _ next n)
+comes z v s choice l a k (asks_of_pin next c n) = stays_out (of_pin_out _ next n)
+comes z v s choice l a k (looks_at_pin j next n) = stays_out (pin_out z _ _ _ next n)
 comes z v s choice l a k _ = stays_out (λ x. x)
 
 -- Elsewhere.

@@ -15,9 +15,11 @@ use Rattle.kw_world.specs.Sizes.{Sizes}
 use Rattle.kw_shape.specs.Rooms.{adding, adders, drawing, drawers}
 use Rattle.kw_core.specs.Stages.{IsBalancing}
 use Rattle.kw_core.specs.Words.{Words}
-use Rattle.kw_core.proofs.Arrows.{Arrow, waits, finds_room, sees_stamped, sees_neither, is_gone_by, helps, finds_stamped, finds_other, list_ends, key_above, left_over_gone_by, gathers_left_over, NextLook, looks, lists, NextLeftOver, goes_to_left_over, answers, ends_scan, scans_on, clock_serves, builds, first_ends, remembers_last, sees_frozen_last, freezes_last, takes_no_more, keeps_no_more, decides, marks_led}
+use Rattle.kw_core.proofs.Arrows.{Arrow, waits, finds_room, sees_stamped, sees_neither, is_gone_by, helps, finds_stamped, finds_other, list_ends, key_above, left_over_gone_by, gathers_left_over, NextLook, looks, lists, NextLeftOver, goes_to_left_over, answers, ends_scan, scans_on, clock_serves, builds, first_ends, remembers_last, sees_frozen_last, freezes_last, takes_no_more, keeps_no_more, decides, marks_led, asks_of_pin, looks_at_pin}
 use Rattle.kw_core.proofs.Grouping.{NextCounted, claims_row, counted_goes, goes_alone, NextFrozen, NextGathered, freezes_ahead, frozen_goes, froze_all, gathered_all, gathered_goes, gathers_ahead}
 use Rattle.kw_core.proofs.BuiltNext.{IsAfterBuilding, built_next}
+use Rattle.kw_core.proofs.Pinning.{NextOfPin, pins, NextPinLook, sees_pin}
+use Rattle.kw_shape.proofs.AfterBuilding.{look_goes}
 
 -- the seats that are about to ask a row for a cell, with one seat's local set
 pub adders-set : (q : ℕ) (ls : List Local) (s : ℕ) (l l' : Local) → slice_get ls s ≡ Some l → adders q (slice_set ls s l') + adding l.activity l.row q ≡ adders q ls + adding l'.activity l'.row q
@@ -103,6 +105,18 @@ cell_draws l k next (answers o n) = refl
 cell_draws l k next (ends_scan o y n) = refl
 cell_draws l k next (scans_on r o y n w) = refl
 
+of_pin_adds : (l : Local) (q : ℕ) (next : Local) → NextOfPin l next → adding next.activity next.row q ≡ 0
+of_pin_adds l q next (pins e f) = refl
+of_pin_adds l q next _ = refl
+
+of_pin_draws : (n : ℕ) (l next : Local) → NextOfPin l next → drawing n next.activity ≡ 0
+of_pin_draws n l next (pins e f) = refl
+of_pin_draws n l next _ = refl
+
+pin_draws : (z : Sizes) (n i w : ℕ) (l next : Local) → NextPinLook z i w l next → drawing n next.activity ≡ 0
+pin_draws z n i w l next (sees_pin version e o) = refl
+pin_draws z n i w l next _ = refl
+
 -- a seat that goes through the rows of its group neither asks for a cell nor draws more versions
 balancing_adds : (a : Activity) (row q : ℕ) → IsBalancing a → adding a row q ≡ 0
 balancing_adds (Activity.Put Put.Add) row q x = absurd x
@@ -158,6 +172,8 @@ adding_next z v s choice l a l' q (takes_no_more next e f m) n = balancing_adds 
 adding_next z v s choice l a l' q (keeps_no_more next f m) n = balancing_adds next.activity next.row q (gathered_goes z _ next m).next
 adding_next z v s choice l a l' q (marks_led count next d m) n = balancing_adds next.activity next.row q (counted_goes _ _ next m).next
 adding_next z v s choice l a l' q (decides count c next e m) n = balancing_adds next.activity next.row q (counted_goes _ _ next m).next
+adding_next z v s choice l a l' q (asks_of_pin next c m) n = of_pin_adds _ q next m
+adding_next z v s choice l a l' q (looks_at_pin j next m) n = balancing_adds next.activity next.row q (look_goes z _ _ _ next m).next
 adding_next z v s choice l a l' q _ n = refl
 
 -- a seat that knows how many rows go may draw as many versions
@@ -188,4 +204,6 @@ drawing_next z v s choice l a l' (takes_no_more next e f m) w n = omega (arith, 
 drawing_next z v s choice l a l' (keeps_no_more next f m) w n = omega (arith, gathered_draws z n _ next m)
 drawing_next z v s choice l a l' (marks_led count next d m) w n = omega (arith, counted_draws n _ _ next m)
 drawing_next z v s choice l a l' (decides count c next e m) w n = omega (arith, counted_draws n _ _ next m)
+drawing_next z v s choice l a l' (asks_of_pin next c m) w n = omega (arith, of_pin_draws n _ next m)
+drawing_next z v s choice l a l' (looks_at_pin j next m) w n = omega (arith, pin_draws z n _ _ _ next m)
 drawing_next z v s choice l a l' _ w n = omega arith

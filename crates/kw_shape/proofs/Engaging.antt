@@ -12,7 +12,7 @@ use Rattle.kw_words.specs.Link.{link_of}
 use Rattle.kw_words.specs.Plain.{key_of_word}
 use Rattle.kw_words.specs.State.{IsState, state_word}
 use Rattle.kw_words.proofs.LinkWords.{link_of_marked}
-use Rattle.kw_rows.specs.Events.{Event, MarksLink, engages_next, marks, normalises, rests}
+use Rattle.kw_rows.specs.Events.{Event, MarksLink, engages_next, normalises, rests}
 use Rattle.kw_rows.specs.Group.{Claiming, Group, MarkingNext}
 use Rattle.kw_rows.specs.Ledger.{IsHeld, IsLive}
 use Rattle.kw_rows.specs.RowState as row
@@ -40,7 +40,7 @@ use Rattle.kw_core.proofs.Happens.{Happens, exchanged, not_exchanged}
 use Rattle.kw_core.proofs.InfantFrames.{ChangesCount, ChangesHead, ChangesLeast, ChangesNext, ChangesState, head_stays}
 use Rattle.kw_shape.proofs.BuildEvents.{count_word, least_word, ledger_kept, links_kept, next_word, sets_state, state_kept, states_still, word_says}
 use Rattle.kw_shape.proofs.LinkedRows.{balance_at}
-use Rattle.kw_shape.specs.Balances.{Balances, claiming, marking_next}
+use Rattle.kw_shape.specs.Balances.{claiming, marking_next}
 use Rattle.kw_shape.specs.Hands.{HasNext}
 use Rattle.kw_shape.specs.RowsIn.{has_frozen, has_mark, rows_in}
 use Rattle.kw_shape.specs.Shape.{Shape}

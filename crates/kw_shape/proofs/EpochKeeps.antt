@@ -16,7 +16,7 @@ use Rattle.kw_world.specs.Sizes.{Sizes}
 use Rattle.kw_world.specs.Step.{word}
 use Rattle.kw_core.specs.Run.{Run}
 use Rattle.kw_core.specs.Words.{Words}
-use Rattle.kw_core.proofs.Arrows.{Arrow, sees_stamped, sees_neither, is_gone_by, helps, finds_stamped, finds_other, list_ends, key_above, left_over_gone_by, gathers_left_over, NextLook, looks, lists, NextLeftOver, goes_to_left_over, answers, ends_scan, scans_on, epoch_is_spent, epoch_serves, builds, ends_at_epoch, first_ends, remembers_last, sees_frozen_last, freezes_last, takes_no_more, keeps_no_more, decides, marks_led}
+use Rattle.kw_core.proofs.Arrows.{Arrow, sees_stamped, sees_neither, is_gone_by, helps, finds_stamped, finds_other, list_ends, key_above, left_over_gone_by, gathers_left_over, NextLook, looks, lists, NextLeftOver, goes_to_left_over, answers, ends_scan, scans_on, epoch_is_spent, epoch_serves, builds, ends_at_epoch, first_ends, remembers_last, sees_frozen_last, freezes_last, takes_no_more, keeps_no_more, decides, marks_led, asks_of_pin, looks_at_pin}
 use Rattle.kw_core.proofs.Building.{Building, gives_one_back, gives_last_back, draws_number, retires_ahead, retires_row, retires_and_leaves}
 use Rattle.kw_core.proofs.Grouping.{NextCounted, claims_row, goes_alone, NextFrozen, NextGathered, freezes_ahead, froze_all, gathered_all, gathers_ahead}
 use Rattle.kw_core.proofs.Happens.{Happens}
@@ -24,6 +24,7 @@ use Rattle.kw_core.proofs.InfantFrames.{epoch_stays, number_drawn}
 use Rattle.kw_core.proofs.NextBuilt.{GivenBack, tries_again, is_refused_rows, moves_left, was_done, was_served}
 use Rattle.kw_shape.specs.Epochs.{numberers, numbering, one_ahead}
 use Rattle.kw_shape.specs.Shape.{Shape}
+use Rattle.kw_core.proofs.Pinning.{NextOfPin, pins, NextPinLook, sees_pin}
 
 -- the seats that may still draw a number, with one seat's local set
 numberers-set : (ls : List Local) (s : ℕ) (l l' : Local) → slice_get ls s ≡ Some l → numberers (slice_set ls s l') + numbering l.activity l ≡ numberers ls + numbering l'.activity l'
@@ -75,6 +76,14 @@ gathered_numbers : (z : Sizes) (l k : Local) → NextGathered z l k → numberin
 gathered_numbers z l k (gathers_ahead r e) = refl
 gathered_numbers z l k (gathered_all e) = refl
 
+of_pin_numbers : (l k : Local) → NextOfPin l k → numbering k.activity k ≡ 0
+of_pin_numbers l k (pins e f) = refl
+of_pin_numbers l k _ = refl
+
+pin_numbers : (z : Sizes) (i w : ℕ) (l k : Local) → NextPinLook z i w l k → numbering k.activity k ≡ MOST_GROUP
+pin_numbers z i w l k (sees_pin version e o) = refl
+pin_numbers z i w l k _ = refl
+
 built_numbers : (z : Sizes) (v : Words) (choice : Choice) (l : Local) (a : Activity) (k : Local) → Building z v choice l a k → numbering k.activity k ≤ numbering a l
 built_numbers z v choice l a k (gives_one_back o) = omega arith
 built_numbers z v choice l a k (gives_last_back next o n) = omega (arith, given_numbers _ l next n)
@@ -114,6 +123,8 @@ numbers_next z v s choice l a l' (takes_no_more next e f m) n = omega (arith, ga
 numbers_next z v s choice l a l' (keeps_no_more next f m) n = omega (arith, gathered_numbers z _ next m)
 numbers_next z v s choice l a l' (marks_led count next d m) n = omega (arith, counted_numbers _ _ next m)
 numbers_next z v s choice l a l' (decides count c next e m) n = omega (arith, counted_numbers _ _ next m)
+numbers_next z v s choice l a l' (asks_of_pin next c m) n = omega (arith, of_pin_numbers _ next m)
+numbers_next z v s choice l a l' (looks_at_pin j next m) n = omega (arith, pin_numbers z _ _ _ next m)
 numbers_next z v s choice l a l' _ n = omega arith
 
 -- a seat that draws a number may draw one less after it

@@ -1,6 +1,6 @@
 -- The rows of the group that a seat rebalances: which they are, which one is at hand, and that the
 -- seat may name each of them; and how the places of its cells go with the cells of each row.
-use Rattle.std.proofs.Common.{ℕ, ◌≡◌, ◌≢◌, ◌+◌, ◌-◌, ◌*◌, ◌<◌, ◌≤◌, ◌==◌, nat_lt, if◌then◌else◌, Bool, true, false, Option, Some, None, arith, refl, sym, ◌∙◌, ap, slice_get, subst, ◌⊎◌, inl, inr, ◌∷◌}
+use Rattle.std.proofs.Common.{ℕ, ◌≡◌, ◌≢◌, ◌+◌, ◌-◌, ◌*◌, ◌<◌, ◌≤◌, nat_lt, if◌then◌else◌, Bool, true, false, Option, Some, None, arith, refl, sym, ◌∙◌, ap, slice_get, subst, ◌⊎◌, inl, inr, ◌∷◌}
 use Rattle.std.proofs.lemmas.Bool.Decides.{nat_tests}
 use Rattle.std.proofs.lemmas.Option.{same_Some}
 use Rattle.kw_words.specs.declared.sizes.TheConstants.{MOST_GROUP}
@@ -285,7 +285,7 @@ group_ends w g c l h k b e q o = saw l.rebalance.second k o
 -- a new row is no longer than a row, and has room for the cells of one key; one row of the group is
 -- at hand, and no row stands after itself
 pub record KnowsGroup (z : Sizes) (a : Activity) (l : Local) : Type 0 where
-  pub built : z.seats < z.built
+  pub built : 2 * z.seats < z.built
   pub fits : z.built ≤ z.cells
   pub hand : HasHand a → Hand l
   pub apart : HasMarks a → l.rebalance.second ≢ Some l.row

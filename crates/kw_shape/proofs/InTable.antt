@@ -189,10 +189,12 @@ module _ (z : Sizes) (rows : ℕ) (v : Words) (s : ℕ) (choice : Choice) (l : L
   written (Activity.Draw Draw.Wait) k n = (scan_known (Waiting l.waiting) k.ranges.waiting, tt)
   written (Activity.Draw Draw.Version) k n = ((omega arith, more.clock), tt)
   written (Activity.Draw Draw.Settle) k n = (exchanges (λ u. IsKnownWord (scan_of u)) (v (name.Scan s)) _ _ (w.each (name.Scan s) n) (scan_known (Drawn l.drawn) k.ranges.drawn), tt)
+  written (Activity.Draw Draw.Pin) k n = (scan_known (Drawn l.version) k.ranges.version, tt)
   written (Activity.Walk Walk.Start) k n = starts choice n
   written (Activity.Walk Walk.Next) k n = walks (is_stopped choice l) n
   written (Activity.Look Look.Help) k n = (exchanges (λ u. IsEntry z (pend_of u)) (v (name.Pend l.row l.looked)) _ _ (w.each (name.Pend l.row l.looked) n) (entry_known z (pend.Stamped l.saw l.helping) (omega (arith, k.ranges.saw, w.sized.few_cells), k.ranges.helping.0, k.ranges.helping.1) (k.ranges.saw, k.ranges.helping)), tt)
   written (Activity.EndScan answer) k n = (scan_known Quiet tt, tt)
+  written Activity.ClearPin k n = (scan_known Quiet tt, tt)
   written (Activity.Put Put.Add) k n = (given_known (v (name.Count l.row)) _ refl (w.each (name.Count l.row) n) (more.given l.row n), tt)
   written (Activity.Put Put.Key) k n = (first_in_range l.call k.ranges.call, tt)
   written (Activity.Put Put.Value) k n = (value_known (put_value l.call) (put_in_range l.call k.ranges.call), tt)

@@ -30,7 +30,7 @@ use Rattle.kw_world.specs.declared.local.Local.{Local}
 use Rattle.kw_world.specs.declared.marks.Mark.{Mark}
 use Rattle.kw_world.specs.ListTransitions.{link_name, cell_guess}
 use Rattle.kw_world.specs.ClaimTransitions.{row_after, with_second}
-use Rattle.kw_world.specs.EngageTransitions.{followed_by, to_group}
+use Rattle.kw_world.specs.EngageTransitions.{to_group}
 use Rattle.kw_world.specs.FreezeTransitions.{marking, needing}
 use Rattle.kw_world.specs.GroupPlaces.{base, cell_at, place_in_group, places, row_at}
 use Rattle.kw_world.specs.Marks.{least_mark, mark_of}
@@ -41,9 +41,9 @@ use Rattle.kw_world.specs.TakeTransitions.{cell_of_group, keeping, to_take}
 use Rattle.kw_world.specs.Transition.{row_or_first}
 use Rattle.kw_world.proofs.Transitions.{first_loads}
 use Rattle.kw_core.specs.Run.{Run}
-use Rattle.kw_core.specs.Stages.{IsAtRow, IsBalancing, IsPastStart}
+use Rattle.kw_core.specs.Stages.{IsAtRow, IsPastStart}
 use Rattle.kw_core.specs.Words.{Words, built_in, next_in}
-use Rattle.kw_core.proofs.Arrows.{Arrow, NextLook, looks, lists, NextLeftOver, goes_to_left_over, answers, ends_scan, scans_on, sees_stamped, sees_neither, is_gone_by, helps, finds_stamped, finds_other, list_ends, key_above, left_over_gone_by, gathers_left_over, stores_key, stores_value, announces, loads_clock, stamps, is_stamped, stores_version, reaches_cell, sees_none, key_before, key_same, key_after, version_before, version_after, stores_after, loses, freezes_count, sees_idle, sees_unstamped, remembers, remembers_last, sees_frozen, sees_frozen_last, freezes_entry, freezes_last, looks_again, marks_led, decides, next_leads, marks_next, sees_quiet, sees_quiet_last, helps_scan, sees_drawn, sees_drawn_last, draws_for, settles_scan, settles_last, finds_drawn, finds_drawn_last, finds_no_scan, finds_no_scan_last, take_leads, takes_left, takes_no_more, takes_key, takes_version, keeps_taken, takes_left_key, keeps_left, keeps_no_more, builds, first_ends, first_reaches, first_sees_none, inserts_at_first, inserts_behind}
+use Rattle.kw_core.proofs.Arrows.{Arrow, NextLook, looks, lists, NextLeftOver, goes_to_left_over, answers, ends_scan, scans_on, sees_stamped, sees_neither, is_gone_by, helps, finds_stamped, finds_other, list_ends, key_above, left_over_gone_by, gathers_left_over, stores_key, stores_value, announces, loads_clock, stamps, is_stamped, stores_version, reaches_cell, sees_none, key_before, key_same, key_after, version_before, version_after, stores_after, loses, freezes_count, sees_idle, sees_unstamped, remembers, remembers_last, sees_frozen, sees_frozen_last, freezes_entry, freezes_last, looks_again, marks_led, decides, next_leads, marks_next, sees_quiet, sees_quiet_last, helps_scan, sees_drawn, sees_drawn_last, draws_for, settles_scan, settles_last, finds_drawn, finds_drawn_last, finds_no_scan, finds_no_scan_last, take_leads, takes_left, takes_no_more, takes_key, takes_version, keeps_taken, takes_left_key, keeps_left, keeps_no_more, builds, first_ends, first_reaches, first_sees_none, inserts_at_first, inserts_behind, asks_of_pin, looks_at_pin}
 use Rattle.kw_core.proofs.Building.{Building, IsBuilding, makes_normal, makes_last_normal, draws_number, retires_ahead, retires_row, retires_and_leaves}
 use Rattle.kw_core.proofs.BuiltNext.{IsAfterBuilding, built_keeps, built_next}
 use Rattle.kw_core.proofs.Grouping.{NextCounted, claims_row, goes_alone, NextFrozen, NextGathered, freezes_ahead, froze_all, gathered_all, gathers_ahead}
@@ -56,6 +56,7 @@ use Rattle.kw_shape.specs.Hands.{Hand, HasHand, IsOfGroup}
 use Rattle.kw_shape.specs.Keyed.{HasGathered, HasKeyInHand, HasMarks, HasReachedCell, HasOwnKey, HoldsCell, HoldsFrom, HoldsGathered, HoldsPlace, IsGatheringRow, IsInList, IsOfCell, Keyed, Keys, Reaches, is_there, leads_on, list_row}
 use Rattle.kw_shape.specs.RowsIn.{rows_in}
 use Rattle.kw_shape.specs.Shape.{Shape}
+use Rattle.kw_shape.proofs.AfterBuilding.{kind_at, no_call_of_pin}
 
 -- A seat that knows of keys is at a row that was linked.
 
@@ -448,6 +449,8 @@ module _ {z : Sizes} {r r' : Run} {s : ℕ} {choice : Choice} {l : Local} where
   keys_by a l' (left_over_gone_by next e n) h i k y u = cell_keys (word z r'.world) r'.ledger.rows z _ next n
   keys_by a l' (gathers_left_over next n) h i k y u = cell_keys (word z r'.world) r'.ledger.rows z _ next n
   keys_by a l' stores_key h i k y u = record { own = λ x. put_key_holds h i (row_linked i s l (Activity.Put Put.Key) h.knows h.activity tt); list = λ c x. absurd x; marks = λ x. absurd x; saw = λ x. absurd x; key = λ x. absurd x; gathered = λ x. absurd x }
+  keys_by a l' (asks_of_pin next c n) h i k y u = no_call_of_pin _ h i c
+  keys_by a l' (looks_at_pin j next n) h i k y u = absurd (kind_at _ h i)
   keys_by a l' _ h i k y u = record { own = λ x. absurd x; list = λ c x. absurd x; marks = λ x. absurd x; saw = λ x. absurd x; key = λ x. absurd x; gathered = λ x. absurd x }
 
   -- what the acting seat knows

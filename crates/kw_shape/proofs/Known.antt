@@ -59,7 +59,7 @@ use Rattle.kw_words.proofs.ScanWords.{IsScan-scan_of}
 use Rattle.kw_world.specs.FreezeTransitions.{marking, needing, to_scans}
 use Rattle.kw_world.specs.TakeTransitions.{cell_of_group, keeping, leaving_over, planned, to_take}
 use Rattle.kw_world.specs.ReadTransitions.{with_pairs, gathering, remembering}
-use Rattle.kw_world.specs.Sane.{IsVersion, IsNumber, IsEntry, IsWord, IsLed, IsOffered, IsPair, IsAnswer, IsMark, IsGroupMark, IsCopy, IsPlaced, IsActivity, IsRowBelow, IsLinkBelow, IsRowState, IsStateBelow, IsCellBelow, IsLocal, IsLocalBelow, IsKnown, HasRebalanceRoom, entries_before, marks_by}
+use Rattle.kw_world.specs.Sane.{IsVersion, IsNumber, IsEntry, IsWord, IsLed, IsOffered, IsPair, IsAnswer, IsMark, IsGroupMark, IsCopy, IsPlaced, IsActivity, IsRowBelow, IsLinkBelow, IsRowState, IsStateBelow, IsCellBelow, IsLocal, IsLocalBelow, IsKnown, HasRebalanceRoom, entries_before, marks_by, IsPinned}
 use Rattle.kw_world.proofs.Opens.{none_below, none_ranges, none_room, rests_known}
 use Rattle.kw_core.specs.Words.{Words, built_in, least_in}
 use Rattle.kw_core.proofs.Events.{IsBegun}
@@ -69,10 +69,12 @@ use Rattle.kw_shape.specs.Hands.{Hand}
 use Rattle.kw_shape.proofs.Hands.{KnowsGroup, cell_few, entries_ahead, entries_few, place_few}
 use Rattle.kw_core.proofs.InRange.{unmarked_in_range, unmarked_few, least_holds, version_in_hand, gathered_in_range, gathered_few, version_of_scan, answer_in_range, pairs_in_range, value_in_range, first_in_range, last_in_range, linked_in_range, stopped_in_range, with_cell_in_range}
 use Rattle.kw_cells.proofs.InOrder.{length-with_cell}
-use Rattle.kw_core.proofs.Arrows.{Arrow, begins, enters, is_spent, waits, draws, settles_empty, settles, starts_at_head, guesses, takes_head, guess_serves, stops, puts_in_last, reads_last, reaches_next, walks_on, puts_before, reads_before, sees_pending, sees_stamped, sees_neither, is_gone_by, loads_to_help, helps, finds_stamped, finds_other, list_leads, list_ends, key_below, key_within, key_above, loads_version, gathers_listed, left_over_wanted, left_over_gone_by, gathers_left_over, clears_scan, takes_cell, loads_clock, is_stamped, stores_version, reaches_cell, sees_none, key_before, version_before, loses, clears, leaves, enters_again, clock_is_spent, epoch_is_spent, finds_infant, finds_follower, finds_leader, finds_other_state, engages, marks_link, marks_last, marks_led, decides, decides_not, finds_full, takes_full, announces_full, stamps_full, NextLook, looks, lists, NextLeftOver, goes_to_left_over, answers, ends_scan, scans_on, freezes_count, sees_idle, sees_unstamped, remembers, remembers_last, sees_frozen, sees_frozen_last, freezes_entry, freezes_last, looks_again, sees_quiet, sees_quiet_last, helps_scan, sees_drawn, sees_drawn_last, draws_for, settles_scan, settles_last, finds_drawn, finds_drawn_last, finds_no_scan, finds_no_scan_last, take_leads, takes_left, takes_no_more, takes_key, takes_version, keeps_taken, takes_left_key, keeps_left, keeps_no_more, below, builds, ends_at_state, ends_at_clock, ends_at_epoch, ends_undecided, counts_next, claims_next, next_is_infant, next_leads, claims_not, ends_unclaimed, marks_next, begins_left, takes_leader, reaches_leader, leads_left, walks_left, head_follows, ends_at_head, none_is_left, ends_at_none, passes_left, ends_past, tidies, begins_at_first, begins_behind, first_ends, first_sees_none, inserts_at_first, inserts_behind, first_leads, first_reaches}
+use Rattle.kw_core.proofs.Arrows.{Arrow, begins, enters, is_spent, waits, draws, settles_empty, settles, starts_at_head, guesses, takes_head, guess_serves, stops, puts_in_last, reads_last, reaches_next, walks_on, puts_before, reads_before, sees_pending, sees_stamped, sees_neither, is_gone_by, loads_to_help, helps, finds_stamped, finds_other, list_leads, list_ends, key_below, key_within, key_above, loads_version, gathers_listed, left_over_wanted, left_over_gone_by, gathers_left_over, clears_scan, takes_cell, loads_clock, is_stamped, stores_version, reaches_cell, sees_none, key_before, version_before, loses, clears, leaves, enters_again, clock_is_spent, epoch_is_spent, finds_infant, finds_follower, finds_leader, finds_other_state, engages, marks_link, marks_last, marks_led, decides, decides_not, finds_full, takes_full, announces_full, stamps_full, NextLook, looks, lists, NextLeftOver, goes_to_left_over, answers, ends_scan, scans_on, freezes_count, sees_idle, sees_unstamped, remembers, remembers_last, sees_frozen, sees_frozen_last, freezes_entry, freezes_last, looks_again, sees_quiet, sees_quiet_last, helps_scan, sees_drawn, sees_drawn_last, draws_for, settles_scan, settles_last, finds_drawn, finds_drawn_last, finds_no_scan, finds_no_scan_last, take_leads, takes_left, takes_no_more, takes_key, takes_version, keeps_taken, takes_left_key, keeps_left, keeps_no_more, below, builds, ends_at_state, ends_at_clock, ends_at_epoch, ends_undecided, counts_next, claims_next, next_is_infant, next_leads, claims_not, ends_unclaimed, marks_next, begins_left, takes_leader, reaches_leader, leads_left, walks_left, head_follows, ends_at_head, none_is_left, ends_at_none, passes_left, ends_past, tidies, begins_at_first, begins_behind, first_ends, first_sees_none, inserts_at_first, inserts_behind, first_leads, first_reaches, asks_of_pin, settles_pin, stores_pin, clears_pin, looks_at_pin}
 use Rattle.kw_core.proofs.Building.{Building, IsBuilding, first_is_free, first_is_taken, sought_is_free, sought_is_taken, first_is_retired, sought_is_retired, pass_is_old, pass_is_young, frees_row, takes_row, loses_row, gives_one_back, gives_last_back, writes_count, writes_least, writes_link, writes_first, writes_entry, writes_key, writes_value, writes_version, writes_no_cell, writes_after, begins_before, guesses_before, guess_before_fails, before_serves, before_is_above, takes_head_before, leads_to_full, leads_on_marked, leads_to_other, leads_nowhere, walks_before, walks_past, replaces_row, is_marked_before, is_replaced, makes_normal, makes_last_normal, draws_number, retires_ahead, retires_row, retires_and_leaves}
 use Rattle.kw_core.proofs.NextBuilt as following
 use Rattle.kw_core.proofs.NextBuilt.{begun_anew, refused, GivenBack, is_refused_rows, moves_left, NextBack, gives_back, has_none, NextSeek, asks, has_asked, looks_on, has_looked, NextTaken, wants_more, has_enough, NextNewRow, writes_row, has_written, NextNewCell, fills, empties, has_cells, NextNewEntry, writes_idle, has_entries, NextBefore, is_first, is_behind, was_served}
+use Rattle.kw_core.proofs.Pinning.{NextPinLook, sees_pin, sees_pin_last, sees_no_pin, sees_no_pin_last}
+use Rattle.kw_shape.proofs.AfterBuilding.{asks_of_none}
 
 -- all words of a table are in range
 pub record AreSane (z : Sizes) (rows : ℕ) (v : Words) : Type 0 where
@@ -114,6 +116,7 @@ lists_of z (Activity.Rebalance (Rebalance.Freeze (Freeze.Entry i))) b y k = reco
 lists_of z (Activity.Rebalance (Rebalance.Freeze (Freeze.Scan i))) b y k = record { marks = k.marks; needed = omega (arith, k.needed, y); gathered = k.gathered; taken = λ t. absurd t }
 lists_of z (Activity.Rebalance (Rebalance.Freeze (Freeze.Draw i))) b y k = record { marks = k.marks; needed = omega (arith, k.needed, y); gathered = k.gathered; taken = λ t. absurd t }
 lists_of z (Activity.Rebalance (Rebalance.Freeze (Freeze.Settle i))) b y k = record { marks = k.marks; needed = omega (arith, k.needed, y); gathered = k.gathered; taken = λ t. absurd t }
+lists_of z (Activity.Rebalance (Rebalance.Freeze (Freeze.Pin i))) b y k = record { marks = k.marks; needed = omega (arith, k.needed, y); gathered = k.gathered; taken = λ t. absurd t }
 lists_of z _ b y k = record { marks = k.marks; needed = k.needed; gathered = k.gathered; taken = λ t. absurd t }
 
 -- the entry that was seen
@@ -272,7 +275,7 @@ looks_at_scans z rows l sized k b m g x y =
     assumption (k, b, m, g, x, y, o, none, never, All-nil IsVersion)
 
 -- one that has frozen the row at hand: the row ahead of it is frozen next
-froze_row : (z : Sizes) (rows : ℕ) (l next : Local) → NextFrozen l next → IsSized z.seats z.cells rows → IsLocal z l → IsLocalBelow rows l → length l.remembered ≤ z.seats → length l.gathered ≤ z.cells → length l.rebalance.gathered ≤ MOST_GROUP * z.cells → length l.rebalance.needed ≤ z.seats → length l.rebalance.marks ≤ MOST_GROUP * z.seats →
+froze_row : (z : Sizes) (rows : ℕ) (l next : Local) → NextFrozen l next → IsSized z.seats z.cells rows → IsLocal z l → IsLocalBelow rows l → length l.remembered ≤ z.seats → length l.gathered ≤ z.cells → length l.rebalance.gathered ≤ MOST_GROUP * z.cells → length l.rebalance.needed ≤ 2 * z.seats → length l.rebalance.marks ≤ MOST_GROUP * z.seats →
     ((r : ℕ) → l.rebalance.ahead ≡ Some r → length l.rebalance.marks ≤ entries_before z (at_last_row r l).rebalance) → IsKnown z rows next
 froze_row z rows l next (freezes_ahead r e) sized k b m g x n y ahead =
     let never : ⊥ → length l.rebalance.taken < length l.rebalance.starts = λ t. absurd t in
@@ -280,11 +283,11 @@ froze_row z rows l next (freezes_ahead r e) sized k b m g x n y ahead =
     assumption (k, b, m, g, x, n, o, ahead r e, never)
 froze_row z rows l next (froze_all e) sized k b m g x n y ahead = looks_at_scans z rows l sized k b m g x y
 
-froze_last : (z : Sizes) (rows : ℕ) (l next : Local) (j : ℕ) → NextFrozen l next → IsSized z.seats z.cells rows → j < z.seats → IsLocal z l → IsLocalBelow rows l → length l.remembered ≤ z.seats → length l.gathered ≤ z.cells → length l.rebalance.gathered ≤ MOST_GROUP * z.cells → length l.rebalance.needed ≤ z.seats → length l.rebalance.marks ≤ entries_before z l.rebalance + j → Hand l → l.rebalance.second ≢ Some l.row → IsKnown z rows next
+froze_last : (z : Sizes) (rows : ℕ) (l next : Local) (j : ℕ) → NextFrozen l next → IsSized z.seats z.cells rows → j < z.seats → IsLocal z l → IsLocalBelow rows l → length l.remembered ≤ z.seats → length l.gathered ≤ z.cells → length l.rebalance.gathered ≤ MOST_GROUP * z.cells → length l.rebalance.needed ≤ 2 * z.seats → length l.rebalance.marks ≤ entries_before z l.rebalance + j → Hand l → l.rebalance.second ≢ Some l.row → IsKnown z rows next
 froze_last z rows l next j y sized o k b m g x n q hand apart = froze_row z rows l next y sized k b m g x n (omega (arith, q, o, entries_few z l.rebalance)) (λ r e. entries_ahead z l r _ hand apart e (omega (arith, q, o)))
 
 -- one that has looked at all scans
-begins_to_take : (z : Sizes) (rows : ℕ) (l : Local) → IsLocal z l → IsLocalBelow rows l → length l.remembered ≤ z.seats → length l.gathered ≤ z.cells → length l.rebalance.marks ≤ MOST_GROUP * z.seats → length l.rebalance.needed ≤ z.seats → IsKnown z rows (to_take l).local
+begins_to_take : (z : Sizes) (rows : ℕ) (l : Local) → IsLocal z l → IsLocalBelow rows l → length l.remembered ≤ z.seats → length l.gathered ≤ z.cells → length l.rebalance.marks ≤ MOST_GROUP * z.seats → length l.rebalance.needed ≤ 2 * z.seats → IsKnown z rows (to_take l).local
 begins_to_take z rows l k b m g x y =
     let never : ⊥ → length l.rebalance.taken < length l.rebalance.starts = λ t. absurd t in
     let none : 0 ≤ MOST_GROUP * z.cells = omega arith in
@@ -303,14 +306,25 @@ needs_more z rows l j version o k b m g x y n u =
     let q : length (l.rebalance.needed ++ version ∷ []) ≤ j + 1 = omega (arith, length-append l.rebalance.needed (version ∷ []), n) in
     assumption (k, b, m, g, x, y, p, q, o, never)
 
-needs_last : (z : Sizes) (rows : ℕ) (l : Local) (j version : ℕ) → j < z.seats → IsLocal z l → IsLocalBelow rows l → length l.remembered ≤ z.seats → length l.gathered ≤ z.cells → length l.rebalance.marks ≤ MOST_GROUP * z.seats → length l.rebalance.needed ≤ j → IsVersion version → IsKnown z rows (to_take (needing version l)).local
+needs_last : (z : Sizes) (rows : ℕ) (l : Local) (j version : ℕ) → j < 2 * z.seats → IsLocal z l → IsLocalBelow rows l → length l.remembered ≤ z.seats → length l.gathered ≤ z.cells → length l.rebalance.marks ≤ MOST_GROUP * z.seats → length l.rebalance.needed ≤ j → IsVersion version → IsKnown z rows (to_take (needing version l)).local
 needs_last z rows l j version o k b m g x n u =
     let never : ⊥ → length l.rebalance.taken < length l.rebalance.starts = λ t. absurd t in
     let p = needs z l version k u in
-    let q : length (l.rebalance.needed ++ version ∷ []) ≤ z.seats = omega (arith, length-append l.rebalance.needed (version ∷ []), n, o) in
+    let q : length (l.rebalance.needed ++ version ∷ []) ≤ 2 * z.seats = omega (arith, length-append l.rebalance.needed (version ∷ []), n, o) in
     let none : 0 ≤ MOST_GROUP * z.cells = omega arith in
     let start : 0 ≤ z.cells = omega arith in
     assumption (k, b, m, g, x, p, q, none, start, never, All-nil IsCopy, All-nil (IsPlaced z))
+
+-- one that looks at the pins: a pin that stands is needed
+pin_known : (z : Sizes) (rows : ℕ) (v : Words) (i : ℕ) (l next : Local) → NextPinLook z i (v (name.Pin i)) l next → IsKnownAt z rows (Activity.Rebalance (Rebalance.Freeze (Freeze.Pin i))) l → IsKnown z rows next
+pin_known z rows v i l next (sees_pin version e o) k =
+    let never : ⊥ → length l.rebalance.taken < length l.rebalance.starts = λ t. absurd t in
+    let p = needs z l version k.ranges (IsScan-scan_of (v (name.Pin i)) (scan.Drawn version) e) in
+    let q : length (l.rebalance.needed ++ version ∷ []) ≤ z.seats + (i + 1) = omega (arith, length-append l.rebalance.needed (version ∷ []), k.rebalance.needed) in
+    assumption (k, p, q, o, never)
+pin_known z rows v i l next (sees_pin_last version e o) k = needs_last z rows l (z.seats + i) version (omega (arith, k.activity)) k.ranges k.below k.remembered k.gathered k.rebalance.marks k.rebalance.needed (IsScan-scan_of (v (name.Pin i)) (scan.Drawn version) e)
+pin_known z rows v i l next (sees_no_pin d o) k = let n : length l.rebalance.needed ≤ z.seats + (i + 1) = omega (arith, k.rebalance.needed) in assumption (k, n, o)
+pin_known z rows v i l next (sees_no_pin_last d o) k = begins_to_take z rows l k.ranges k.below k.remembered k.gathered k.rebalance.marks (omega (arith, k.rebalance.needed, k.activity))
 
 -- a remembered cell is read
 left_known : (z : Sizes) (rows : ℕ) (l : Local) (m : Mark) → least_mark l.rebalance.marks ≡ Some m → IsLocal z l → IsLocalBelow rows l → length l.remembered ≤ z.seats → length l.gathered ≤ z.cells → HasRebalanceRoom z (Activity.Rebalance (Rebalance.Gather Gather.Link)) l.rebalance →
@@ -358,14 +372,14 @@ follows_known : (z : Sizes) (rows : ℕ) (after : Option ℕ) (l : Local) → Is
 follows_known z rows after l o k b = (assumption k, assumption (b, o))
 
 -- the rows of its group are known, and the first one is at hand
-to_group_known : (z : Sizes) (rows : ℕ) (l : Local) → IsLocal z l → IsLocalBelow rows l → length l.remembered ≤ z.seats → length l.gathered ≤ z.cells → length l.rebalance.needed ≤ z.seats → length l.rebalance.gathered ≤ MOST_GROUP * z.cells → IsKnown z rows (to_group l).local
+to_group_known : (z : Sizes) (rows : ℕ) (l : Local) → IsLocal z l → IsLocalBelow rows l → length l.remembered ≤ z.seats → length l.gathered ≤ z.cells → length l.rebalance.needed ≤ 2 * z.seats → length l.rebalance.gathered ≤ MOST_GROUP * z.cells → IsKnown z rows (to_group l).local
 to_group_known z rows l k b m g n x =
     let never : ⊥ → length l.rebalance.taken < length l.rebalance.starts = λ t. absurd t in
     let none : 0 ≤ entries_before z (to_group l).local.rebalance = omega arith in
     assumption (k, b, m, g, n, x, none, never, All-nil (IsGroupMark z))
 
 -- it is known how many rows go: the next one is claimed, or the full row goes alone
-counted_known : (z : Sizes) (rows count : ℕ) (l next : Local) → NextCounted count l next → IsLocal z l → IsLocalBelow rows l → length l.remembered ≤ z.seats → length l.gathered ≤ z.cells → length l.rebalance.marks ≤ MOST_GROUP * z.seats → length l.rebalance.needed ≤ z.seats → length l.rebalance.gathered ≤ MOST_GROUP * z.cells → IsKnown z rows next
+counted_known : (z : Sizes) (rows count : ℕ) (l next : Local) → NextCounted count l next → IsLocal z l → IsLocalBelow rows l → length l.remembered ≤ z.seats → length l.gathered ≤ z.cells → length l.rebalance.marks ≤ MOST_GROUP * z.seats → length l.rebalance.needed ≤ 2 * z.seats → length l.rebalance.gathered ≤ MOST_GROUP * z.cells → IsKnown z rows next
 counted_known z rows count l next (claims_row q two e) k b m g s n x =
     let never : ⊥ → length l.rebalance.taken < length l.rebalance.starts = λ t. absurd t in
     assumption (k, b, m, g, s, n, x, never)
@@ -379,7 +393,7 @@ pub record IsSoughtIn (rows : ℕ) (l : Local) : Type 0 where
   pub asked : l.rebalance.asked ≤ rows
 
 -- a new row has no more cells than a row
-new_rows_fit : (z : Sizes) (gathered : List Cell) (needed : List ℕ) → z.seats < z.built → z.built ≤ z.cells → length needed ≤ z.seats → (n : ℕ) → n ≤ length (starts_of z.built (kept_of gathered needed)) - 1 →
+new_rows_fit : (z : Sizes) (gathered : List Cell) (needed : List ℕ) → 2 * z.seats < z.built → z.built ≤ z.cells → length needed ≤ 2 * z.seats → (n : ℕ) → n ≤ length (starts_of z.built (kept_of gathered needed)) - 1 →
     length (take (end_of (kept_of gathered needed) (starts_of z.built (kept_of gathered needed)) n - slice_index (starts_of z.built (kept_of gathered needed)) n) (drop (slice_index (starts_of z.built (kept_of gathered needed)) n) (kept_of gathered needed))) ≤ z.cells
 new_rows_fit z gathered needed b f m n o =
     let kept = kept_of gathered needed in
@@ -389,7 +403,7 @@ new_rows_fit z gathered needed b f m n o =
     omega (arith, cut, f, length-take (end_of kept starts n - slice_index starts n) (drop (slice_index starts n) kept))
 
 -- all cells are gathered, and the search for new rows begins
-seeks_rows : (z : Sizes) (rows : ℕ) (l : Local) → z.seats < z.built → z.built ≤ z.cells → IsSized z.seats z.cells rows → IsLocal z l → IsLocalBelow rows l → length l.remembered ≤ z.seats → length l.gathered ≤ z.cells → length l.rebalance.marks ≤ MOST_GROUP * z.seats → length l.rebalance.needed ≤ z.seats → length l.rebalance.gathered ≤ MOST_GROUP * z.cells →
+seeks_rows : (z : Sizes) (rows : ℕ) (l : Local) → 2 * z.seats < z.built → z.built ≤ z.cells → IsSized z.seats z.cells rows → IsLocal z l → IsLocalBelow rows l → length l.remembered ≤ z.seats → length l.gathered ≤ z.cells → length l.rebalance.marks ≤ MOST_GROUP * z.seats → length l.rebalance.needed ≤ 2 * z.seats → length l.rebalance.gathered ≤ MOST_GROUP * z.cells →
     IsKnown z rows (record (planned z l) { activity = Activity.Rebalance (Rebalance.Seek Seek.First) })
 seeks_rows z rows l built fits sized k b m g x y n =
     let kept : All IsCopy (kept_of l.rebalance.gathered l.rebalance.needed) = kept_of-all IsCopy l.rebalance.gathered l.rebalance.needed k.rebalance.gathered in
@@ -405,7 +419,7 @@ seeks_rows z rows l built fits sized k b m g x y n =
     assumption (k, b, m, g, x, y, n, kept, places, few, rows_fit, untaken, first_taken, none, first, one, some, All-nil (λ (r : ℕ). r < rows))
 
 -- the row at hand is gathered: the row ahead of it is gathered next, or the plan is made
-row_gathered : (z : Sizes) (rows : ℕ) (l next : Local) → NextGathered z l next → z.seats < z.built → z.built ≤ z.cells → IsSized z.seats z.cells rows → IsLocal z l → IsLocalBelow rows l → length l.remembered ≤ z.seats → length l.gathered ≤ z.cells → length l.rebalance.marks ≤ MOST_GROUP * z.seats → length l.rebalance.needed ≤ z.seats → length l.rebalance.gathered ≤ MOST_GROUP * z.cells → IsKnown z rows next
+row_gathered : (z : Sizes) (rows : ℕ) (l next : Local) → NextGathered z l next → 2 * z.seats < z.built → z.built ≤ z.cells → IsSized z.seats z.cells rows → IsLocal z l → IsLocalBelow rows l → length l.remembered ≤ z.seats → length l.gathered ≤ z.cells → length l.rebalance.marks ≤ MOST_GROUP * z.seats → length l.rebalance.needed ≤ 2 * z.seats → length l.rebalance.gathered ≤ MOST_GROUP * z.cells → IsKnown z rows next
 row_gathered z rows l next (gathers_ahead r e) built fits sized k b m g x y n =
     let never : ⊥ → length l.rebalance.taken < length l.rebalance.starts = λ t. absurd t in
     let o : r < rows = subst (IsRowBelow rows) e b.rebalance.ahead in
@@ -414,7 +428,7 @@ row_gathered z rows l next (gathers_ahead r e) built fits sized k b m g x y n =
 row_gathered z rows l next (gathered_all e) built fits sized k b m g x y n = seeks_rows z rows l built fits sized k b m g x y n
 
 -- a seat that may take one more row has lists as another has
-idle_room : (z : Sizes) (b : Rebalancing) → length b.marks ≤ MOST_GROUP * z.seats → length b.needed ≤ z.seats → length b.gathered ≤ MOST_GROUP * z.cells → HasRebalanceRoom z Activity.Idle b
+idle_room : (z : Sizes) (b : Rebalancing) → length b.marks ≤ MOST_GROUP * z.seats → length b.needed ≤ 2 * z.seats → length b.gathered ≤ MOST_GROUP * z.cells → HasRebalanceRoom z Activity.Idle b
 idle_room z b m n g = record { marks = m; needed = n; gathered = g; taken = λ t. absurd t }
 
 -- a group has a row, or two
@@ -550,6 +564,9 @@ known_by z rows v s choice l a l' (waits y) w c t b i k sought = let u = w.each 
 known_by z rows v s choice l a l' draws w c t b i k sought = let u = w.each name.Clock tt in assumption (k, u)
 known_by z rows v s choice l a l' (settles_empty y) w c t b i k sought = let u = version_of_scan (v (name.Scan s)) l.drawn k.ranges.drawn in assumption (k, u)
 known_by z rows v s choice l a l' (settles y) w c t b i k sought = let u = version_of_scan (v (name.Scan s)) l.drawn k.ranges.drawn in let f = first_in_range l.call k.ranges.call in assumption (k, u, f)
+known_by z rows v s choice l a l' (asks_of_pin next y n) w c t b i k sought = asks_of_none l.call k.ranges.call y
+known_by z rows v s choice l a l' (settles_pin y) w c t b i k sought = let u = version_of_scan (v (name.Scan s)) l.drawn k.ranges.drawn in assumption (k, u)
+known_by z rows v s choice l a l' stores_pin w c t b i k sought = let u : IsPinned (Some l.version) = k.ranges.version in let d : IsAnswer Done = tt in assumption (k, u, d)
 known_by z rows v s choice l a l' starts_at_head w c t b i k sought = takes_first z rows l w.sized v c k.ranges k.below k.remembered k.gathered (lists_of z _ l.rebalance k.activity k.rebalance)
 known_by z rows v s choice l a l' (guesses q y n) w c t b i k sought = let o : q < rows = subst (IsOffered rows) y i in assumption (k, o)
 known_by z rows v s choice l a l' takes_head w c t b i k sought = takes_first z rows l w.sized v c k.ranges k.below k.remembered k.gathered (lists_of z _ l.rebalance k.activity k.rebalance)
@@ -600,6 +617,7 @@ known_by z rows v s choice l a l' (gathers_left_over next n) w c t b i k sought 
     let u = value_in_range (v (name.Value l.row l.place)) (w.each (name.Value l.row l.place) (k.below.row, k.ranges.place)) in
     next_cell z rows (gathering z (value_of_word (v (name.Value l.row l.place))) l) w.sized next n (gathered_more z _ l u k.ranges) (assumption k) k.remembered (gathered_few z (value_of_word (v (name.Value l.row l.place))) l k.gathered) (lists_of z _ l.rebalance k.activity k.rebalance)
 known_by z rows v s choice l a l' (clears_scan answer) w c t b i k sought = is_leaving z rows l w.sized _ (stopped_in_range answer choice k.activity) k.ranges k.below k.remembered k.gathered (lists_of z _ l.rebalance k.activity k.rebalance)
+known_by z rows v s choice l a l' clears_pin w c t b i k sought = let u : IsPinned None = tt in is_leaving z rows (record l { pin = None }) w.sized Done tt (assumption (k, u)) (assumption k) k.remembered k.gathered (lists_of z _ l.rebalance k.activity k.rebalance)
 known_by z rows v s choice l a l' (finds_full y) w c t b i k sought = is_balancing z rows l w.sized k.ranges k.below k.remembered k.gathered
 known_by z rows v s choice l a l' (takes_cell y) w c t b i k sought = let u = room_below z (count_of (v (name.Count l.row))) y in assumption (k, u)
 known_by z rows v s choice l a l' (takes_full y) w c t b i k sought = is_balancing z rows l w.sized k.ranges k.below k.remembered k.gathered
@@ -625,7 +643,7 @@ known_by z rows v s choice l a l' (key_before y) w c t b i k sought = assumption
 known_by z rows v s choice l a l' (version_before y) w c t b i k sought = assumption k
 known_by z rows v s choice l a l' (loses y) w c t b i k sought = let o = min-le_right (l.lost + 1) z.cells in let p : 0 ≤ z.cells = omega arith in assumption (k, o, p)
 known_by z rows v s choice l a l' clears w c t b i k sought = is_leaving z rows l w.sized _ tt k.ranges k.below k.remembered k.gathered (lists_of z _ l.rebalance k.activity k.rebalance)
-known_by z rows v s choice l a l' (leaves answer) w c t b i k sought = rests_known z rows l.number w.sized
+known_by z rows v s choice l a l' (leaves answer) w c t b i k sought = let f = rests_known z rows l.number w.sized in let p = k.ranges.pin in assumption (f, p)
 known_by z rows v s choice l a l' enters_again w c t b i k sought = let y = w.each name.Epoch tt in assumption (k, y)
 known_by z rows v s choice l a l' (clock_is_spent e nd) w c t b i k sought = is_refusing z rows l w.sized Spent tt k.ranges k.below k.remembered k.gathered
 known_by z rows v s choice l a l' (ends_at_clock dn) w c t b i k sought = is_refusing z rows l w.sized Done tt k.ranges k.below k.remembered k.gathered
@@ -706,14 +724,15 @@ known_by z rows v s choice l a l' (sees_quiet j e o) w c t b i k sought = let n 
 known_by z rows v s choice l a l' (sees_quiet_last j e o) w c t b i k sought = begins_to_take z rows l k.ranges k.below k.remembered k.gathered k.rebalance.marks (omega (arith, k.rebalance.needed, k.activity))
 known_by z rows v s choice l a l' (helps_scan j clock e) w c t b i k sought = let u : IsVersion clock = IsScan-scan_of (v (name.Scan j)) (scan.Waiting clock) e in assumption (k, u)
 known_by z rows v s choice l a l' (sees_drawn j version e o) w c t b i k sought = needs_more z rows l j version o k.ranges k.below k.remembered k.gathered k.rebalance.marks k.rebalance.gathered k.rebalance.needed (IsScan-scan_of (v (name.Scan j)) (scan.Drawn version) e)
-known_by z rows v s choice l a l' (sees_drawn_last j version e o) w c t b i k sought = needs_last z rows l j version k.activity k.ranges k.below k.remembered k.gathered k.rebalance.marks k.rebalance.needed (IsScan-scan_of (v (name.Scan j)) (scan.Drawn version) e)
+known_by z rows v s choice l a l' (sees_drawn_last j version e o) w c t b i k sought = needs_last z rows l j version (omega (arith, k.activity)) k.ranges k.below k.remembered k.gathered k.rebalance.marks k.rebalance.needed (IsScan-scan_of (v (name.Scan j)) (scan.Drawn version) e)
 known_by z rows v s choice l a l' (draws_for j) w c t b i k sought = let u = w.each name.Clock tt in assumption (k, u)
 known_by z rows v s choice l a l' (settles_scan j e o) w c t b i k sought = needs_more z rows l j l.rebalance.drawn o k.ranges k.below k.remembered k.gathered k.rebalance.marks k.rebalance.gathered k.rebalance.needed k.ranges.rebalance.drawn
-known_by z rows v s choice l a l' (settles_last j e o) w c t b i k sought = needs_last z rows l j l.rebalance.drawn k.activity k.ranges k.below k.remembered k.gathered k.rebalance.marks k.rebalance.needed k.ranges.rebalance.drawn
+known_by z rows v s choice l a l' (settles_last j e o) w c t b i k sought = needs_last z rows l j l.rebalance.drawn (omega (arith, k.activity)) k.ranges k.below k.remembered k.gathered k.rebalance.marks k.rebalance.needed k.ranges.rebalance.drawn
 known_by z rows v s choice l a l' (finds_drawn j version e o) w c t b i k sought = needs_more z rows l j version o k.ranges k.below k.remembered k.gathered k.rebalance.marks k.rebalance.gathered k.rebalance.needed (IsScan-scan_of (v (name.Scan j)) (scan.Drawn version) e)
-known_by z rows v s choice l a l' (finds_drawn_last j version e o) w c t b i k sought = needs_last z rows l j version k.activity k.ranges k.below k.remembered k.gathered k.rebalance.marks k.rebalance.needed (IsScan-scan_of (v (name.Scan j)) (scan.Drawn version) e)
+known_by z rows v s choice l a l' (finds_drawn_last j version e o) w c t b i k sought = needs_last z rows l j version (omega (arith, k.activity)) k.ranges k.below k.remembered k.gathered k.rebalance.marks k.rebalance.needed (IsScan-scan_of (v (name.Scan j)) (scan.Drawn version) e)
 known_by z rows v s choice l a l' (finds_no_scan j e o) w c t b i k sought = let n : length l.rebalance.needed ≤ j + 1 = omega (arith, k.rebalance.needed) in assumption (k, n, o)
 known_by z rows v s choice l a l' (finds_no_scan_last j e o) w c t b i k sought = begins_to_take z rows l k.ranges k.below k.remembered k.gathered k.rebalance.marks (omega (arith, k.rebalance.needed, k.activity))
+known_by z rows v s choice l a l' (looks_at_pin j next n) w c t b i k sought = pin_known z rows v j l next n k
 known_by z rows v s choice l a l' (take_leads x e) w c t b i k sought =
     let u : x < z.cells = linked_below (v (link_name l.rebalance.hand l.link)) x z.cells e (link_below z rows v w l.rebalance.hand l.link k.ranges.link k.below.rebalance.hand) in
     let o = min-le_right (l.walked + 1) z.cells in

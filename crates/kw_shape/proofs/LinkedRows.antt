@@ -72,7 +72,7 @@ use Rattle.kw_shape.specs.Search.{Search}
 use Rattle.kw_shape.specs.Sought.{Sought}
 use Rattle.std.proofs.lemmas.Option.{same_Some}
 use Rattle.kw_model.specs.declared.call.Call.{Call}
-use Rattle.kw_model.specs.declared.call.Call.TheVariants.{Del, Get, Put, Scan}
+use Rattle.kw_model.specs.declared.call.Call.TheVariants.{Del, Get, Pin, Put, Scan, ScanAt, Unpin}
 use Rattle.kw_world.specs.Calls.{first_key, is_scan}
 use Rattle.kw_shape.specs.ReachedRows.{IsReached, is_first, is_next}
 
@@ -458,6 +458,9 @@ put_scans (Some (Put key value)) h e = let x : false ≡ true = e in absurd (cc)
 put_scans (Some (Del key)) h e = let x : false ≡ true = e in absurd (cc)
 put_scans (Some (Get key)) h e = absurd h
 put_scans (Some (Scan from upto)) h e = absurd h
+put_scans (Some Pin) h e = absurd h
+put_scans (Some (ScanAt from upto)) h e = absurd h
+put_scans (Some Unpin) h e = absurd h
 put_scans None h e = absurd h
 
 -- a row at which a seat has arrived may hold the wanted key

@@ -7,7 +7,6 @@ use Rattle.kw_cells.proofs.KeptOf.{kept_of-all}
 use Rattle.kw_rows.specs.Events.{IsIn, Rises}
 use Rattle.kw_rows.specs.Group.{Group}
 use Rattle.kw_rows.specs.Ledger.{IsHeld}
-use Rattle.kw_rows.specs.Rows as rows
 use Rattle.kw_rows.proofs.Named.{held_by}
 use Rattle.kw_world.specs.declared.activity.Activity.TheVariants as Activity
 use Rattle.kw_world.specs.declared.activity.rebalance.Rebalance.TheVariants as Rebalance

@@ -2,7 +2,7 @@
 use Rattle.std.proofs.Common.{ℕ, ◌≡◌, ◌⊎◌, inl, inr, ◌*◌, ◌<◌, ◌==◌, ◌&&◌, Bool, true, false, Some, nat_lt, refl, sym, subst, slice_get, if◌then◌else◌, ◌≤◌, Option, None, arith, ◌∙◌}
 use Rattle.kw_world.specs.declared.activity.Activity.{Activity}
 use Rattle.kw_world.specs.declared.activity.put.Put.TheVariants as Put
-use Rattle.kw_world.specs.declared.answer.Answer.TheVariants.{Absent, Done, NoRows, Pairs, Spent, Stopped, Value}
+use Rattle.kw_world.specs.declared.answer.Answer.TheVariants.{Absent, Done, NoRows, Pairs, Spent, Stopped, Value, Held, NotPinned}
 use Rattle.kw_world.specs.declared.event.Choice.{Choice}
 use Rattle.kw_world.specs.declared.event.Choice.TheVariants.{Begin, Go, Guess, Stop}
 use Rattle.kw_world.specs.declared.limits.TheConstants.{TIDY_SHARE}
@@ -15,9 +15,9 @@ use Rattle.kw_world.specs.Transition.{Outcome, leave}
 use Rattle.kw_core.specs.Run.{Run}
 use Rattle.kw_core.specs.Stages.{IsBalancing, IsDone, IsPublished, IsPutClear, IsUnderway}
 use Rattle.kw_core.specs.Words.{Words}
-use Rattle.kw_core.proofs.Arrows.{Arrow, IsNotOwn, NextLeftOver, NextLook, answers, begins, begins_left, below, builds, claims_next, claims_not, clears, clears_scan, clock_is_spent, clock_serves, counts_next, decides, decides_not, draws_for, ends_at_clock, ends_at_epoch, ends_at_head, ends_at_none, ends_at_state, ends_past, ends_scan, ends_unclaimed, ends_undecided, engages, enters_again, epoch_is_spent, epoch_serves, finds_drawn, finds_drawn_last, finds_follower, finds_infant, finds_leader, finds_no_scan, finds_no_scan_last, finds_normal, finds_other, finds_other_state, finds_stamped, first_ends, first_reaches, first_sees_none, freezes_count, freezes_entry, freezes_last, gathers_left_over, goes_to_left_over, head_follows, helps, helps_scan, inserts, inserts_at_first, inserts_behind, is_engaged, is_gone_by, is_stamped, keeps_left, keeps_no_more, keeps_taken, key_above, key_after, key_before, key_same, leads_left, leaves, left_over_gone_by, list_ends, lists, loads_clock, looks, looks_again, loses, marks_last, marks_led, marks_link, marks_next, next_is_infant, next_leads, none_is_left, normalises, normalises_next, passes_left, reaches_cell, reaches_leader, remembers, remembers_last, scans_on, sees_drawn, sees_drawn_last, sees_frozen, sees_frozen_last, sees_idle, sees_neither, sees_none, sees_quiet, sees_quiet_last, sees_stamped, sees_unstamped, settles_last, settles_scan, stamps, stamps_full, stores_after, stores_version, take_leads, takes_key, takes_leader, takes_left, takes_left_key, takes_no_more, takes_version, tidies, version_after, version_before, walks_left}
-use Rattle.kw_core.proofs.Grouping.{counted_goes, frozen_goes, gathered_goes}
-use Rattle.kw_core.proofs.Building.{IsBuilding}
+use Rattle.kw_core.proofs.Arrows.{Arrow, IsNotOwn, NextLeftOver, NextLook, answers, begins, begins_left, below, builds, claims_next, claims_not, clears, clears_scan, clock_is_spent, clock_serves, counts_next, decides, decides_not, draws_for, ends_at_clock, ends_at_epoch, ends_at_head, ends_at_none, ends_at_state, ends_past, ends_scan, ends_unclaimed, ends_undecided, engages, enters_again, epoch_is_spent, epoch_serves, finds_drawn, finds_drawn_last, finds_follower, finds_infant, finds_leader, finds_no_scan, finds_no_scan_last, finds_normal, finds_other, finds_other_state, finds_stamped, first_ends, first_reaches, first_sees_none, freezes_count, freezes_entry, freezes_last, gathers_left_over, goes_to_left_over, head_follows, helps, helps_scan, inserts, inserts_at_first, inserts_behind, is_engaged, is_gone_by, is_stamped, keeps_left, keeps_no_more, keeps_taken, key_above, key_after, key_before, key_same, leads_left, leaves, left_over_gone_by, list_ends, lists, loads_clock, looks, looks_again, loses, marks_last, marks_led, marks_link, marks_next, next_is_infant, next_leads, none_is_left, normalises, normalises_next, passes_left, reaches_cell, reaches_leader, remembers, remembers_last, scans_on, sees_drawn, sees_drawn_last, sees_frozen, sees_frozen_last, sees_idle, sees_neither, sees_none, sees_quiet, sees_quiet_last, sees_stamped, sees_unstamped, settles_last, settles_scan, stamps, stamps_full, stores_after, stores_version, take_leads, takes_key, takes_leader, takes_left, takes_left_key, takes_no_more, takes_version, tidies, version_after, version_before, walks_left, asks_of_pin, looks_at_pin, clears_pin, stores_pin}
+use Rattle.kw_core.proofs.Grouping.{counted_goes, frozen_goes, gathered_goes, NextCounted, claims_row, goes_alone, NextFrozen, freezes_ahead, froze_all, NextGathered, gathers_ahead, gathered_all}
+use Rattle.kw_core.proofs.Building.{IsBuilding, Building, first_is_taken, sought_is_taken, pass_is_old, pass_is_young, takes_row, loses_row, gives_last_back, writes_first, writes_entry, writes_no_cell, writes_after, begins_before, takes_head_before, leads_on_marked, leads_nowhere, walks_past, is_marked_before, is_replaced}
 use Rattle.kw_core.proofs.BuiltNext.{built_goes}
 use Rattle.kw_core.proofs.Happens.{Happens}
 use Rattle.kw_shape.specs.Shape.{IsKind, IsPairs, Shape}
@@ -25,7 +25,9 @@ use Rattle.kw_words.specs.declared.layout.Name.TheVariants as name
 use Rattle.kw_world.specs.declared.answer.Answer.{Answer}
 use Rattle.kw_world.specs.Answers.{answer_found}
 use Rattle.kw_world.specs.ScanTransitions.{answer_or_stopped}
-use Rattle.kw_shape.proofs.AfterBuilding.{built_unpublished}
+use Rattle.kw_shape.proofs.AfterBuilding.{built_unpublished, of_pin_goes, look_goes}
+use Rattle.kw_core.proofs.NextBuilt.{GivenBack, tries_again, was_done, is_refused_rows, was_served, moves_left, NextBack, gives_back, has_none, NextSeek, asks, has_asked, NextTaken, wants_more, has_enough, NextPass, looks_on, has_looked, NextNewRow, writes_row, has_written, NextNewCell, fills, empties, has_cells, NextNewEntry, writes_idle, has_entries, NextBefore, is_first, is_behind}
+use Rattle.kw_world.specs.declared.rebalance.Afterwards.{Afterwards}
 
 -- the next cell is one of the same call
 pub cell_call : (l : Local) (k : Local) → NextLeftOver l k → (k.call ≡ l.call) × (k.number ≡ l.number)
@@ -51,6 +53,8 @@ arrow_call z v s choice l a k (takes_no_more next e f n) u = let g = gathered_go
 arrow_call z v s choice l a k (keeps_no_more next f n) u = let g = gathered_goes z _ _ n in (g.call, g.number)
 arrow_call z v s choice l a k (marks_led count next d n) u = let g = counted_goes _ _ _ n in (g.call, g.number)
 arrow_call z v s choice l a k (decides count m next e n) u = let g = counted_goes _ _ _ n in (g.call, g.number)
+arrow_call z v s choice l a k (asks_of_pin next c n) u = let g = of_pin_goes _ _ n in (g.call, g.number)
+arrow_call z v s choice l a k (looks_at_pin j next n) u = let g = look_goes z _ _ _ _ n in (g.call, g.number)
 arrow_call z v s choice l a k _ u = (refl, refl)
 
 -- a seat begins at most one call at an event
@@ -68,6 +72,8 @@ arrow_number z v s choice l a k (takes_no_more next e f n) = let g = gathered_go
 arrow_number z v s choice l a k (keeps_no_more next f n) = let g = gathered_goes z _ _ n in omega (arith, g.number)
 arrow_number z v s choice l a k (marks_led count next d n) = let g = counted_goes _ _ _ n in omega (arith, g.number)
 arrow_number z v s choice l a k (decides count m next e n) = let g = counted_goes _ _ _ n in omega (arith, g.number)
+arrow_number z v s choice l a k (asks_of_pin next c n) = let g = of_pin_goes _ _ n in omega (arith, g.number)
+arrow_number z v s choice l a k (looks_at_pin j next n) = let g = look_goes z _ _ _ _ n in omega (arith, g.number)
 arrow_number z v s choice l a k _ = omega arith
 
 -- a put that has announced its cell goes on to its end, where the entry is its own
@@ -125,6 +131,8 @@ cleared_not_done Absent choice p d = p
 cleared_not_done NoRows choice p d = p
 cleared_not_done Spent choice p d = p
 cleared_not_done Stopped choice p d = p
+cleared_not_done Held choice p d = p
+cleared_not_done NotPinned choice p d = p
 
 -- a seat that rebalances a row is not done
 balancing_not_done : (a : Activity) → IsBalancing a → IsDone a → ⊥
@@ -162,6 +170,9 @@ arrow_done z v s choice l a k (is_gone_by next e x) n d = absurd (next_look_done
 arrow_done z v s choice l a k (helps next e x) n d = absurd (next_look_done z _ next x d)
 arrow_done z v s choice l a k (finds_stamped c version next e x) n d = absurd (next_look_done z _ next x d)
 arrow_done z v s choice l a k (finds_other next e x) n d = absurd (next_look_done z _ next x d)
+arrow_done z v s choice l a k (asks_of_pin next c x) n d = absurd ((of_pin_goes _ _ x).done d)
+arrow_done z v s choice l a k clears_pin n d = absurd n
+arrow_done z v s choice l a k (looks_at_pin j next x) n d = absurd n
 arrow_done z v s choice l a k _ n d = absurd d
 
 -- a seat that tidies goes on with that, until its put is done
@@ -242,6 +253,7 @@ arrow_tidies z v s choice l a k (ends_unclaimed q0) x e = inl tt
 arrow_tidies z v s choice l a k (ends_at_head q0) x e = inl tt
 arrow_tidies z v s choice l a k (ends_at_none q0) x e = inl tt
 arrow_tidies z v s choice l a k (ends_past q0) x e = inl tt
+arrow_tidies z v s choice l a k (looks_at_pin j next n) x e = let g = look_goes z _ _ _ _ n in inr (g.next, g.tidies ∙ e)
 arrow_tidies z v s choice l a k _ x e = absurd x
 
 -- what the next cell leaves of the bit
@@ -338,6 +350,8 @@ arrow_tidied z v s choice l a k (list_ends next o n) f e = nobody _ (f (sym (cel
 arrow_tidied z v s choice l a k (key_above next o n) f e = nobody _ (f (sym (cell_tidies _ _ n) ∙ e))
 arrow_tidied z v s choice l a k (left_over_gone_by next o n) f e = nobody _ (f (sym (cell_tidies _ _ n) ∙ e))
 arrow_tidied z v s choice l a k (gathers_left_over next n) f e = nobody _ (f (sym (cell_tidies _ _ n) ∙ e))
+arrow_tidied z v s choice l a k (asks_of_pin next c n) f e = nobody _ (f (sym (of_pin_goes _ _ n).tidies ∙ e))
+arrow_tidied z v s choice l a k (looks_at_pin j next n) f e = inl (look_goes z _ _ _ _ n).next
 arrow_tidied z v s choice l a k _ f e = nobody _ (f e)
 
 -- it did so before, or clears its entry now
@@ -357,7 +371,112 @@ arrow_from z v s choice l a k (takes_no_more next x f n) e = inr (sym (gathered_
 arrow_from z v s choice l a k (keeps_no_more next f n) e = inr (sym (gathered_goes z _ _ n).tidies ∙ e)
 arrow_from z v s choice l a k (marks_led count next d n) e = inr (sym (counted_goes _ _ _ n).tidies ∙ e)
 arrow_from z v s choice l a k (decides count m next o n) e = inr (sym (counted_goes _ _ _ n).tidies ∙ e)
+arrow_from z v s choice l a k (asks_of_pin next c n) e = inr (sym (of_pin_goes _ _ n).tidies ∙ e)
+arrow_from z v s choice l a k (looks_at_pin j next n) e = inr (sym (look_goes z _ _ _ _ n).tidies ∙ e)
 arrow_from z v s choice l a k _ e = inr e
+
+-- No seat comes to hold a pin.
+
+-- what follows where a part has no event of its own leaves the pin as it is
+cell_pin : (l k : Local) → NextLeftOver l k → k.pin ≡ l.pin
+cell_pin l k (goes_to_left_over m w) = refl
+cell_pin l k (answers w e) = refl
+cell_pin l k (ends_scan w e f) = refl
+cell_pin l k (scans_on r w e f o) = refl
+
+frozen_pin : (l k : Local) → NextFrozen l k → k.pin ≡ l.pin
+frozen_pin l k (freezes_ahead r e) = refl
+frozen_pin l k (froze_all e) = refl
+
+gathered_pin : (z : Sizes) (l k : Local) → NextGathered z l k → k.pin ≡ l.pin
+gathered_pin z l k (gathers_ahead r e) = refl
+gathered_pin z l k (gathered_all e) = refl
+
+counted_pin : (count : ℕ) (l k : Local) → NextCounted count l k → k.pin ≡ l.pin
+counted_pin count l k (claims_row r m e) = refl
+counted_pin count l k (goes_alone d) = refl
+
+given_pin : (a : Afterwards) (l k : Local) → GivenBack l a k → k.pin ≡ l.pin
+given_pin a l k (tries_again n) = refl
+given_pin a l k (was_done d) = refl
+given_pin a l k (is_refused_rows n) = refl
+given_pin a l k (was_served d) = refl
+given_pin a l k moves_left = refl
+
+back_pin : (a : Afterwards) (l k : Local) → NextBack a l k → k.pin ≡ l.pin
+back_pin a l k (gives_back o) = refl
+back_pin a l k (has_none next e n) = given_pin a l next n
+
+seek_pin : (rows : ℕ) (l k : Local) → NextSeek rows l k → k.pin ≡ l.pin
+seek_pin rows l k (asks o) = refl
+seek_pin rows l k (has_asked next o n) = back_pin _ l next n
+
+taken_pin : (rows : ℕ) (l k : Local) → NextTaken rows l k → k.pin ≡ l.pin
+taken_pin rows l k (wants_more next o n) = seek_pin rows l next n
+taken_pin rows l k (has_enough o) = refl
+
+pass_pin : (z : Sizes) (i : ℕ) (l k : Local) → NextPass z i l k → k.pin ≡ l.pin
+pass_pin z i l k (looks_on o) = refl
+pass_pin z i l k (has_looked o) = refl
+
+row_pin : (l k : Local) → NextNewRow l k → k.pin ≡ l.pin
+row_pin l k (writes_row o) = refl
+row_pin l k (has_written o) = refl
+
+new_cell_pin : (z : Sizes) (j : ℕ) (l k : Local) → NextNewCell z j l k → k.pin ≡ l.pin
+new_cell_pin z j l k (fills o m) = refl
+new_cell_pin z j l k (empties o m) = refl
+new_cell_pin z j l k (has_cells next o n) = row_pin l next n
+
+entry_pin : (z : Sizes) (i : ℕ) (l k : Local) → NextNewEntry z i l k → k.pin ≡ l.pin
+entry_pin z i l k (writes_idle o) = refl
+entry_pin z i l k (has_entries next o n) = new_cell_pin z 0 l next n
+
+before_pin : (r : ℕ) (l k : Local) → NextBefore r l k → k.pin ≡ l.pin
+before_pin r l k (is_first e) = refl
+before_pin r l k (is_behind d) = refl
+
+built_pin : (z : Sizes) (v : Words) (choice : Choice) (l : Local) (a : Activity) (k : Local) → Building z v choice l a k → k.pin ≡ l.pin
+built_pin z v choice l a k (first_is_taken q rows next c d n) = seek_pin rows _ next n
+built_pin z v choice l a k (sought_is_taken rows next d n) = seek_pin rows _ next n
+built_pin z v choice l a k (pass_is_old i epoch rows next e o n) = seek_pin rows _ next n
+built_pin z v choice l a k (pass_is_young i next y n) = pass_pin z _ _ next n
+built_pin z v choice l a k (takes_row rows next e n) = taken_pin rows _ next n
+built_pin z v choice l a k (loses_row rows next d n) = seek_pin rows _ next n
+built_pin z v choice l a k (gives_last_back next o n) = given_pin _ _ next n
+built_pin z v choice l a k (writes_first next n) = entry_pin z 0 _ next n
+built_pin z v choice l a k (writes_entry i next n) = entry_pin z _ _ next n
+built_pin z v choice l a k (writes_no_cell j next o n) = new_cell_pin z _ _ next n
+built_pin z v choice l a k (writes_after j next n) = new_cell_pin z _ _ next n
+built_pin z v choice l a k (begins_before next n) = before_pin _ _ next n
+built_pin z v choice l a k (takes_head_before next n) = before_pin _ _ next n
+built_pin z v choice l a k (leads_on_marked next e n) = back_pin _ _ next n
+built_pin z v choice l a k (leads_nowhere next e n) = back_pin _ _ next n
+built_pin z v choice l a k (walks_past next o n) = back_pin _ _ next n
+built_pin z v choice l a k (is_marked_before next e n) = back_pin _ _ next n
+built_pin z v choice l a k (is_replaced next d n) = back_pin _ _ next n
+built_pin z v choice l a k _ = refl
+
+-- a seat that holds none holds none after its event
+pub arrow_pin : (z : Sizes) (v : Words) (s : ℕ) (choice : Choice) (l : Local) (a : Activity) (k : Local) → Arrow z v s choice l a k → IsKind a l → l.pin ≡ None → k.pin ≡ None
+arrow_pin z v s choice l a k (builds b next y t) n e = built_pin z v choice l b next t ∙ e
+arrow_pin z v s choice l a k stores_pin n e = absurd n
+arrow_pin z v s choice l a k clears_pin n e = refl
+arrow_pin z v s choice l a k (asks_of_pin next c x) n e = (of_pin_goes _ _ x).pin ∙ e
+arrow_pin z v s choice l a k (looks_at_pin j next x) n e = absurd n
+arrow_pin z v s choice l a k (first_ends next f x) n e = cell_pin _ _ x ∙ e
+arrow_pin z v s choice l a k (list_ends next f x) n e = cell_pin _ _ x ∙ e
+arrow_pin z v s choice l a k (key_above next f x) n e = cell_pin _ _ x ∙ e
+arrow_pin z v s choice l a k (left_over_gone_by next f x) n e = cell_pin _ _ x ∙ e
+arrow_pin z v s choice l a k (gathers_left_over next x) n e = cell_pin _ _ x ∙ e
+arrow_pin z v s choice l a k (remembers_last j c version next f o x) n e = frozen_pin _ _ x ∙ e
+arrow_pin z v s choice l a k (sees_frozen_last j next f o x) n e = frozen_pin _ _ x ∙ e
+arrow_pin z v s choice l a k (freezes_last j next f o x) n e = frozen_pin _ _ x ∙ e
+arrow_pin z v s choice l a k (takes_no_more next f m x) n e = gathered_pin z _ _ x ∙ e
+arrow_pin z v s choice l a k (keeps_no_more next f x) n e = gathered_pin z _ _ x ∙ e
+arrow_pin z v s choice l a k (marks_led count next d x) n e = counted_pin _ _ _ x ∙ e
+arrow_pin z v s choice l a k (decides count m next f x) n e = counted_pin _ _ _ x ∙ e
+arrow_pin z v s choice l a k _ n e = e
 
 -- A seat that tidies was offered that: so many rows were retired before its visit that the table
 -- has few for each number. It was so at its choice, and neither the rows nor the epoch of its visit
@@ -381,6 +500,8 @@ balancing_epoch z v s choice l a k (takes_no_more next e f m) x = (gathered_goes
 balancing_epoch z v s choice l a k (keeps_no_more next f m) x = (gathered_goes z _ _ m).epoch
 balancing_epoch z v s choice l a k (marks_led count next d m) x = (counted_goes _ _ _ m).epoch
 balancing_epoch z v s choice l a k (decides count c next e m) x = (counted_goes _ _ _ m).epoch
+balancing_epoch z v s choice l a k (asks_of_pin next c n) x = absurd x
+balancing_epoch z v s choice l a k (looks_at_pin j next n) x = (look_goes z _ _ _ _ n).epoch
 balancing_epoch z v s choice l a k _ x = refl
 
 -- a seat that leaves tidies no more

@@ -3,7 +3,7 @@
 --
 -- Nothing here reads a world: a plan is one of the cells that are kept, and of where the new rows
 -- start among them.
-use Rattle.std.proofs.Common.{ℕ, zero, suc, ◌≡◌, ◌⊎◌, inl, inr, ◌+◌, ◌-◌, ◌<◌, ◌≤◌, ◌==◌, All, false, List, [], ◌∷◌, arith, refl, sym, ◌∙◌, ap, subst, drop, get_or, length}
+use Rattle.std.proofs.Common.{◌*◌, ℕ, zero, suc, ◌≡◌, ◌⊎◌, inl, inr, ◌+◌, ◌-◌, ◌<◌, ◌≤◌, ◌==◌, All, false, List, [], ◌∷◌, arith, refl, sym, ◌∙◌, ap, subst, drop, get_or, length}
 use Rattle.std.proofs.lemmas.Bool.{cases_lt}
 use Rattle.std.proofs.lemmas.Bool.Decides.{nat_tests}
 use Rattle.std.proofs.lemmas.List.{get_or-drop, get_or-take, get_or_default, get_or_past, length-drop, length-take}
@@ -29,7 +29,7 @@ pub record IsPlan (built : ℕ) (l : Local) : Type 0 where
   pub starts : AreCuts built l.rebalance.kept l.rebalance.starts
 
 -- a seat has such a plan where a new row has room for the cells of one key
-pub plan_of : (z : Sizes) (a : Activity) (l : Local) → Plans z a l → IsPlanned (nursing_of a) → z.seats < z.built → length l.rebalance.needed ≤ z.seats → IsPlan z.built l
+pub plan_of : (z : Sizes) (a : Activity) (l : Local) → Plans z a l → IsPlanned (nursing_of a) → 2 * z.seats < z.built → length l.rebalance.needed ≤ 2 * z.seats → IsPlan z.built l
 plan_of z a l p x b n = record { rising = rising; starts = subst (AreCuts z.built l.rebalance.kept) (sym (p.starts x)) (are_cuts z.built l.rebalance.kept rising few) }
   where
     rising : AreRising l.rebalance.kept

@@ -13,7 +13,7 @@ use Rattle.kw_cells.specs.Cuts.{starts_of}
 use Rattle.kw_cells.specs.Kept.{kept_of}
 use Rattle.kw_core.specs.Run.{Run}
 use Rattle.kw_core.specs.Words.{Words}
-use Rattle.kw_core.proofs.Arrows.{Arrow, NextLook, NextLeftOver, answers, builds, ends_scan, finds_other, finds_stamped, gathers_left_over, helps, is_gone_by, keeps_no_more, key_above, list_ends, lists, looks, sees_neither, sees_stamped, left_over_gone_by, goes_to_left_over, scans_on, takes_no_more, remembers_last, sees_frozen_last, freezes_last, first_ends, decides, marks_led}
+use Rattle.kw_core.proofs.Arrows.{Arrow, NextLook, NextLeftOver, answers, builds, ends_scan, finds_other, finds_stamped, gathers_left_over, helps, is_gone_by, keeps_no_more, key_above, list_ends, lists, looks, sees_neither, sees_stamped, left_over_gone_by, goes_to_left_over, scans_on, takes_no_more, remembers_last, sees_frozen_last, freezes_last, first_ends, decides, marks_led, asks_of_pin, looks_at_pin}
 use Rattle.kw_core.proofs.Building.{Building, first_is_retired, sought_is_retired, pass_is_old, pass_is_young, frees_row, before_is_above, before_serves, begins_before, draws_number, first_is_free, first_is_taken, gives_last_back, gives_one_back, guess_before_fails, guesses_before, is_marked_before, is_replaced, leads_nowhere, leads_on_marked, leads_to_full, leads_to_other, loses_row, makes_last_normal, makes_normal, replaces_row, retires_row, sought_is_free, sought_is_taken, takes_head_before, takes_row, walks_before, walks_past, writes_no_cell, writes_after, writes_count, writes_entry, writes_first, writes_key, writes_least, writes_link, writes_value, writes_version, retires_ahead, retires_and_leaves}
 use Rattle.kw_core.proofs.Grouping.{NextCounted, claims_row, goes_alone, NextFrozen, freezes_ahead, froze_all, NextGathered, gathered_all, gathers_ahead}
 use Rattle.kw_core.proofs.Happens.{Happens}
@@ -22,6 +22,7 @@ use Rattle.kw_shape.specs.Infants.{HasAll, HasNone, nursing_of}
 use Rattle.kw_shape.specs.Keyed.{IsPlanned}
 use Rattle.kw_shape.specs.Plans.{Plans}
 use Rattle.kw_shape.specs.Shape.{Shape}
+use Rattle.kw_core.proofs.Pinning.{NextOfPin, pins, NextPinLook, sees_pin}
 
 -- the plan is made
 record HasPlan (z : Sizes) (l : Local) : Type 0 where
@@ -153,6 +154,15 @@ module _ (z : Sizes) where
   plans_built v choice l a k (retires_row n nd) o p = unplanned z _ _ refl
   plans_built v choice l a k (retires_and_leaves n dn) o p = unplanned z _ _ refl
 
+-- a call that asks of a pin has no plan, nor has a seat that looks at one
+of_pin_unplanned : (z : Sizes) (l k : Local) → NextOfPin l k → Plans z k.activity k
+of_pin_unplanned z l k (pins e f) = unplanned z _ _ refl
+of_pin_unplanned z l k _ = unplanned z _ _ refl
+
+pin_unplanned : (z : Sizes) (i w : ℕ) (l k : Local) → NextPinLook z i w l k → Plans z k.activity k
+pin_unplanned z i w l k (sees_pin version e o) = unplanned z _ _ refl
+pin_unplanned z i w l k _ = unplanned z _ _ refl
+
 -- by the arrow that the seat takes
 plans_by : (z : Sizes) (v : Words) (s : ℕ) (choice : Choice) (l : Local) (a : Activity) (l' : Local) → Arrow z v s choice l a l' → (IsTakingRows a → length l.rebalance.taken < length l.rebalance.starts) → Plans z a l → Plans z l'.activity l'
 plans_by z v s choice l a l' (builds b next y t) o p = plans_built z v choice l a l' t o p
@@ -174,6 +184,8 @@ plans_by z v s choice l a l' (left_over_gone_by next y n) o p = left_over_unplan
 plans_by z v s choice l a l' (gathers_left_over next n) o p = left_over_unplanned z _ next n
 plans_by z v s choice l a l' (marks_led count next d n) o p = counted_unplanned z _ _ next n
 plans_by z v s choice l a l' (decides count m next e n) o p = counted_unplanned z _ _ next n
+plans_by z v s choice l a l' (asks_of_pin next c n) o p = of_pin_unplanned z _ next n
+plans_by z v s choice l a l' (looks_at_pin j next n) o p = pin_unplanned z _ _ _ next n
 plans_by z v s choice l a l' _ o p = unplanned z _ _ refl
 
 -- the acting seat

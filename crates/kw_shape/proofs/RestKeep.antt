@@ -1,5 +1,5 @@
 -- Every event keeps it that a seat which gathers remembers no cell of a row behind the one at hand.
-use Rattle.std.proofs.Common.{ℕ, ◌≡◌, ◌≢◌, ◌≤◌, All, Bool, true, false, nat_lt, if◌then◌else◌, List, [], ◌∷◌, Option, Some, None, arith, refl, sym, ◌∙◌, ap, subst}
+use Rattle.std.proofs.Common.{ℕ, ◌≡◌, ◌≢◌, ◌≤◌, All, List, [], ◌∷◌, Option, Some, None, arith, refl, subst}
 use Rattle.std.proofs.lemmas.Bool.Decides.{nat_tests}
 use Rattle.std.proofs.lemmas.List.Elements.{All-cons, All-nil}
 use Rattle.kw_world.specs.declared.activity.Activity.{Activity}
@@ -17,7 +17,7 @@ use Rattle.kw_world.specs.TakeTransitions.{to_take}
 use Rattle.kw_core.specs.Run.{Run}
 use Rattle.kw_core.specs.Stages.{IsBalancing}
 use Rattle.kw_core.specs.Words.{Words}
-use Rattle.kw_core.proofs.Arrows.{Arrow, NextLook, looks, lists, NextLeftOver, goes_to_left_over, answers, ends_scan, scans_on, sees_stamped, sees_neither, is_gone_by, helps, finds_stamped, finds_other, list_ends, key_above, left_over_gone_by, gathers_left_over, takes_no_more, keeps_no_more, remembers_last, sees_frozen_last, freezes_last, builds, first_ends, decides, marks_led, sees_quiet_last, sees_drawn_last, settles_last, finds_drawn_last, finds_no_scan_last, take_leads, takes_left, takes_key, takes_version, keeps_taken, takes_left_key, keeps_left}
+use Rattle.kw_core.proofs.Arrows.{Arrow, NextLook, looks, lists, NextLeftOver, goes_to_left_over, answers, ends_scan, scans_on, sees_stamped, sees_neither, is_gone_by, helps, finds_stamped, finds_other, list_ends, key_above, left_over_gone_by, gathers_left_over, takes_no_more, keeps_no_more, remembers_last, sees_frozen_last, freezes_last, builds, first_ends, decides, marks_led, sees_quiet_last, sees_drawn_last, settles_last, finds_drawn_last, finds_no_scan_last, take_leads, takes_left, takes_key, takes_version, keeps_taken, takes_left_key, keeps_left, asks_of_pin, looks_at_pin}
 use Rattle.kw_core.proofs.BuiltNext.{IsAfterBuilding, built_next}
 use Rattle.kw_core.proofs.Grouping.{IsNoneLeft, NextCounted, claims_row, goes_alone, NextFrozen, freezes_ahead, froze_all, NextGathered, gathered_all, gathers_ahead}
 use Rattle.kw_core.proofs.Happens.{Happens}
@@ -27,6 +27,7 @@ use Rattle.kw_shape.proofs.LinkedRows.{balance_at}
 use Rattle.kw_shape.specs.Hands.{Hand, HasHand}
 use Rattle.kw_shape.specs.Keyed.{IsGatheringRow, IsRest}
 use Rattle.kw_shape.specs.Shape.{Shape}
+use Rattle.kw_core.proofs.Pinning.{NextOfPin, pins, NextPinLook, sees_pin, sees_pin_last, sees_no_pin, sees_no_pin_last}
 
 -- a place that the least remembered one is not below, none is below
 lesser_least : (k : ℕ) (m : Mark) (o : Option Mark) → k ≤ (lesser_of m o).cell → k ≤ m.cell
@@ -70,6 +71,10 @@ counted_rest : (count : ℕ) (l k : Local) → NextCounted count l k → IsGathe
 counted_rest count l k (claims_row q m e) x = x
 counted_rest count l k (goes_alone d) x = x
 
+of_pin_rest : (l k : Local) → NextOfPin l k → IsGatheringRow k.activity → ⊥
+of_pin_rest l k (pins e f) x = x
+of_pin_rest l k _ x = x
+
 built_rest : (a : Activity) → IsAfterBuilding a → IsGatheringRow a → ⊥
 built_rest (Activity.Rebalance (Rebalance.Gather _)) o x = o
 built_rest _ o x = x
@@ -88,6 +93,13 @@ module _ (z : Sizes) where
   -- the first row is at hand: no place is before those of it
   first_rest : (l : Local) (ms : List Mark) → l.rebalance.hand ≡ l.row → l.rebalance.second ≢ Some l.row → AreFrom (base z l.rebalance) ms
   first_rest l ms h d = all_from_least (base z l.rebalance) ms (λ m f. omega (arith, first_base z l h d))
+
+  -- the pins are looked at: the next one is, or the first row is at hand
+  pin_rest : (i w : ℕ) (l k : Local) → NextPinLook z i w l k → l.rebalance.second ≢ Some l.row → IsGatheringRow k.activity → AreFrom (base z k.rebalance) k.rebalance.marks
+  pin_rest i w l k (sees_pin version e o) d x = absurd x
+  pin_rest i w l k (sees_pin_last version e o) d x = first_rest (to_take (needing version l)).local _ refl d
+  pin_rest i w l k (sees_no_pin n o) d x = absurd x
+  pin_rest i w l k (sees_no_pin_last n o) d x = first_rest (to_take l).local _ refl d
 
   -- by the arrow that the seat takes
   pub rest_by : (v : Words) (s : ℕ) (choice : Choice) (l : Local) (a : Activity) (k : Local) → Arrow z v s choice l a k → (IsGatheringRow a → Hand l) → (IsBalancing a → l.rebalance.second ≢ Some l.row) → IsRest z a l → IsRest z k.activity k
@@ -122,6 +134,8 @@ module _ (z : Sizes) where
   rest_by v s choice l a k (freezes_last j next e o n) hand apart was x = absurd (frozen_rest _ next n x)
   rest_by v s choice l a k (marks_led count next d n) hand apart was x = absurd (counted_rest _ _ next n x)
   rest_by v s choice l a k (decides count m next e n) hand apart was x = absurd (counted_rest _ _ next n x)
+  rest_by v s choice l a k (asks_of_pin next c n) hand apart was x = absurd (of_pin_rest _ next n x)
+  rest_by v s choice l a k (looks_at_pin j next n) hand apart was x = pin_rest j _ l next n (apart tt) x
   rest_by v s choice l a k _ hand apart was x = absurd x
 
 module _ {z : Sizes} {r r' : Run} {s : ℕ} {choice : Choice} {l l' : Local} where

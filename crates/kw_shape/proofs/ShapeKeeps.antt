@@ -20,7 +20,7 @@ use Rattle.kw_world.specs.WorldView.{WorldView}
 use Rattle.kw_words.specs.declared.sizes.TheConstants.{MOST_GROUP, MOST_SEATS, SPENT}
 use Rattle.kw_words.specs.Layout.{IsSized, IsWithin, words_of}
 use Rattle.kw_words.specs.declared.count.Count.{Count as Counted}
-use Rattle.kw_world.specs.Sane.{IsActivity, IsGiven, IsHead, IsRowBelow, IsSane, IsKnown, IsLed}
+use Rattle.kw_world.specs.Sane.{IsActivity, IsCall, IsGiven, IsHead, IsRowBelow, IsSane, IsKnown, IsLed}
 use Rattle.kw_world.specs.Step.{word}
 use Rattle.kw_core.specs.Run.{Run}
 use Rattle.std.proofs.Common.{length-set, slice_set}
@@ -75,16 +75,16 @@ use Rattle.kw_shape.proofs.SoughtRows.{sought_in}
 use Rattle.std.proofs.Common.{◌&&◌}
 use Rattle.std.proofs.lemmas.Bool.{and_parts}
 use Rattle.kw_model.specs.declared.call.Call.{Call}
-use Rattle.kw_model.specs.declared.call.Call.TheVariants.{Put, Del, Get, Scan}
+use Rattle.kw_model.specs.declared.call.Call.TheVariants.{Put, Del, Get, Scan, Pin, ScanAt, Unpin}
 use Rattle.kw_world.specs.declared.answer.Answer.{Answer}
 use Rattle.kw_world.specs.Answers.{answer_found}
-use Rattle.kw_world.specs.declared.answer.Answer.TheVariants.{Done, Value, Absent, Pairs, NoRows, Spent, Stopped}
+use Rattle.kw_world.specs.declared.answer.Answer.TheVariants.{Done, Value, Absent, Pairs, NoRows, Spent, Stopped, Held, NotPinned}
 use Rattle.kw_world.specs.declared.event.Choice.TheVariants.{Stop}
 use Rattle.kw_world.specs.Calls.{last_key}
 use Rattle.kw_world.specs.ScanTransitions.{answer_or_stopped}
 use Rattle.kw_world.specs.WalkTransitions.{is_stop}
 use Rattle.kw_core.specs.Stages.{IsVisiting, is_put, IsBalancing, IsDone}
-use Rattle.kw_shape.specs.Shape.{IsSomeCall, IsPutCall, IsReadCall, IsScanCall, IsAnswerOf, IsKind, IsPairs}
+use Rattle.kw_shape.specs.Shape.{IsSomeCall, IsPutCall, IsReadCall, IsScanCall, IsAnswerOf, IsPairs}
 use Rattle.kw_core.proofs.BuiltNext.{built_goes, built_next}
 use Rattle.kw_core.proofs.InfantFrames.{count_stays, count_written}
 use Rattle.kw_words.proofs.CountWords.{count_of-count_word}
@@ -95,10 +95,10 @@ use Rattle.kw_shape.proofs.KeysKeep.{keys_own, keys_stay}
 use Rattle.kw_shape.proofs.RestKeep.{rest_own}
 use Rattle.kw_shape.specs.Keyed.{IsRest, Keys}
 use Rattle.kw_shape.proofs.NewWords.{cells_few}
-use Rattle.kw_shape.proofs.NextCalls.{arrow_tidied, offered_other, offered_own}
+use Rattle.kw_shape.proofs.NextCalls.{arrow_tidied, offered_other, offered_own, arrow_pin}
 use Rattle.kw_world.specs.declared.limits.TheConstants.{TIDY_SHARE}
-use Rattle.kw_shape.proofs.AfterBuilding.{after_kinds, built_kinds, built_pass, built_visits}
-use Rattle.kw_core.proofs.Arrows.{Arrow, begins, enters, enters_scan, is_spent, waits, stores_waiting, draws, settles_empty, settles, starts_at_head, guesses, guess_fails, takes_head, guess_serves, guess_is_above, stops, puts_in_last, reads_last, reaches_next, walks_on, puts_before, reads_before, sees_pending, sees_stamped, sees_neither, is_wanted, is_gone_by, loads_to_help, helps, finds_stamped, finds_other, list_leads, list_ends, key_below, key_within, key_above, loads_version, gathers_listed, left_over_wanted, left_over_gone_by, gathers_left_over, clears_scan, finds_room, takes_cell, stores_key, stores_value, announces, loads_clock, stamps, is_stamped, stores_version, reaches_cell, sees_none, key_before, key_same, key_after, version_before, version_after, stores_after, inserts, loses, clears, leaves, retries, enters_again, clock_is_spent, clock_serves, epoch_is_spent, epoch_serves, finds_infant, finds_normal, finds_follower, finds_leader, finds_other_state, normalises, engages, is_engaged, marks_link, marks_last, marks_led, decides, decides_not, finds_full, takes_full, announces_full, stamps_full, NextLook, looks, lists, NextLeftOver, goes_to_left_over, answers, ends_scan, scans_on, not_below, freezes_count, sees_idle, sees_unstamped, remembers, remembers_last, sees_frozen, sees_frozen_last, freezes_entry, freezes_last, looks_again, sees_quiet, sees_quiet_last, helps_scan, sees_drawn, sees_drawn_last, draws_for, settles_scan, settles_last, finds_drawn, finds_drawn_last, finds_no_scan, finds_no_scan_last, take_leads, takes_left, takes_no_more, takes_key, takes_version, keeps_taken, takes_left_key, keeps_left, keeps_no_more, builds, ends_at_state, ends_at_clock, ends_at_epoch, ends_undecided, counts_next, claims_next, next_is_infant, next_leads, claims_not, ends_unclaimed, normalises_next, marks_next, begins_left, takes_leader, reaches_leader, leads_left, walks_left, head_follows, ends_at_head, none_is_left, ends_at_none, passes_left, ends_past, tidies, begins_at_first, begins_behind, first_ends, first_leads, first_reaches, first_sees_none, inserts_at_first, inserts_behind}
+use Rattle.kw_shape.proofs.AfterBuilding.{after_kinds, built_kinds, built_pass, built_visits, asks_of_none, kind_at, no_call_of_pin, scan_is_no_pin}
+use Rattle.kw_core.proofs.Arrows.{Arrow, begins, enters, enters_scan, is_spent, waits, stores_waiting, draws, settles_empty, settles, starts_at_head, guesses, guess_fails, takes_head, guess_serves, guess_is_above, stops, puts_in_last, reads_last, reaches_next, walks_on, puts_before, reads_before, sees_pending, sees_stamped, sees_neither, is_wanted, is_gone_by, loads_to_help, helps, finds_stamped, finds_other, list_leads, list_ends, key_below, key_within, key_above, loads_version, gathers_listed, left_over_wanted, left_over_gone_by, gathers_left_over, clears_scan, finds_room, takes_cell, stores_key, stores_value, announces, loads_clock, stamps, is_stamped, stores_version, reaches_cell, sees_none, key_before, key_same, key_after, version_before, version_after, stores_after, inserts, loses, clears, leaves, retries, enters_again, clock_is_spent, clock_serves, epoch_is_spent, epoch_serves, finds_infant, finds_normal, finds_follower, finds_leader, finds_other_state, normalises, engages, is_engaged, marks_link, marks_last, marks_led, decides, decides_not, finds_full, takes_full, announces_full, stamps_full, NextLook, looks, lists, NextLeftOver, goes_to_left_over, answers, ends_scan, scans_on, not_below, freezes_count, sees_idle, sees_unstamped, remembers, remembers_last, sees_frozen, sees_frozen_last, freezes_entry, freezes_last, looks_again, sees_quiet, sees_quiet_last, helps_scan, sees_drawn, sees_drawn_last, draws_for, settles_scan, settles_last, finds_drawn, finds_drawn_last, finds_no_scan, finds_no_scan_last, take_leads, takes_left, takes_no_more, takes_key, takes_version, keeps_taken, takes_left_key, keeps_left, keeps_no_more, builds, ends_at_state, ends_at_clock, ends_at_epoch, ends_undecided, counts_next, claims_next, next_is_infant, next_leads, claims_not, ends_unclaimed, normalises_next, marks_next, begins_left, takes_leader, reaches_leader, leads_left, walks_left, head_follows, ends_at_head, none_is_left, ends_at_none, passes_left, ends_past, tidies, begins_at_first, begins_behind, first_ends, first_leads, first_reaches, first_sees_none, inserts_at_first, inserts_behind, asks_of_pin, settles_pin, stores_pin, clears_pin, looks_at_pin}
 use Rattle.kw_core.proofs.Building.{IsBuilding}
 
 -- The acting seat.
@@ -234,20 +234,29 @@ put_call (Some (Put key value)) e = tt
 put_call (Some (Del key)) e = tt
 put_call (Some (Get key)) e = let x : false ≡ true = e in absurd (cc)
 put_call (Some (Scan from upto)) e = let x : false ≡ true = e in absurd (cc)
+put_call (Some Pin) e = let x : false ≡ true = e in absurd (cc)
+put_call (Some (ScanAt from upto)) e = let x : false ≡ true = e in absurd (cc)
+put_call (Some Unpin) e = let x : false ≡ true = e in absurd (cc)
 put_call None e = let x : false ≡ true = e in absurd (cc)
 
-read_call : (c : Option Call) → IsSomeCall c → is_put c ≡ false → IsReadCall c
-read_call (Some (Put key value)) k e = let x : true ≡ false = e in absurd (cc)
-read_call (Some (Del key)) k e = let x : true ≡ false = e in absurd (cc)
-read_call (Some (Get key)) k e = tt
-read_call (Some (Scan from upto)) k e = tt
-read_call None k e = absurd k
+read_call : (c : Option Call) → IsCall c → IsSomeCall c → is_put c ≡ false → IsReadCall c
+read_call (Some (Put key value)) i k e = let x : true ≡ false = e in absurd (cc)
+read_call (Some (Del key)) i k e = let x : true ≡ false = e in absurd (cc)
+read_call (Some (Get key)) i k e = tt
+read_call (Some (Scan from upto)) i k e = tt
+read_call (Some Pin) i k e = absurd i
+read_call (Some (ScanAt from upto)) i k e = absurd i
+read_call (Some Unpin) i k e = absurd i
+read_call None i k e = absurd k
 
 scan_call : (c : Option Call) → is_scan c ≡ true → IsScanCall c
 scan_call (Some (Put key value)) e = let x : false ≡ true = e in absurd (cc)
 scan_call (Some (Del key)) e = let x : false ≡ true = e in absurd (cc)
 scan_call (Some (Get key)) e = let x : false ≡ true = e in absurd (cc)
 scan_call (Some (Scan from upto)) e = tt
+scan_call (Some Pin) e = let x : false ≡ true = e in absurd (cc)
+scan_call (Some (ScanAt from upto)) e = let x : false ≡ true = e in absurd (cc)
+scan_call (Some Unpin) e = let x : false ≡ true = e in absurd (cc)
 scan_call None e = let x : false ≡ true = e in absurd (cc)
 
 some_scan : (c : Option Call) → IsScanCall c → IsSomeCall c
@@ -259,12 +268,15 @@ some_read (Some c) k = tt
 some_read None k = k
 
 -- a call that is no scan has one key
-one_key : (c : Option Call) → is_scan c ≡ false → first_key c ≤ last_key c
-one_key (Some (Put key value)) e = omega arith
-one_key (Some (Del key)) e = omega arith
-one_key (Some (Get key)) e = omega arith
-one_key (Some (Scan from upto)) e = let x : true ≡ false = e in absurd (cc)
-one_key None e = omega arith
+one_key : (c : Option Call) → IsCall c → is_scan c ≡ false → first_key c ≤ last_key c
+one_key (Some (Put key value)) i e = omega arith
+one_key (Some (Del key)) i e = omega arith
+one_key (Some (Get key)) i e = omega arith
+one_key (Some (Scan from upto)) i e = let x : true ≡ false = e in absurd (cc)
+one_key (Some Pin) i e = absurd i
+one_key (Some (ScanAt from upto)) i e = absurd i
+one_key (Some Unpin) i e = absurd i
+one_key None i e = omega arith
 
 some_put : (c : Option Call) → IsPutCall c → IsSomeCall c
 some_put (Some c) k = tt
@@ -276,6 +288,9 @@ put_spent (Some (Put key value)) k = tt
 put_spent (Some (Del key)) k = tt
 put_spent (Some (Get key)) k = absurd k
 put_spent (Some (Scan from upto)) k = absurd k
+put_spent (Some Pin) k = absurd k
+put_spent (Some (ScanAt from upto)) k = absurd k
+put_spent (Some Unpin) k = absurd k
 put_spent None k = absurd k
 
 put_done : (c : Option Call) → IsPutCall c → IsAnswerOf c Done
@@ -283,6 +298,9 @@ put_done (Some (Put key value)) k = tt
 put_done (Some (Del key)) k = tt
 put_done (Some (Get key)) k = k
 put_done (Some (Scan from upto)) k = k
+put_done (Some Pin) k = k
+put_done (Some (ScanAt from upto)) k = k
+put_done (Some Unpin) k = k
 put_done None k = k
 
 scan_answer : (c : Option Call) (answer : Answer) → IsScanCall c → IsAnswerOf (Some (Scan 0 0)) answer → IsAnswerOf c answer
@@ -293,9 +311,14 @@ scan_answer (Some (Scan from upto)) Done k y = y
 scan_answer (Some (Scan from upto)) (Value v) k y = y
 scan_answer (Some (Scan from upto)) Absent k y = y
 scan_answer (Some (Scan from upto)) NoRows k y = y
+scan_answer (Some (Scan from upto)) Held k y = y
+scan_answer (Some (Scan from upto)) NotPinned k y = y
 scan_answer (Some (Put key value)) answer k y = absurd k
 scan_answer (Some (Del key)) answer k y = absurd k
 scan_answer (Some (Get key)) answer k y = absurd k
+scan_answer (Some Pin) answer k y = absurd k
+scan_answer (Some (ScanAt from upto)) answer k y = absurd k
+scan_answer (Some Unpin) answer k y = absurd k
 scan_answer None answer k y = absurd k
 
 get_answer : (c : Option Call) (x : Option ℕ) → IsReadCall c → is_scan c ≡ false → IsAnswerOf c (answer_found x)
@@ -304,6 +327,9 @@ get_answer (Some (Del key)) x k e = absurd k
 get_answer (Some (Get key)) (Some v) k e = tt
 get_answer (Some (Get key)) None k e = tt
 get_answer (Some (Scan from upto)) x k e = let y : true ≡ false = e in absurd (cc)
+get_answer (Some Pin) x k e = absurd k
+get_answer (Some (ScanAt from upto)) x k e = absurd k
+get_answer (Some Unpin) x k e = absurd k
 get_answer None x k e = absurd k
 
 -- what a reader does next
@@ -336,169 +362,174 @@ one_counted true = omega arith
 one_counted false = omega arith
 
 -- by the arrow that the seat takes
-kinds_by : (z : Sizes) (v : Words) (s : ℕ) (choice : Choice) (l : Local) (a : Activity) (l' : Local) → Arrow z v s choice l a l' → Kinds a l → Kinds l'.activity l'
-kinds_by z v s choice l a l' (builds b next y t) k = let g = built_goes z v choice l b next t in after_kinds next.activity next g.next (subst IsPutCall (sym g.call) (built_kinds b l y k))
-kinds_by z v s choice l a l' (begins call e y) k = record { kind = tt; range = λ x. absurd x }
-kinds_by z v s choice l a l' (enters y) k = record { kind = k.kind; range = λ x. one_key l.call y }
-kinds_by z v s choice l a l' (enters_scan y) k = record { kind = scan_call l.call y; range = λ x. absurd x }
-kinds_by z v s choice l a l' (is_spent y) k = record { kind = scan_answer l.call Spent k.kind tt; range = λ x. absurd x }
-kinds_by z v s choice l a l' (waits y) k = record { kind = k.kind; range = λ x. absurd x }
-kinds_by z v s choice l a l' stores_waiting k = record { kind = k.kind; range = λ x. absurd x }
-kinds_by z v s choice l a l' draws k = record { kind = k.kind; range = λ x. absurd x }
-kinds_by z v s choice l a l' (settles_empty y) k = record { kind = (k.kind, tt); range = λ x. absurd x }
-kinds_by z v s choice l a l' (settles y) k = record { kind = some_scan l.call k.kind; range = λ x. not_below (last_key l.call) (first_key l.call) y }
-kinds_by z v s choice l a l' starts_at_head k = record { kind = k.kind; range = λ x. k.range tt }
-kinds_by z v s choice l a l' (guesses q e y) k = record { kind = k.kind; range = λ x. k.range tt }
-kinds_by z v s choice l a l' guess_fails k = record { kind = k.kind; range = λ x. k.range tt }
-kinds_by z v s choice l a l' takes_head k = record { kind = k.kind; range = λ x. k.range tt }
-kinds_by z v s choice l a l' (guess_serves y) k = record { kind = k.kind; range = λ x. k.range tt }
-kinds_by z v s choice l a l' (guess_is_above y) k = record { kind = k.kind; range = λ x. k.range tt }
-kinds_by z v s choice l a l' (stops y) k = record { kind = stopped; range = λ x. absurd x }
+kinds_by : (z : Sizes) (v : Words) (s : ℕ) (choice : Choice) (l : Local) (a : Activity) (l' : Local) → Arrow z v s choice l a l' → IsCall l.call → Kinds a l → Kinds l'.activity l'
+kinds_by z v s choice l a l' (builds b next y t) i k = let g = built_goes z v choice l b next t in after_kinds next.activity next g.next (subst IsPutCall (sym g.call) (built_kinds b l y k))
+kinds_by z v s choice l a l' (begins call e y) i k = record { kind = tt; range = λ x. absurd x }
+kinds_by z v s choice l a l' (enters y) i k = record { kind = k.kind; range = λ x. one_key l.call i y }
+kinds_by z v s choice l a l' (enters_scan y) i k = record { kind = scan_call l.call y; range = λ x. absurd x }
+kinds_by z v s choice l a l' (asks_of_pin next c n) i k = asks_of_none l.call i c
+kinds_by z v s choice l a l' (is_spent y) i k = record { kind = scan_answer l.call Spent k.kind tt; range = λ x. absurd x }
+kinds_by z v s choice l a l' (waits y) i k = record { kind = k.kind; range = λ x. absurd x }
+kinds_by z v s choice l a l' stores_waiting i k = record { kind = k.kind; range = λ x. absurd x }
+kinds_by z v s choice l a l' draws i k = record { kind = k.kind; range = λ x. absurd x }
+kinds_by z v s choice l a l' (settles_empty y) i k = record { kind = (k.kind, tt); range = λ x. absurd x }
+kinds_by z v s choice l a l' (settles y) i k = record { kind = some_scan l.call k.kind; range = λ x. not_below (last_key l.call) (first_key l.call) y }
+kinds_by z v s choice l a l' (settles_pin y) i k = scan_is_no_pin l.call k.kind y
+kinds_by z v s choice l a l' stores_pin i k = absurd k.kind
+kinds_by z v s choice l a l' starts_at_head i k = record { kind = k.kind; range = λ x. k.range tt }
+kinds_by z v s choice l a l' (guesses q e y) i k = record { kind = k.kind; range = λ x. k.range tt }
+kinds_by z v s choice l a l' guess_fails i k = record { kind = k.kind; range = λ x. k.range tt }
+kinds_by z v s choice l a l' takes_head i k = record { kind = k.kind; range = λ x. k.range tt }
+kinds_by z v s choice l a l' (guess_serves y) i k = record { kind = k.kind; range = λ x. k.range tt }
+kinds_by z v s choice l a l' (guess_is_above y) i k = record { kind = k.kind; range = λ x. k.range tt }
+kinds_by z v s choice l a l' (stops y) i k = record { kind = stopped; range = λ x. absurd x }
   where
     stopped : IsAnswerOf l.call Stopped
     stopped = let t = and_parts (is_stop choice) (is_scan l.call && l.has_read) y in scan_answer l.call Stopped (scan_call l.call (and_parts (is_scan l.call) l.has_read t.1).0) tt
-kinds_by z v s choice l a l' (puts_in_last p y) k = record { kind = put_call l.call p; range = λ x. absurd x }
-kinds_by z v s choice l a l' (reads_last p y) k = record { kind = read_call l.call k.kind p; range = λ x. k.range tt }
-kinds_by z v s choice l a l' (reaches_next q y) k = record { kind = k.kind; range = λ x. k.range tt }
-kinds_by z v s choice l a l' (walks_on y) k = record { kind = k.kind; range = λ x. k.range tt }
-kinds_by z v s choice l a l' (puts_before p y) k = record { kind = put_call l.call p; range = λ x. absurd x }
-kinds_by z v s choice l a l' (reads_before p y) k = record { kind = read_call l.call k.kind p; range = λ x. k.range tt }
-kinds_by z v s choice l a l' (sees_pending j c y) k = record { kind = k.kind; range = λ x. k.range tt }
-kinds_by z v s choice l a l' (sees_stamped j c version next y n) k = kinds_look z _ _ next n k.kind (k.range tt)
-kinds_by z v s choice l a l' (sees_neither j next y n) k = kinds_look z _ _ next n k.kind (k.range tt)
-kinds_by z v s choice l a l' (is_wanted y) k = record { kind = k.kind; range = λ x. k.range tt }
-kinds_by z v s choice l a l' (is_gone_by next y n) k = kinds_look z _ _ next n k.kind (k.range tt)
-kinds_by z v s choice l a l' loads_to_help k = record { kind = k.kind; range = λ x. k.range tt }
-kinds_by z v s choice l a l' (helps next y n) k = kinds_look z _ _ next n k.kind (k.range tt)
-kinds_by z v s choice l a l' (finds_stamped c version next y n) k = kinds_look z _ _ next n k.kind (k.range tt)
-kinds_by z v s choice l a l' (finds_other next y n) k = kinds_look z _ _ next n k.kind (k.range tt)
-kinds_by z v s choice l a l' (first_ends next e n) k = kinds_cell z _ next n k.kind (k.range tt)
-kinds_by z v s choice l a l' (list_ends next e n) k = kinds_cell z _ next n k.kind (k.range tt)
-kinds_by z v s choice l a l' (first_leads c y) k = record { kind = k.kind; range = λ x. k.range tt }
-kinds_by z v s choice l a l' (list_leads c y) k = record { kind = k.kind; range = λ x. k.range tt }
-kinds_by z v s choice l a l' (begins_behind guess inside y) k = record { kind = k.kind; range = λ x. k.range tt }
-kinds_by z v s choice l a l' (begins_at_first guess y) k = record { kind = k.kind; range = λ x. k.range tt }
-kinds_by z v s choice l a l' (key_below y) k = record { kind = k.kind; range = λ x. k.range tt }
-kinds_by z v s choice l a l' (key_within y w) k = record { kind = k.kind; range = λ x. k.range tt }
-kinds_by z v s choice l a l' loads_version k = record { kind = k.kind; range = λ x. k.range tt }
-kinds_by z v s choice l a l' gathers_listed k = record { kind = k.kind; range = λ x. k.range tt }
-kinds_by z v s choice l a l' (left_over_wanted y) k = record { kind = k.kind; range = λ x. k.range tt }
-kinds_by z v s choice l a l' (key_above next y n) k = kinds_cell z _ next n k.kind (k.range tt)
-kinds_by z v s choice l a l' (left_over_gone_by next y n) k = kinds_cell z _ next n k.kind (k.range tt)
-kinds_by z v s choice l a l' (gathers_left_over next n) k = kinds_cell z _ next n k.kind (k.range tt)
-kinds_by z v s choice l a l' (clears_scan answer) k = record { kind = cleared choice answer k.kind.1; range = λ x. absurd x }
+kinds_by z v s choice l a l' (puts_in_last p y) i k = record { kind = put_call l.call p; range = λ x. absurd x }
+kinds_by z v s choice l a l' (reads_last p y) i k = record { kind = read_call l.call i k.kind p; range = λ x. k.range tt }
+kinds_by z v s choice l a l' (reaches_next q y) i k = record { kind = k.kind; range = λ x. k.range tt }
+kinds_by z v s choice l a l' (walks_on y) i k = record { kind = k.kind; range = λ x. k.range tt }
+kinds_by z v s choice l a l' (puts_before p y) i k = record { kind = put_call l.call p; range = λ x. absurd x }
+kinds_by z v s choice l a l' (reads_before p y) i k = record { kind = read_call l.call i k.kind p; range = λ x. k.range tt }
+kinds_by z v s choice l a l' (sees_pending j c y) i k = record { kind = k.kind; range = λ x. k.range tt }
+kinds_by z v s choice l a l' (sees_stamped j c version next y n) i k = kinds_look z _ _ next n k.kind (k.range tt)
+kinds_by z v s choice l a l' (sees_neither j next y n) i k = kinds_look z _ _ next n k.kind (k.range tt)
+kinds_by z v s choice l a l' (is_wanted y) i k = record { kind = k.kind; range = λ x. k.range tt }
+kinds_by z v s choice l a l' (is_gone_by next y n) i k = kinds_look z _ _ next n k.kind (k.range tt)
+kinds_by z v s choice l a l' loads_to_help i k = record { kind = k.kind; range = λ x. k.range tt }
+kinds_by z v s choice l a l' (helps next y n) i k = kinds_look z _ _ next n k.kind (k.range tt)
+kinds_by z v s choice l a l' (finds_stamped c version next y n) i k = kinds_look z _ _ next n k.kind (k.range tt)
+kinds_by z v s choice l a l' (finds_other next y n) i k = kinds_look z _ _ next n k.kind (k.range tt)
+kinds_by z v s choice l a l' (first_ends next e n) i k = kinds_cell z _ next n k.kind (k.range tt)
+kinds_by z v s choice l a l' (list_ends next e n) i k = kinds_cell z _ next n k.kind (k.range tt)
+kinds_by z v s choice l a l' (first_leads c y) i k = record { kind = k.kind; range = λ x. k.range tt }
+kinds_by z v s choice l a l' (list_leads c y) i k = record { kind = k.kind; range = λ x. k.range tt }
+kinds_by z v s choice l a l' (begins_behind guess inside y) i k = record { kind = k.kind; range = λ x. k.range tt }
+kinds_by z v s choice l a l' (begins_at_first guess y) i k = record { kind = k.kind; range = λ x. k.range tt }
+kinds_by z v s choice l a l' (key_below y) i k = record { kind = k.kind; range = λ x. k.range tt }
+kinds_by z v s choice l a l' (key_within y w) i k = record { kind = k.kind; range = λ x. k.range tt }
+kinds_by z v s choice l a l' loads_version i k = record { kind = k.kind; range = λ x. k.range tt }
+kinds_by z v s choice l a l' gathers_listed i k = record { kind = k.kind; range = λ x. k.range tt }
+kinds_by z v s choice l a l' (left_over_wanted y) i k = record { kind = k.kind; range = λ x. k.range tt }
+kinds_by z v s choice l a l' (key_above next y n) i k = kinds_cell z _ next n k.kind (k.range tt)
+kinds_by z v s choice l a l' (left_over_gone_by next y n) i k = kinds_cell z _ next n k.kind (k.range tt)
+kinds_by z v s choice l a l' (gathers_left_over next n) i k = kinds_cell z _ next n k.kind (k.range tt)
+kinds_by z v s choice l a l' clears_pin i k = absurd k.kind
+kinds_by z v s choice l a l' (clears_scan answer) i k = record { kind = cleared choice answer k.kind.1; range = λ x. absurd x }
   where
     cleared : (c : Choice) (y : Answer) → IsPairs y → IsAnswerOf l.call (answer_or_stopped y c)
     cleared Stop y p = scan_answer l.call Stopped k.kind.0 tt
     cleared c Pairs p = scan_answer l.call _ k.kind.0 tt
     cleared c _ p = absurd p
-kinds_by z v s choice l a l' (finds_room y) k = record { kind = k.kind; range = λ x. absurd x }
-kinds_by z v s choice l a l' (finds_full y) k = record { kind = k.kind; range = λ x. absurd x }
-kinds_by z v s choice l a l' (takes_cell y) k = record { kind = k.kind; range = λ x. absurd x }
-kinds_by z v s choice l a l' (takes_full y) k = record { kind = k.kind; range = λ x. absurd x }
-kinds_by z v s choice l a l' stores_key k = record { kind = k.kind; range = λ x. absurd x }
-kinds_by z v s choice l a l' stores_value k = record { kind = k.kind; range = λ x. absurd x }
-kinds_by z v s choice l a l' (announces y) k = record { kind = k.kind; range = λ x. absurd x }
-kinds_by z v s choice l a l' (announces_full y) k = record { kind = k.kind; range = λ x. absurd x }
-kinds_by z v s choice l a l' loads_clock k = record { kind = k.kind; range = λ x. absurd x }
-kinds_by z v s choice l a l' (stamps y) k = record { kind = k.kind; range = λ x. absurd x }
-kinds_by z v s choice l a l' (is_stamped version y) k = record { kind = k.kind; range = λ x. absurd x }
-kinds_by z v s choice l a l' (stamps_full y) k = record { kind = k.kind; range = λ x. absurd x }
-kinds_by z v s choice l a l' (tidies rows y) k = record { kind = k.kind; range = λ x. absurd x }
-kinds_by z v s choice l a l' stores_version k = record { kind = k.kind; range = λ x. absurd x }
-kinds_by z v s choice l a l' (first_reaches c y) k = record { kind = k.kind; range = λ x. absurd x }
-kinds_by z v s choice l a l' (reaches_cell c y) k = record { kind = k.kind; range = λ x. absurd x }
-kinds_by z v s choice l a l' (first_sees_none y) k = record { kind = k.kind; range = λ x. absurd x }
-kinds_by z v s choice l a l' (sees_none y) k = record { kind = k.kind; range = λ x. absurd x }
-kinds_by z v s choice l a l' (inserts_behind guess inside y) k = record { kind = k.kind; range = λ x. absurd x }
-kinds_by z v s choice l a l' (inserts_at_first guess y) k = record { kind = k.kind; range = λ x. absurd x }
-kinds_by z v s choice l a l' (key_before y) k = record { kind = k.kind; range = λ x. absurd x }
-kinds_by z v s choice l a l' (key_same y) k = record { kind = k.kind; range = λ x. absurd x }
-kinds_by z v s choice l a l' (key_after y) k = record { kind = k.kind; range = λ x. absurd x }
-kinds_by z v s choice l a l' (version_before y) k = record { kind = k.kind; range = λ x. absurd x }
-kinds_by z v s choice l a l' (version_after y) k = record { kind = k.kind; range = λ x. absurd x }
-kinds_by z v s choice l a l' stores_after k = record { kind = k.kind; range = λ x. absurd x }
-kinds_by z v s choice l a l' (inserts y) k = record { kind = k.kind; range = λ x. absurd x }
-kinds_by z v s choice l a l' (loses y) k = record { kind = k.kind; range = λ x. absurd x }
-kinds_by z v s choice l a l' clears k = record { kind = put_done l.call k.kind; range = λ x. absurd x }
-kinds_by z v s choice l a l' (leaves answer) k = record { kind = tt; range = λ x. absurd x }
-kinds_by z v s choice l a l' retries k = record { kind = k.kind; range = λ x. absurd x }
-kinds_by z v s choice l a l' enters_again k = record { kind = some_put l.call k.kind; range = λ x. absurd x }
-kinds_by z v s choice l a l' (clock_is_spent e nd) k = record { kind = put_spent l.call k.kind; range = λ x. absurd x }
-kinds_by z v s choice l a l' (ends_at_clock dn) k = record { kind = put_done l.call k.kind; range = λ x. absurd x }
-kinds_by z v s choice l a l' (clock_serves e) k = record { kind = k.kind; range = λ x. absurd x }
-kinds_by z v s choice l a l' (epoch_is_spent e nd) k = record { kind = put_spent l.call k.kind; range = λ x. absurd x }
-kinds_by z v s choice l a l' (ends_at_epoch dn) k = record { kind = put_done l.call k.kind; range = λ x. absurd x }
-kinds_by z v s choice l a l' (epoch_serves e) k = record { kind = k.kind; range = λ x. absurd x }
-kinds_by z v s choice l a l' (finds_infant seat e) k = record { kind = k.kind; range = λ x. absurd x }
-kinds_by z v s choice l a l' (finds_normal e) k = record { kind = k.kind; range = λ x. absurd x }
-kinds_by z v s choice l a l' (finds_leader count e) k = record { kind = k.kind; range = λ x. absurd x }
-kinds_by z v s choice l a l' (finds_follower leader e) k = record { kind = k.kind; range = λ x. absurd x }
-kinds_by z v s choice l a l' (finds_other_state nd) k = record { kind = k.kind; range = λ x. absurd x }
-kinds_by z v s choice l a l' (ends_at_state dn) k = record { kind = put_done l.call k.kind; range = λ x. absurd x }
-kinds_by z v s choice l a l' (normalises seat) k = record { kind = k.kind; range = λ x. absurd x }
-kinds_by z v s choice l a l' (engages e) k = record { kind = k.kind; range = λ x. absurd x }
-kinds_by z v s choice l a l' (is_engaged e) k = record { kind = k.kind; range = λ x. absurd x }
-kinds_by z v s choice l a l' (marks_link count q e o) k = record { kind = k.kind; range = λ x. absurd x }
-kinds_by z v s choice l a l' (marks_last count e o) k = record { kind = (k.kind, omega arith); range = λ x. absurd x }
-kinds_by z v s choice l a l' (marks_led count next d n) k = counted_kinds count _ next n k.kind
-kinds_by z v s choice l a l' (decides count m next e n) k = counted_kinds _ _ next n k.kind.0
-kinds_by z v s choice l a l' (decides_not count nd) k = record { kind = k.kind.0; range = λ x. absurd x }
-kinds_by z v s choice l a l' (ends_undecided count dn) k = record { kind = put_done l.call k.kind.0; range = λ x. absurd x }
-kinds_by z v s choice l a l' freezes_count k = record { kind = k.kind; range = λ x. absurd x }
-kinds_by z v s choice l a l' (sees_idle j e) k = record { kind = k.kind; range = λ x. absurd x }
-kinds_by z v s choice l a l' (sees_unstamped j c e) k = record { kind = k.kind; range = λ x. absurd x }
-kinds_by z v s choice l a l' (remembers j c version e o) k = record { kind = k.kind; range = λ x. absurd x }
-kinds_by z v s choice l a l' (remembers_last j c version next e o n) k = frozen_kinds _ next n k.kind
-kinds_by z v s choice l a l' (sees_frozen j e o) k = record { kind = k.kind; range = λ x. absurd x }
-kinds_by z v s choice l a l' (sees_frozen_last j next e o n) k = frozen_kinds l next n k.kind
-kinds_by z v s choice l a l' (freezes_entry j e o) k = record { kind = k.kind; range = λ x. absurd x }
-kinds_by z v s choice l a l' (freezes_last j next e o n) k = frozen_kinds l next n k.kind
-kinds_by z v s choice l a l' (looks_again j e) k = record { kind = k.kind; range = λ x. absurd x }
-kinds_by z v s choice l a l' (sees_quiet j e o) k = record { kind = k.kind; range = λ x. absurd x }
-kinds_by z v s choice l a l' (sees_quiet_last j e o) k = record { kind = k.kind; range = λ x. absurd x }
-kinds_by z v s choice l a l' (helps_scan j clock e) k = record { kind = k.kind; range = λ x. absurd x }
-kinds_by z v s choice l a l' (sees_drawn j version e o) k = record { kind = k.kind; range = λ x. absurd x }
-kinds_by z v s choice l a l' (sees_drawn_last j version e o) k = record { kind = k.kind; range = λ x. absurd x }
-kinds_by z v s choice l a l' (draws_for j) k = record { kind = k.kind; range = λ x. absurd x }
-kinds_by z v s choice l a l' (settles_scan j e o) k = record { kind = k.kind; range = λ x. absurd x }
-kinds_by z v s choice l a l' (settles_last j e o) k = record { kind = k.kind; range = λ x. absurd x }
-kinds_by z v s choice l a l' (finds_drawn j version e o) k = record { kind = k.kind; range = λ x. absurd x }
-kinds_by z v s choice l a l' (finds_drawn_last j version e o) k = record { kind = k.kind; range = λ x. absurd x }
-kinds_by z v s choice l a l' (finds_no_scan j e o) k = record { kind = k.kind; range = λ x. absurd x }
-kinds_by z v s choice l a l' (finds_no_scan_last j e o) k = record { kind = k.kind; range = λ x. absurd x }
-kinds_by z v s choice l a l' (take_leads c e) k = record { kind = k.kind; range = λ x. absurd x }
-kinds_by z v s choice l a l' (takes_left m e n o) k = record { kind = k.kind; range = λ x. absurd x }
-kinds_by z v s choice l a l' takes_key k = record { kind = k.kind; range = λ x. absurd x }
-kinds_by z v s choice l a l' takes_version k = record { kind = k.kind; range = λ x. absurd x }
-kinds_by z v s choice l a l' keeps_taken k = record { kind = k.kind; range = λ x. absurd x }
-kinds_by z v s choice l a l' takes_left_key k = record { kind = k.kind; range = λ x. absurd x }
-kinds_by z v s choice l a l' (keeps_left m n o) k = record { kind = k.kind; range = λ x. absurd x }
-kinds_by z v s choice l a l' (takes_no_more next e f n) k = gathered_kinds z l next n k.kind
-kinds_by z v s choice l a l' (keeps_no_more next f n) k = gathered_kinds z _ next n k.kind
-kinds_by z v s choice l a l' counts_next k = record { kind = (k.kind, one_counted (goes_along (count_of (v (name.Count (row_after l)))) l)); range = λ x. absurd x }
-kinds_by z v s choice l a l' (claims_next e) k = record { kind = k.kind; range = λ x. absurd x }
-kinds_by z v s choice l a l' (next_is_infant seat e) k = record { kind = k.kind; range = λ x. absurd x }
-kinds_by z v s choice l a l' (next_leads count e) k = record { kind = k.kind; range = λ x. absurd x }
-kinds_by z v s choice l a l' (normalises_next seat) k = record { kind = k.kind; range = λ x. absurd x }
-kinds_by z v s choice l a l' marks_next k = record { kind = k.kind; range = λ x. absurd x }
-kinds_by z v s choice l a l' (begins_left q e d) k = record { kind = k.kind; range = λ x. absurd x }
-kinds_by z v s choice l a l' (takes_leader q e) k = record { kind = k.kind; range = λ x. absurd x }
-kinds_by z v s choice l a l' (reaches_leader e) k = record { kind = k.kind; range = λ x. absurd x }
-kinds_by z v s choice l a l' (leads_left q e d) k = record { kind = k.kind; range = λ x. absurd x }
-kinds_by z v s choice l a l' (walks_left o) k = record { kind = k.kind; range = λ x. absurd x }
-kinds_by z v s choice l a l' (claims_not nd) k = record { kind = k.kind; range = λ x. absurd x }
-kinds_by z v s choice l a l' (head_follows nd e) k = record { kind = k.kind; range = λ x. absurd x }
-kinds_by z v s choice l a l' (none_is_left nd e) k = record { kind = k.kind; range = λ x. absurd x }
-kinds_by z v s choice l a l' (passes_left nd o) k = record { kind = k.kind; range = λ x. absurd x }
-kinds_by z v s choice l a l' (ends_unclaimed dn) k = record { kind = put_done l.call k.kind; range = λ x. absurd x }
-kinds_by z v s choice l a l' (ends_at_head dn) k = record { kind = put_done l.call k.kind; range = λ x. absurd x }
-kinds_by z v s choice l a l' (ends_at_none dn) k = record { kind = put_done l.call k.kind; range = λ x. absurd x }
-kinds_by z v s choice l a l' (ends_past dn) k = record { kind = put_done l.call k.kind; range = λ x. absurd x }
+kinds_by z v s choice l a l' (finds_room y) i k = record { kind = k.kind; range = λ x. absurd x }
+kinds_by z v s choice l a l' (finds_full y) i k = record { kind = k.kind; range = λ x. absurd x }
+kinds_by z v s choice l a l' (takes_cell y) i k = record { kind = k.kind; range = λ x. absurd x }
+kinds_by z v s choice l a l' (takes_full y) i k = record { kind = k.kind; range = λ x. absurd x }
+kinds_by z v s choice l a l' stores_key i k = record { kind = k.kind; range = λ x. absurd x }
+kinds_by z v s choice l a l' stores_value i k = record { kind = k.kind; range = λ x. absurd x }
+kinds_by z v s choice l a l' (announces y) i k = record { kind = k.kind; range = λ x. absurd x }
+kinds_by z v s choice l a l' (announces_full y) i k = record { kind = k.kind; range = λ x. absurd x }
+kinds_by z v s choice l a l' loads_clock i k = record { kind = k.kind; range = λ x. absurd x }
+kinds_by z v s choice l a l' (stamps y) i k = record { kind = k.kind; range = λ x. absurd x }
+kinds_by z v s choice l a l' (is_stamped version y) i k = record { kind = k.kind; range = λ x. absurd x }
+kinds_by z v s choice l a l' (stamps_full y) i k = record { kind = k.kind; range = λ x. absurd x }
+kinds_by z v s choice l a l' (tidies rows y) i k = record { kind = k.kind; range = λ x. absurd x }
+kinds_by z v s choice l a l' stores_version i k = record { kind = k.kind; range = λ x. absurd x }
+kinds_by z v s choice l a l' (first_reaches c y) i k = record { kind = k.kind; range = λ x. absurd x }
+kinds_by z v s choice l a l' (reaches_cell c y) i k = record { kind = k.kind; range = λ x. absurd x }
+kinds_by z v s choice l a l' (first_sees_none y) i k = record { kind = k.kind; range = λ x. absurd x }
+kinds_by z v s choice l a l' (sees_none y) i k = record { kind = k.kind; range = λ x. absurd x }
+kinds_by z v s choice l a l' (inserts_behind guess inside y) i k = record { kind = k.kind; range = λ x. absurd x }
+kinds_by z v s choice l a l' (inserts_at_first guess y) i k = record { kind = k.kind; range = λ x. absurd x }
+kinds_by z v s choice l a l' (key_before y) i k = record { kind = k.kind; range = λ x. absurd x }
+kinds_by z v s choice l a l' (key_same y) i k = record { kind = k.kind; range = λ x. absurd x }
+kinds_by z v s choice l a l' (key_after y) i k = record { kind = k.kind; range = λ x. absurd x }
+kinds_by z v s choice l a l' (version_before y) i k = record { kind = k.kind; range = λ x. absurd x }
+kinds_by z v s choice l a l' (version_after y) i k = record { kind = k.kind; range = λ x. absurd x }
+kinds_by z v s choice l a l' stores_after i k = record { kind = k.kind; range = λ x. absurd x }
+kinds_by z v s choice l a l' (inserts y) i k = record { kind = k.kind; range = λ x. absurd x }
+kinds_by z v s choice l a l' (loses y) i k = record { kind = k.kind; range = λ x. absurd x }
+kinds_by z v s choice l a l' clears i k = record { kind = put_done l.call k.kind; range = λ x. absurd x }
+kinds_by z v s choice l a l' (leaves answer) i k = record { kind = tt; range = λ x. absurd x }
+kinds_by z v s choice l a l' retries i k = record { kind = k.kind; range = λ x. absurd x }
+kinds_by z v s choice l a l' enters_again i k = record { kind = some_put l.call k.kind; range = λ x. absurd x }
+kinds_by z v s choice l a l' (clock_is_spent e nd) i k = record { kind = put_spent l.call k.kind; range = λ x. absurd x }
+kinds_by z v s choice l a l' (ends_at_clock dn) i k = record { kind = put_done l.call k.kind; range = λ x. absurd x }
+kinds_by z v s choice l a l' (clock_serves e) i k = record { kind = k.kind; range = λ x. absurd x }
+kinds_by z v s choice l a l' (epoch_is_spent e nd) i k = record { kind = put_spent l.call k.kind; range = λ x. absurd x }
+kinds_by z v s choice l a l' (ends_at_epoch dn) i k = record { kind = put_done l.call k.kind; range = λ x. absurd x }
+kinds_by z v s choice l a l' (epoch_serves e) i k = record { kind = k.kind; range = λ x. absurd x }
+kinds_by z v s choice l a l' (finds_infant seat e) i k = record { kind = k.kind; range = λ x. absurd x }
+kinds_by z v s choice l a l' (finds_normal e) i k = record { kind = k.kind; range = λ x. absurd x }
+kinds_by z v s choice l a l' (finds_leader count e) i k = record { kind = k.kind; range = λ x. absurd x }
+kinds_by z v s choice l a l' (finds_follower leader e) i k = record { kind = k.kind; range = λ x. absurd x }
+kinds_by z v s choice l a l' (finds_other_state nd) i k = record { kind = k.kind; range = λ x. absurd x }
+kinds_by z v s choice l a l' (ends_at_state dn) i k = record { kind = put_done l.call k.kind; range = λ x. absurd x }
+kinds_by z v s choice l a l' (normalises seat) i k = record { kind = k.kind; range = λ x. absurd x }
+kinds_by z v s choice l a l' (engages e) i k = record { kind = k.kind; range = λ x. absurd x }
+kinds_by z v s choice l a l' (is_engaged e) i k = record { kind = k.kind; range = λ x. absurd x }
+kinds_by z v s choice l a l' (marks_link count q e o) i k = record { kind = k.kind; range = λ x. absurd x }
+kinds_by z v s choice l a l' (marks_last count e o) i k = record { kind = (k.kind, omega arith); range = λ x. absurd x }
+kinds_by z v s choice l a l' (marks_led count next d n) i k = counted_kinds count _ next n k.kind
+kinds_by z v s choice l a l' (decides count m next e n) i k = counted_kinds _ _ next n k.kind.0
+kinds_by z v s choice l a l' (decides_not count nd) i k = record { kind = k.kind.0; range = λ x. absurd x }
+kinds_by z v s choice l a l' (ends_undecided count dn) i k = record { kind = put_done l.call k.kind.0; range = λ x. absurd x }
+kinds_by z v s choice l a l' freezes_count i k = record { kind = k.kind; range = λ x. absurd x }
+kinds_by z v s choice l a l' (sees_idle j e) i k = record { kind = k.kind; range = λ x. absurd x }
+kinds_by z v s choice l a l' (sees_unstamped j c e) i k = record { kind = k.kind; range = λ x. absurd x }
+kinds_by z v s choice l a l' (remembers j c version e o) i k = record { kind = k.kind; range = λ x. absurd x }
+kinds_by z v s choice l a l' (remembers_last j c version next e o n) i k = frozen_kinds _ next n k.kind
+kinds_by z v s choice l a l' (sees_frozen j e o) i k = record { kind = k.kind; range = λ x. absurd x }
+kinds_by z v s choice l a l' (sees_frozen_last j next e o n) i k = frozen_kinds l next n k.kind
+kinds_by z v s choice l a l' (freezes_entry j e o) i k = record { kind = k.kind; range = λ x. absurd x }
+kinds_by z v s choice l a l' (freezes_last j next e o n) i k = frozen_kinds l next n k.kind
+kinds_by z v s choice l a l' (looks_again j e) i k = record { kind = k.kind; range = λ x. absurd x }
+kinds_by z v s choice l a l' (sees_quiet j e o) i k = record { kind = k.kind; range = λ x. absurd x }
+kinds_by z v s choice l a l' (sees_quiet_last j e o) i k = record { kind = k.kind; range = λ x. absurd x }
+kinds_by z v s choice l a l' (helps_scan j clock e) i k = record { kind = k.kind; range = λ x. absurd x }
+kinds_by z v s choice l a l' (sees_drawn j version e o) i k = record { kind = k.kind; range = λ x. absurd x }
+kinds_by z v s choice l a l' (sees_drawn_last j version e o) i k = record { kind = k.kind; range = λ x. absurd x }
+kinds_by z v s choice l a l' (draws_for j) i k = record { kind = k.kind; range = λ x. absurd x }
+kinds_by z v s choice l a l' (settles_scan j e o) i k = record { kind = k.kind; range = λ x. absurd x }
+kinds_by z v s choice l a l' (settles_last j e o) i k = record { kind = k.kind; range = λ x. absurd x }
+kinds_by z v s choice l a l' (finds_drawn j version e o) i k = record { kind = k.kind; range = λ x. absurd x }
+kinds_by z v s choice l a l' (finds_drawn_last j version e o) i k = record { kind = k.kind; range = λ x. absurd x }
+kinds_by z v s choice l a l' (finds_no_scan j e o) i k = record { kind = k.kind; range = λ x. absurd x }
+kinds_by z v s choice l a l' (finds_no_scan_last j e o) i k = record { kind = k.kind; range = λ x. absurd x }
+kinds_by z v s choice l a l' (looks_at_pin j next n) i k = absurd k.kind
+kinds_by z v s choice l a l' (take_leads c e) i k = record { kind = k.kind; range = λ x. absurd x }
+kinds_by z v s choice l a l' (takes_left m e n o) i k = record { kind = k.kind; range = λ x. absurd x }
+kinds_by z v s choice l a l' takes_key i k = record { kind = k.kind; range = λ x. absurd x }
+kinds_by z v s choice l a l' takes_version i k = record { kind = k.kind; range = λ x. absurd x }
+kinds_by z v s choice l a l' keeps_taken i k = record { kind = k.kind; range = λ x. absurd x }
+kinds_by z v s choice l a l' takes_left_key i k = record { kind = k.kind; range = λ x. absurd x }
+kinds_by z v s choice l a l' (keeps_left m n o) i k = record { kind = k.kind; range = λ x. absurd x }
+kinds_by z v s choice l a l' (takes_no_more next e f n) i k = gathered_kinds z l next n k.kind
+kinds_by z v s choice l a l' (keeps_no_more next f n) i k = gathered_kinds z _ next n k.kind
+kinds_by z v s choice l a l' counts_next i k = record { kind = (k.kind, one_counted (goes_along (count_of (v (name.Count (row_after l)))) l)); range = λ x. absurd x }
+kinds_by z v s choice l a l' (claims_next e) i k = record { kind = k.kind; range = λ x. absurd x }
+kinds_by z v s choice l a l' (next_is_infant seat e) i k = record { kind = k.kind; range = λ x. absurd x }
+kinds_by z v s choice l a l' (next_leads count e) i k = record { kind = k.kind; range = λ x. absurd x }
+kinds_by z v s choice l a l' (normalises_next seat) i k = record { kind = k.kind; range = λ x. absurd x }
+kinds_by z v s choice l a l' marks_next i k = record { kind = k.kind; range = λ x. absurd x }
+kinds_by z v s choice l a l' (begins_left q e d) i k = record { kind = k.kind; range = λ x. absurd x }
+kinds_by z v s choice l a l' (takes_leader q e) i k = record { kind = k.kind; range = λ x. absurd x }
+kinds_by z v s choice l a l' (reaches_leader e) i k = record { kind = k.kind; range = λ x. absurd x }
+kinds_by z v s choice l a l' (leads_left q e d) i k = record { kind = k.kind; range = λ x. absurd x }
+kinds_by z v s choice l a l' (walks_left o) i k = record { kind = k.kind; range = λ x. absurd x }
+kinds_by z v s choice l a l' (claims_not nd) i k = record { kind = k.kind; range = λ x. absurd x }
+kinds_by z v s choice l a l' (head_follows nd e) i k = record { kind = k.kind; range = λ x. absurd x }
+kinds_by z v s choice l a l' (none_is_left nd e) i k = record { kind = k.kind; range = λ x. absurd x }
+kinds_by z v s choice l a l' (passes_left nd o) i k = record { kind = k.kind; range = λ x. absurd x }
+kinds_by z v s choice l a l' (ends_unclaimed dn) i k = record { kind = put_done l.call k.kind; range = λ x. absurd x }
+kinds_by z v s choice l a l' (ends_at_head dn) i k = record { kind = put_done l.call k.kind; range = λ x. absurd x }
+kinds_by z v s choice l a l' (ends_at_none dn) i k = record { kind = put_done l.call k.kind; range = λ x. absurd x }
+kinds_by z v s choice l a l' (ends_past dn) i k = record { kind = put_done l.call k.kind; range = λ x. absurd x }
 
 -- the acting seat goes on to an activity of its call
 pub kinds_own : (z : Sizes) (r r' : Run) (s : ℕ) (choice : Choice) (l : Local) (a : Activity) (l' : Local) → Arrow z (word z r.world) s choice l a l' → Happens z r r' s choice l l' a → Shape z r → Kinds l'.activity l'
-kinds_own z r r' s choice l a l' b h i = kinds_by z (word z r.world) s choice l a l' b (subst (λ q. Kinds q l) h.activity (i.kinds s l h.knows))
+kinds_own z r r' s choice l a l' b h i = kinds_by z (word z r.world) s choice l a l' b (i.sane.locals s l h.knows).ranges.call (subst (λ q. Kinds q l) h.activity (i.kinds s l h.knows))
 
 -- a seat that goes on in its visit is where its call has it
 walks_in_visit : (z : Sizes) (r r' : Run) (s : ℕ) (choice : Choice) (l : Local) (a : Activity) (l' : Local) → Arrow z (word z r.world) s choice l a l' → Happens z r r' s choice l l' a → Shape z r → IsVisiting a → (WritesPass a → ⊥) → Walks (word z r'.world) r'.ledger.rows s l'.activity l'
@@ -512,6 +543,7 @@ walks_own z r r' s choice l a l' (builds b next y t) h i = walks_in_visit z r r'
 walks_own z r r' s choice l a l' (begins call e b) h i = walks_outside _ _ s (Activity.Enter Enter.Announce) l' (λ x. x)
 walks_own z r r' s choice l a l' (enters e) h i = record { on = tt; lower = λ q. absurd q; built = λ q. absurd q; at = λ q. absurd q; begins = λ q. refl; wants = λ q. absurd q }
 walks_own z r r' s choice l a l' (enters_scan e) h i = record { on = tt; lower = λ q. absurd q; built = λ q. absurd q; at = λ q. absurd q; begins = λ q. absurd q; wants = λ q. absurd q }
+walks_own z r r' s choice l a l' (asks_of_pin next c n) h i = no_call_of_pin _ h i c
 walks_own z r r' s choice l a l' (leaves answer) h i = walks_outside _ _ s Activity.Idle l' (λ x. x)
 walks_own z r r' s choice l a l' retries h i = walks_outside _ _ s (Activity.Enter Enter.LoadEpoch) l' (λ x. x)
 walks_own z r r' s choice l a l' enters_again h i = walks_outside _ _ s (Activity.Enter Enter.Announce) l' (λ x. x)
@@ -562,6 +594,7 @@ shape_keeps z r r' s choice l a l' h i = record {
   numbers = numbers_keep z r r' s choice l a l' h i;
   tidies = each_seat h (λ t k. k.tidies ≡ true → IsBalancing k.activity ⊎ IsDone k.activity) (λ e. arrow_tidied z (word z r.world) s choice l a l' h.arrow (λ f. subst (λ c. IsBalancing c ⊎ IsDone c) h.activity (i.tidies s l h.knows f)) e) (λ t k d g. i.tidies t k g);
   offered = each_seat h (λ t k. k.tidies ≡ true → r'.world.rows < TIDY_SHARE * k.epoch) (λ e. offered_own a h i e) (λ t k d g e. offered_other a h i t k g e);
+  no_pin = each_seat h (λ t k. k.pin ≡ None) (arrow_pin z (word z r.world) s choice l a l' h.arrow (kind_at a h i) (i.no_pin s l h.knows)) (λ t k d g. i.no_pin t k g);
   kinds = each_seat h (λ t k. Kinds k.activity k) (kinds_own z r r' s choice l a l' h.arrow h i) (λ t k d g. i.kinds t k g);
   visits = each_seat h (λ t k. Visits (word z r'.world) r'.ledger.rows t k.activity k) (visits_own z r r' s choice l a l' h.arrow h i) (visits_other z r r' s choice l a l' h i);
   outside = outside_stays a h i;

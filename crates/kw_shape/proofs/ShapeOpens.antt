@@ -1,5 +1,5 @@
 -- The shape holds where nothing happened.
-use Rattle.std.proofs.Common.{ℕ, zero, suc, ◌≡◌, ◌⊎◌, inl, inr, ◌*◌, ◌<◌, ◌≤◌, true, false, Option, Some, None, arith, refl, sym, ◌∙◌, ap, subst}
+use Rattle.std.proofs.Common.{ℕ, zero, suc, ◌≡◌, ◌⊎◌, inl, inr, ◌*◌, ◌<◌, ◌≤◌, true, false, Some, None, arith, refl, sym, ◌∙◌, ap, subst}
 use Rattle.kw_core.specs.Stages.{IsBalancing, IsDone}
 use Rattle.std.proofs.lemmas.Bool.{cases_lt}
 use Rattle.std.proofs.lemmas.Option.{slice_get_within}
@@ -246,6 +246,7 @@ module _ (z : Sizes) (o : Opening) (i : IsOpening z o) where
     numbers = record { below = λ m at e. let x : None ≡ Some at = e in absurd (cc); rises = λ m n x y e f. let u : None ≡ Some x = e in absurd (cc) };
     tidies = each_rests z o (λ t l. l.tidies ≡ true → IsBalancing l.activity ⊎ IsDone l.activity) (λ t e. let y : false ≡ true = e in cc);
     offered = each_rests z o (λ t l. l.tidies ≡ true → o.rows < TIDY_SHARE * l.epoch) (λ t e. let y : false ≡ true = e in cc);
+    no_pin = each_rests z o (λ t l. l.pin ≡ None) (λ t. refl);
     kinds = each_rests z o (λ t l. Kinds l.activity l) (λ t. record { kind = tt; range = λ x. absurd x });
     visits = λ t l g. each_rests z o (λ t l. t < z.seats → Visits (word z (opened z o)) (ledger_at_first o).rows t l.activity l) visits_start t l g (omega (arith, slice_get_within (opened z o).locals t l g, (opened-sane z o i).seats));
     outside = λ t w. refl;

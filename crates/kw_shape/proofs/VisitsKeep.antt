@@ -17,7 +17,7 @@ use Rattle.kw_world.specs.Step.{word}
 use Rattle.kw_core.specs.Run.{Run}
 use Rattle.kw_core.specs.Stages.{IsBalancing, IsBusy, IsVisiting}
 use Rattle.kw_core.specs.Words.{Words}
-use Rattle.kw_core.proofs.Arrows.{Arrow, begins, enters, enters_scan, sees_stamped, sees_neither, is_gone_by, helps, finds_stamped, finds_other, list_ends, key_above, left_over_gone_by, gathers_left_over, leaves, NextLook, looks, lists, NextLeftOver, goes_to_left_over, answers, ends_scan, scans_on, retries, enters_again, builds, first_ends, remembers_last, sees_frozen_last, freezes_last, takes_no_more, keeps_no_more, decides, marks_led}
+use Rattle.kw_core.proofs.Arrows.{Arrow, begins, enters, enters_scan, sees_stamped, sees_neither, is_gone_by, helps, finds_stamped, finds_other, list_ends, key_above, left_over_gone_by, gathers_left_over, leaves, NextLook, looks, lists, NextLeftOver, goes_to_left_over, answers, ends_scan, scans_on, retries, enters_again, builds, first_ends, remembers_last, sees_frozen_last, freezes_last, takes_no_more, keeps_no_more, decides, marks_led, asks_of_pin, looks_at_pin}
 use Rattle.kw_core.proofs.Grouping.{GroupGoes, counted_goes, frozen_goes, gathered_goes}
 use Rattle.kw_core.proofs.BuiltNext.{built_goes}
 use Rattle.kw_core.proofs.Fates.{number_of_drawn, numbers_stay, other_numbers, others_stay}
@@ -26,7 +26,7 @@ use Rattle.kw_core.proofs.Happens.{Happens}
 use Rattle.kw_core.proofs.InfantFrames.{epoch_stays, number_drawn}
 use Rattle.kw_shape.specs.Visits.{Numbers, Visits}
 use Rattle.kw_shape.specs.Shape.{Shape}
-use Rattle.kw_shape.proofs.AfterBuilding.{after_visits, built_pass, built_visits}
+use Rattle.kw_shape.proofs.AfterBuilding.{after_visits, built_pass, built_visits, look_goes, no_call_of_pin}
 use Rattle.kw_shape.proofs.RelyRows.{is_visiting}
 use Rattle.kw_shape.proofs.RowsKeep.{others_kept, visit_begins, visit_ends, visit_taken_back}
 
@@ -85,6 +85,8 @@ arrow_visits z v s choice l a k (takes_no_more next e f y) p n = let x = group_v
 arrow_visits z v s choice l a k (keeps_no_more next f y) p n = let x = group_visits _ next (gathered_goes z _ next y) in (x.0, x.1, x.2)
 arrow_visits z v s choice l a k (marks_led count next d y) p n = let x = group_visits _ next (counted_goes _ _ next y) in (x.0, x.1, x.2)
 arrow_visits z v s choice l a k (decides count m next e y) p n = let x = group_visits _ next (counted_goes _ _ next y) in (x.0, x.1, x.2)
+arrow_visits z v s choice l a k (asks_of_pin next c y) p n = absurd p
+arrow_visits z v s choice l a k (looks_at_pin j next y) p n = let x = group_visits _ next (look_goes z _ _ _ next y) in (x.0, x.1, x.2)
 arrow_visits z v s choice l a k _ p n = (tt, tt, refl)
 
 module _ {z : Sizes} {r r' : Run} {s : ℕ} {choice : Choice} {l l' : Local} where
@@ -184,6 +186,7 @@ visits_own z r r' s choice l a l' (begins call e b) h i =
     }
 visits_own z r r' s choice l a l' (enters e) h i = entered z r r' s choice l l' h i (tt, tt, refl)
 visits_own z r r' s choice l a l' (enters_scan e) h i = entered z r r' s choice l l' h i (tt, tt, refl)
+visits_own z r r' s choice l a l' (asks_of_pin next c n) h i = no_call_of_pin _ h i c
 visits_own z r r' s choice l a l' (leaves answer) h i = record {
   in_visit = λ x. absurd x;
   in_none = λ x. record { visits = visit_ends answer h; word = h.changed.same };

@@ -23,10 +23,11 @@ use Rattle.kw_rows.specs.Structure.{Structure}
 use Rattle.kw_rows.proofs.Named.{above_least, ends_at, ends_nowhere, fresh_next, held_by, normal_live}
 use Rattle.kw_shape.specs.RowsIn.{rows_in, state_seen}
 use Rattle.kw_shape.specs.Shape.{IsAtItsRow, IsOnWalk, Walks}
-use Rattle.kw_core.proofs.Arrows.{Arrow, enters, settles, starts_at_head, guesses, guess_fails, takes_head, guess_serves, guess_is_above, puts_in_last, reads_last, reaches_next, walks_on, puts_before, reads_before, sees_pending, sees_stamped, sees_neither, is_wanted, is_gone_by, loads_to_help, helps, finds_stamped, finds_other, list_leads, list_ends, key_below, key_within, key_above, loads_version, gathers_listed, left_over_wanted, left_over_gone_by, gathers_left_over, finds_room, takes_cell, stores_key, stores_value, announces, loads_clock, stamps, is_stamped, stores_version, reaches_cell, sees_none, key_before, key_same, key_after, version_before, version_after, stores_after, inserts, loses, NextLook, looks, lists, NextLeftOver, goes_to_left_over, answers, ends_scan, scans_on, builds, begins_at_first, begins_behind, first_ends, first_leads, first_reaches, first_sees_none, inserts_at_first, inserts_behind, remembers_last, sees_frozen_last, freezes_last, takes_no_more, keeps_no_more, decides, marks_led}
+use Rattle.kw_core.proofs.Arrows.{Arrow, enters, settles, starts_at_head, guesses, guess_fails, takes_head, guess_serves, guess_is_above, puts_in_last, reads_last, reaches_next, walks_on, puts_before, reads_before, sees_pending, sees_stamped, sees_neither, is_wanted, is_gone_by, loads_to_help, helps, finds_stamped, finds_other, list_leads, list_ends, key_below, key_within, key_above, loads_version, gathers_listed, left_over_wanted, left_over_gone_by, gathers_left_over, finds_room, takes_cell, stores_key, stores_value, announces, loads_clock, stamps, is_stamped, stores_version, reaches_cell, sees_none, key_before, key_same, key_after, version_before, version_after, stores_after, inserts, loses, NextLook, looks, lists, NextLeftOver, goes_to_left_over, answers, ends_scan, scans_on, builds, begins_at_first, begins_behind, first_ends, first_leads, first_reaches, first_sees_none, inserts_at_first, inserts_behind, remembers_last, sees_frozen_last, freezes_last, takes_no_more, keeps_no_more, decides, marks_led, asks_of_pin, looks_at_pin}
 use Rattle.kw_core.proofs.Grouping.{counted_goes, frozen_goes, gathered_goes}
 use Rattle.kw_core.proofs.BuiltNext.{built_next}
-use Rattle.kw_shape.proofs.AfterBuilding.{after_walks}
+use Rattle.kw_shape.proofs.AfterBuilding.{after_walks, look_goes}
+use Rattle.kw_core.proofs.Pinning.{NextOfPin, reads_at_pin}
 
 -- At a row.
 
@@ -174,6 +175,11 @@ module _ (v : Words) (g : Ledger) (t : ℕ) {now : ℕ} (rows : Structure (rows_
       which (inl e) = e
       which (inr e) = absurd (omega (arith, e.1, above_least (rows_in v) g rows.closed l.row (least_in v l.candidate) (held_by g t l.row w.on.0) w.on.3, o))
 
+-- a call that asks of a pin begins a walk, or is nowhere along the rows
+of_pin_walks : (v : Words) (g : Ledger) (s : ℕ) (l k : Local) → NextOfPin l k → Walks v g s k.activity k
+of_pin_walks v g s l k (reads_at_pin from upto version e f o) = record { on = tt; lower = λ q. absurd q; built = λ q. absurd q; at = λ q. absurd q; begins = λ q. refl; wants = λ q. absurd q }
+of_pin_walks v g s l k _ = nowhere v g s _ _ (λ u. u) (λ u. u) (λ u. u) tt
+
 -- by the arrow that the seat takes
 pub walks_by : (z : Sizes) (v : Words) (g : Ledger) {now : ℕ} (s : ℕ) (choice : Choice) (l : Local) (a : Activity) (l' : Local) → Arrow z v s choice l a l' → Structure (rows_in v) g now → Walks v g s a l → Walks v g s l'.activity l'
 walks_by z v g s choice l a l' (builds b next y t) c w = after_walks v g s next.activity next (built_next z v choice l b next t)
@@ -244,4 +250,6 @@ walks_by z v g s choice l a l' (takes_no_more next e f m) c w = rebalances v g s
 walks_by z v g s choice l a l' (keeps_no_more next f m) c w = rebalances v g s next.activity next (gathered_goes z _ next m).next
 walks_by z v g s choice l a l' (marks_led count next d m) c w = rebalances v g s next.activity next (counted_goes _ _ next m).next
 walks_by z v g s choice l a l' (decides count n next e m) c w = rebalances v g s next.activity next (counted_goes _ _ next m).next
+walks_by z v g s choice l a l' (asks_of_pin next x n) c w = of_pin_walks v g s l next n
+walks_by z v g s choice l a l' (looks_at_pin j next n) c w = rebalances v g s next.activity next (look_goes z _ _ _ next n).next
 walks_by z v g s choice l a l' _ c w = nowhere v g s _ _ (λ u. u) (λ u. u) (λ u. u) tt

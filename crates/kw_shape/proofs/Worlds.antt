@@ -1,6 +1,10 @@
 -- The world after a list of events. Every event keeps its shape, and so does every valid list; it
 -- has as many rows and seats as at the opening, what each seat knows stands in it, and it is sane.
-use Rattle.std.proofs.Common.{◌≡◌, true, List, sym, subst, ℕ, ◌<◌, [], ◌∷◌, Some, length, slice_get, refl, ◌∙◌, arith}
+--
+-- A call leaves a seat at rest (`at_rest`): with the number of its calls, and with its pin. As long
+-- as no call of a pin is let in no seat holds one, and so it leaves a seat as it was at the
+-- opening, but for that number.
+use Rattle.std.proofs.Common.{◌≡◌, true, List, sym, subst, ℕ, ◌<◌, [], ◌∷◌, Some, length, slice_get, refl, ◌∙◌, arith, ap, None, Option}
 use Rattle.kw_world.specs.declared.event.Event.{Event}
 use Rattle.kw_world.specs.declared.opening.Opening.{Opening}
 use Rattle.kw_world.specs.Opening.{IsOpening, opened}
@@ -16,7 +20,8 @@ use Rattle.kw_shape.proofs.ShapeKeeps.{shape_keeps}
 use Rattle.kw_shape.proofs.ShapeOpens.{shape_starts}
 use Rattle.std.proofs.lemmas.List.{length-replicate}
 use Rattle.std.proofs.lemmas.Option.{slice_get-get_or}
-use Rattle.kw_world.specs.Local.{resting}
+use Rattle.kw_world.specs.declared.local.Local.{Local}
+use Rattle.kw_world.specs.Local.{at_rest, resting}
 use Rattle.kw_world.specs.WorldView.{WorldView}
 use Rattle.kw_world.specs.Sane.{IsSane}
 use Rattle.kw_world.specs.Step.{step}
@@ -60,3 +65,11 @@ world-local z o es s inside = slice_get-get_or (world z o es).locals s (resting 
 -- the world after a valid list is sane
 pub world_sane : (z : Sizes) (o : Opening) → IsOpening z o → (es : List Event) → is_valid z o es ≡ true → IsSane z (world z o es)
 world_sane z o opens es valid = subst (IsSane z) (history-world z o es) (shape_holds z o es opens valid).sane
+
+-- a seat without a pin is at rest as one that begins
+pub rests_unpinned : (l : Local) → l.pin ≡ None → at_rest l ≡ resting l.number
+rests_unpinned l e = ap (λ (p : Option ℕ). record (resting l.number) { pin = p }) e
+
+-- so each seat of such a run is
+pub at_rest_is : {z : Sizes} {r : Run} → Shape z r → (s : ℕ) (l : Local) → slice_get r.world.locals s ≡ Some l → at_rest l ≡ resting l.number
+at_rest_is i s l g = rests_unpinned l (i.no_pin s l g)

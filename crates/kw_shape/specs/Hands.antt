@@ -53,6 +53,7 @@ abbrev pub IsAllFrozen : Activity → Type 0
 IsAllFrozen (Activity.Rebalance (Rebalance.Freeze (Freeze.Scan i))) = Unit {0}
 IsAllFrozen (Activity.Rebalance (Rebalance.Freeze (Freeze.Draw i))) = Unit {0}
 IsAllFrozen (Activity.Rebalance (Rebalance.Freeze (Freeze.Settle i))) = Unit {0}
+IsAllFrozen (Activity.Rebalance (Rebalance.Freeze (Freeze.Pin i))) = Unit {0}
 IsAllFrozen (Activity.Rebalance (Rebalance.Gather _)) = Unit {0}
 IsAllFrozen (Activity.Rebalance (Rebalance.Seek _)) = Unit {0}
 IsAllFrozen (Activity.Rebalance (Rebalance.Write _)) = Unit {0}

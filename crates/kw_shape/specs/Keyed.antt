@@ -4,7 +4,7 @@
 -- Links are followed from a row's first one, or from a cell with which the row was built. A place
 -- that has no cell yet may have a link of an earlier use of the row, which says nothing; it is not
 -- reached before a put has stored the link after its own cell.
-use Rattle.std.specs.Prelude.{ℕ, ◌≡◌, ◌⊎◌, ◌<◌, ◌≤◌, All, Option, Some, None}
+use Rattle.std.specs.Prelude.{ℕ, ◌≡◌, ◌⊎◌, ◌<◌, ◌≤◌, All, Option, Some}
 use Rattle.kw_words.specs.declared.layout.Name.TheVariants as name
 use Rattle.kw_words.specs.declared.pend.Pend.{Pend}
 use Rattle.kw_words.specs.declared.pend.Pend.TheVariants as pend

@@ -35,6 +35,7 @@ drawing n (Activity.Rebalance (Rebalance.Claim _)) = n
 drawing n (Activity.Rebalance (Rebalance.Freeze (Freeze.Scan i))) = n - i
 drawing n (Activity.Rebalance (Rebalance.Freeze (Freeze.Draw i))) = n - i
 drawing n (Activity.Rebalance (Rebalance.Freeze (Freeze.Settle i))) = n - (i + 1)
+drawing n (Activity.Rebalance (Rebalance.Freeze (Freeze.Pin i))) = 0
 drawing n (Activity.Rebalance (Rebalance.Freeze _)) = n
 drawing n _ = 0
 

@@ -11,7 +11,9 @@ use Rattle.kw_model.specs.declared.call.Call.TheVariants.{Put, Del, Get, Scan}
 use Rattle.kw_world.specs.declared.answer.Answer.{Answer}
 use Rattle.kw_world.specs.declared.answer.Answer.TheVariants.{Done, Value, Absent, Pairs, NoRows, Spent, Stopped}
 use Rattle.kw_world.specs.declared.activity.Activity.{Activity}
+use Rattle.kw_world.specs.declared.activity.draw.Draw.TheVariants as Draw
 use Rattle.kw_world.specs.declared.activity.rebalance.engage.Engage.TheVariants as Engage
+use Rattle.kw_world.specs.declared.activity.rebalance.freeze.Freeze.TheVariants as Freeze
 use Rattle.kw_world.specs.declared.activity.enter.Enter.TheVariants as Enter
 use Rattle.kw_world.specs.declared.activity.rebalance.Rebalance.TheVariants as Rebalance
 use Rattle.kw_world.specs.declared.activity.walk.Walk.TheVariants as Walk
@@ -138,18 +140,22 @@ IsKindAt Rebalancing call = IsPutCall call
 IsKindAt Retrying call = IsPutCall call
 IsKindAt _ call = IsSomeCall call
 
--- the activity is one of such a call
+-- the activity is one of such a call. No seat stores, takes back or looks at a pin, since no call
+-- asks of one as yet (`IsCall`)
 abbrev pub IsKind : Activity → Local → Type 0
 IsKind Activity.Idle l = Unit {0}
+IsKind (Activity.Draw Draw.Pin) l = ⊥
 IsKind (Activity.Draw _) l = IsScanCall l.call
 IsKind (Activity.Look _) l = IsReadCall l.call
 IsKind (Activity.Read _) l = IsReadCall l.call
 IsKind (Activity.EndScan answer) l = IsScanCall l.call × IsPairs answer
+IsKind Activity.ClearPin l = ⊥
 IsKind (Activity.Put _) l = IsPutCall l.call
 IsKind (Activity.Insert _) l = IsPutCall l.call
 IsKind (Activity.Leave answer) l = IsAnswerOf l.call answer
 IsKind (Activity.Enter Enter.LoadEpoch) l = IsPutCall l.call
 IsKind (Activity.Rebalance (Rebalance.Engage (Engage.Decide count))) l = IsPutCall l.call × (1 ≤ count)
+IsKind (Activity.Rebalance (Rebalance.Freeze (Freeze.Pin i))) l = ⊥
 IsKind a l = IsKindAt (stage_of a) l.call
 
 -- the activity fits the call, and a scan that walks or reads has a key
@@ -164,9 +170,9 @@ pub record Kinds (a : Activity) (l : Local) : Type 0 where
 -- structure of a list whose rows come and go, and each seat is where its call has it
 pub record Shape (z : Sizes) (r : Run) : Type 0 where
   pub sane : IsSane z r.world
-  -- of one key a row that is built has room for more cells than scans may need at once, so the new
-  -- rows of one group differ in their least keys
-  pub built : z.seats < z.built
+  -- of one key a row that is built has room for more cells than scans and pins may need at once, so
+  -- the new rows of one group differ in their least keys
+  pub built : 2 * z.seats < z.built
   -- and a new row is no longer than a row
   pub fits : z.built ≤ z.cells
   pub room : (q : ℕ) → q < r.world.rows → given_in (word z r.world) q + adders q r.world.locals < z.cells + z.seats
@@ -182,6 +188,8 @@ pub record Shape (z : Sizes) (r : Run) : Type 0 where
   pub epoch : word z r.world name.Epoch + numberers r.world.locals ≤ SPENT + MOST_GROUP * z.seats
   pub numbers : Numbers (word z r.world) r.ledger.rows
   pub kinds : (t : ℕ) (l : Local) → slice_get r.world.locals t ≡ Some l → Kinds l.activity l
+  -- no seat holds a pin: so it is as long as no call of one is let in
+  pub no_pin : (t : ℕ) (l : Local) → slice_get r.world.locals t ≡ Some l → l.pin ≡ None
   -- a seat that tidies, since its put was done before, rebalances its row, or is about to leave
   pub tidies : (t : ℕ) (l : Local) → slice_get r.world.locals t ≡ Some l → l.tidies ≡ true → IsBalancing l.activity ⊎ IsDone l.activity
   -- no seat tidies before so many rows were retired that the table has few for each number of the

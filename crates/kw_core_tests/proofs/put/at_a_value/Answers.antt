@@ -18,6 +18,7 @@ in_range : IsLocal product (reading (resting 0))
 in_range = record {
   activity = tt;
   call = (omega arith, omega arith);
+  pin = tt;
   epoch = (omega arith, omega arith);
   want = omega arith;
   lower = omega arith;

@@ -32,6 +32,7 @@ starts_known z rows sized =
       ranges = record {
         activity = tt;
         call = tt;
+        pin = tt;
         epoch = k.ranges.epoch;
         want = k.ranges.want;
         lower = k.ranges.lower;
