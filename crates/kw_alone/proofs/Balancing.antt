@@ -8,10 +8,12 @@ use Rattle.kw_world.specs.declared.local.Local.{Local}
 use Rattle.kw_world.specs.Sizes.{Sizes}
 use Rattle.kw_core.specs.Stages.{IsBalancing}
 use Rattle.kw_core.specs.Words.{Words}
-use Rattle.kw_core.proofs.Arrows.{Arrow, builds, clock_is_spent, ends_at_clock, clock_serves, epoch_is_spent, ends_at_epoch, epoch_serves, finds_infant, finds_normal, finds_leader, finds_follower, finds_other_state, ends_at_state, normalises, engages, is_engaged, marks_link, marks_last, marks_led, decides, decides_not, ends_undecided, counts_next, claims_next, next_is_infant, next_leads, claims_not, ends_unclaimed, normalises_next, marks_next, begins_left, takes_leader, reaches_leader, leads_left, walks_left, head_follows, ends_at_head, none_is_left, ends_at_none, passes_left, ends_past, freezes_count, sees_idle, sees_unstamped, remembers, remembers_last, sees_frozen, sees_frozen_last, freezes_entry, freezes_last, looks_again, sees_quiet, sees_quiet_last, helps_scan, sees_drawn, sees_drawn_last, draws_for, settles_scan, settles_last, finds_drawn, finds_drawn_last, finds_no_scan, finds_no_scan_last, take_leads, takes_left, takes_no_more, takes_key, takes_version, keeps_taken, takes_left_key, keeps_left, keeps_no_more}
+use Rattle.kw_core.proofs.Arrows.{Arrow, builds, clock_is_spent, ends_at_clock, clock_serves, epoch_is_spent, ends_at_epoch, epoch_serves, finds_infant, finds_normal, finds_leader, finds_follower, finds_other_state, ends_at_state, normalises, engages, is_engaged, marks_link, marks_last, marks_led, decides, decides_not, ends_undecided, counts_next, claims_next, next_is_infant, next_leads, claims_not, ends_unclaimed, normalises_next, marks_next, begins_left, takes_leader, reaches_leader, leads_left, walks_left, head_follows, ends_at_head, none_is_left, ends_at_none, passes_left, ends_past, freezes_count, sees_idle, sees_unstamped, remembers, remembers_last, sees_frozen, sees_frozen_last, freezes_entry, freezes_last, looks_again, sees_quiet, sees_quiet_last, helps_scan, sees_drawn, sees_drawn_last, draws_for, settles_scan, settles_last, finds_drawn, finds_drawn_last, finds_no_scan, finds_no_scan_last, take_leads, takes_left, takes_no_more, takes_key, takes_version, keeps_taken, takes_left_key, keeps_left, keeps_no_more, looks_at_pin}
 use Rattle.kw_core.proofs.Building.{Building, IsBuilding}
 use Rattle.kw_core.proofs.BuiltNext.{IsAfterBuilding, built_keeps, built_next}
 use Rattle.kw_core.proofs.Grouping.{GroupGoes, NextCounted, NextFrozen, NextGathered, counted_goes, counted_leads, frozen_goes, frozen_leads, gathered_goes, gathered_leads}
+use Rattle.kw_shape.proofs.AfterBuilding.{look_goes}
+use Rattle.kw_puts.proofs.BuiltStages.{pin_look_is}
 use Rattle.kw_full.specs.Full.{IsEngaging}
 
 -- the rebalance is over: the put tries again, or the call is to end
@@ -121,6 +123,7 @@ goes_by z v s choice l a k (finds_drawn j version e o) x = goes_on tt refl refl 
 goes_by z v s choice l a k (finds_drawn_last j version e o) x = goes_on tt refl refl (λ g. absurd g)
 goes_by z v s choice l a k (finds_no_scan j e o) x = goes_on tt refl refl (λ g. absurd g)
 goes_by z v s choice l a k (finds_no_scan_last j e o) x = goes_on tt refl refl (λ g. absurd g)
+goes_by z v s choice l a k (looks_at_pin j next n) x = group_by z v choice l a k l refl refl (look_goes z _ _ _ next n) (pin_look_is (λ b. IsEngaging b → ⊥) (λ q g. g) (λ g. g) n)
 goes_by z v s choice l a k (take_leads c e) x = goes_on tt refl refl (λ g. absurd g)
 goes_by z v s choice l a k (takes_left m e f o) x = goes_on tt refl refl (λ g. absurd g)
 goes_by z v s choice l a k (takes_no_more next e m n) x = gathered_by z v choice l a k _ refl refl n

@@ -154,6 +154,7 @@ module _ (z : Sizes) (rows : ℕ) (v : Words) where
   freezes_most (Freeze.Scan i) l = omega arith
   freezes_most (Freeze.Draw i) l = omega arith
   freezes_most (Freeze.Settle i) l = omega arith
+  freezes_most (Freeze.Pin i) l = omega arith
 
   gathers_most : (b : Gather) (l : Local) → Most z rows v (Activity.Rebalance (Rebalance.Gather b)) l
   gathers_most Gather.Link l = omega (arith, left_most l.rebalance.ahead)
@@ -212,6 +213,7 @@ module _ (z : Sizes) (rows : ℕ) (v : Words) where
   draws_most Draw.Wait l = omega arith
   draws_most Draw.Version l = omega arith
   draws_most Draw.Settle l = omega arith
+  draws_most Draw.Pin l = omega arith
 
   pub most : (a : Activity) (l : Local) → HasFew z rows a l → Most z rows v a l
   most Activity.Idle l f = omega arith
@@ -221,6 +223,7 @@ module _ (z : Sizes) (rows : ℕ) (v : Words) where
   most (Activity.Look b) l f = looks_most b l
   most (Activity.Read b) l f = reads_most b l f.remembered
   most (Activity.EndScan answer) l f = omega arith
+  most Activity.ClearPin l f = omega arith
   most (Activity.Put b) l f = puts_most b l
   most (Activity.Insert b) l f = inserts_most b l
   most (Activity.Rebalance b) l f = rebalances_most b l f

@@ -26,7 +26,7 @@ use Rattle.kw_core.specs.Ledger as ledger
 use Rattle.kw_core.specs.Run.{Run}
 use Rattle.kw_core.specs.Stages.{IsBalancing}
 use Rattle.kw_core.specs.Words.{next_in}
-use Rattle.kw_core.proofs.Arrows.{Arrow, NextLook, looks, lists, NextLeftOver, goes_to_left_over, answers, ends_scan, scans_on, builds, leaves, sees_stamped, sees_neither, is_gone_by, helps, finds_stamped, finds_other, first_ends, list_ends, key_above, left_over_gone_by, gathers_left_over, finds_full, takes_full, announces_full, stamps_full, tidies, marks_led, decides, begins_left, takes_leader, reaches_leader, leads_left, walks_left, remembers_last, sees_frozen_last, freezes_last, takes_no_more, keeps_no_more}
+use Rattle.kw_core.proofs.Arrows.{Arrow, NextLook, looks, lists, NextLeftOver, goes_to_left_over, answers, ends_scan, scans_on, builds, leaves, sees_stamped, sees_neither, is_gone_by, helps, finds_stamped, finds_other, first_ends, list_ends, key_above, left_over_gone_by, gathers_left_over, finds_full, takes_full, announces_full, stamps_full, tidies, marks_led, decides, begins_left, takes_leader, reaches_leader, leads_left, walks_left, remembers_last, sees_frozen_last, freezes_last, takes_no_more, keeps_no_more, asks_of_pin, looks_at_pin}
 use Rattle.kw_core.proofs.Building.{Building, marked_link, first_is_taken, sought_is_taken, pass_is_old, pass_is_young, takes_row, loses_row, gives_one_back, gives_last_back, writes_first, writes_entry, writes_no_cell, writes_after, begins_before, guesses_before, before_serves, takes_head_before, leads_to_full, leads_on_marked, leads_to_other, leads_nowhere, walks_before, walks_past, replaces_row, is_marked_before, is_replaced}
 use Rattle.kw_core.proofs.Fates.{fate_stays, none_replaced}
 use Rattle.kw_core.proofs.Grouping.{counted_leads, frozen_leads, gathered_leads}
@@ -39,6 +39,7 @@ use Rattle.kw_alone.specs.Clean.{IsBeforeLive, IsClean}
 use Rattle.kw_alone.specs.Known.{Taken}
 use Rattle.kw_alone.specs.Marks.{IsMark, ends, wins, moves}
 use Rattle.kw_alone.proofs.Living.{live_stays}
+use Rattle.kw_puts.proofs.BuiltStages.{of_pin_is, pin_look_is}
 
 -- the seat is at the beginning of its way to the leader of a follower
 abbrev pub IsLeftStart : Activity → Type 0
@@ -212,6 +213,8 @@ module _ (z : Sizes) (r r' : Run) (s : ℕ) (choice : Choice) (l : Local) where
   moves_clean a k (announces_full e) h i t f = inr (tt, λ b u. absurd b)
   moves_clean a k (stamps_full e) h i t f = inr (tt, λ b u. absurd b)
   moves_clean a k (tidies n e) h i t f = inr (tt, λ b u. absurd b)
+  moves_clean a k (asks_of_pin m o n) h i t f = stays g' a k (of_pin_is (λ b. (x : Local) → IsClean g' b x × (b ≡ Activity.Rebalance (Rebalance.Engage Engage.Clock) → ⊥)) (λ x. (tt, λ e. absurd (cc))) (λ x. (tt, λ e. absurd (cc))) (λ x. (tt, λ e. absurd (cc))) (λ x. (tt, λ e. absurd (cc))) (λ x. (tt, λ e. absurd (cc))) (λ x. (tt, λ e. absurd (cc))) n k)
+  moves_clean a k (looks_at_pin j m n) h i t f = stays g' a k (pin_look_is (λ b. (x : Local) → IsClean g' b x × (b ≡ Activity.Rebalance (Rebalance.Engage Engage.Clock) → ⊥)) (λ q x. (tt, λ e. absurd (cc))) (λ x. (tt, λ e. absurd (cc))) n k)
   moves_clean a k _ h i t f = inr (tt, λ b u. absurd (cc))
 
   -- so it is a mark, or leaves it there

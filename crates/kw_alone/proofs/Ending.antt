@@ -1,9 +1,10 @@
 -- A get or a scan has no mark but its end: so a seat that makes all events ends it.
 use Rattle.std.proofs.Common.{ℕ, ◌≡◌, ◌⊎◌, inl, inr, ◌+◌, ◌<◌, ◌≤◌, ◌++◌, ◌∷◌, [], true, List, Option, Some, None, take, drop, arith, refl, sym, ◌∙◌, ap, subst, length, slice_get, append_assoc, take-append-drop}
 use Rattle.kw_model.specs.declared.call.Call.{Call}
-use Rattle.kw_model.specs.declared.call.Call.TheVariants.{Put, Del, Get, Scan}
+use Rattle.kw_model.specs.declared.call.Call.TheVariants.{Put, Del, Get, Scan, Pin, ScanAt, Unpin}
 use Rattle.kw_world.specs.declared.activity.Activity.{Activity}
 use Rattle.kw_world.specs.declared.activity.rebalance.Rebalance.TheVariants as Rebalance
+use Rattle.kw_world.specs.declared.activity.rebalance.freeze.Freeze.TheVariants as Freeze
 use Rattle.kw_world.specs.declared.activity.rebalance.engage.Engage.TheVariants as Engage
 use Rattle.kw_world.specs.declared.event.Choice.{Choice}
 use Rattle.kw_world.specs.declared.event.Event.{Event}
@@ -15,7 +16,7 @@ use Rattle.kw_world.specs.WorldView.{WorldView}
 use Rattle.kw_core.specs.Events.{is_valid, local_of, world}
 use Rattle.kw_core.specs.Stages.{IsBalancing, IsBusy, IsUnderway}
 use Rattle.kw_core.specs.Words.{Words}
-use Rattle.kw_core.proofs.Arrows.{Arrow, NextLook, looks, lists, NextLeftOver, goes_to_left_over, answers, ends_scan, scans_on, builds, leaves, sees_stamped, sees_neither, is_gone_by, helps, finds_stamped, finds_other, first_ends, list_ends, key_above, left_over_gone_by, gathers_left_over, marks_led, decides, remembers_last, sees_frozen_last, freezes_last, takes_no_more, keeps_no_more}
+use Rattle.kw_core.proofs.Arrows.{Arrow, NextLook, looks, lists, NextLeftOver, goes_to_left_over, answers, ends_scan, scans_on, builds, leaves, sees_stamped, sees_neither, is_gone_by, helps, finds_stamped, finds_other, first_ends, list_ends, key_above, left_over_gone_by, gathers_left_over, marks_led, decides, remembers_last, sees_frozen_last, freezes_last, takes_no_more, keeps_no_more, asks_of_pin, looks_at_pin}
 use Rattle.kw_core.proofs.Building.{IsBuilding}
 use Rattle.kw_core.proofs.BuiltNext.{IsAfterBuilding, built_next}
 use Rattle.kw_core.proofs.Events.{valid_front}
@@ -29,6 +30,7 @@ use Rattle.kw_alone.specs.Falls.{events_to_mark}
 use Rattle.kw_alone.specs.Marks.{AreOf, IsMark, ends, wins, moves}
 use Rattle.kw_alone.proofs.Marking.{Keeps, Marked, marked}
 use Rattle.kw_alone.proofs.Turning.{Made, made, seat_inside}
+use Rattle.kw_puts.proofs.BuiltStages.{of_pin_is, pin_look_is}
 
 -- A call goes on until its seat leaves.
 
@@ -67,6 +69,8 @@ stays_busy z v s choice l a k (sees_frozen_last j next e o n) u = frozen_leads I
 stays_busy z v s choice l a k (freezes_last j next e o n) u = frozen_leads IsBusy tt tt _ next n
 stays_busy z v s choice l a k (takes_no_more next e m n) u = gathered_leads IsBusy tt tt z _ next n
 stays_busy z v s choice l a k (keeps_no_more next m n) u = gathered_leads IsBusy tt tt z _ next n
+stays_busy z v s choice l a k (asks_of_pin next o n) u = of_pin_is IsBusy tt tt tt tt tt tt n
+stays_busy z v s choice l a k (looks_at_pin j next n) u = pin_look_is IsBusy (λ i. tt) tt n
 stays_busy z v s choice l a k _ u = tt
 
 -- the seat is about to leave
@@ -100,6 +104,7 @@ read_goes z v s choice l a k y c b = which (leaving_or a b)
 
 balancing_puts : (a : Activity) (l : Local) → IsKind a l → IsBalancing a → IsPutCall l.call
 balancing_puts (Activity.Rebalance (Rebalance.Engage (Engage.Decide count))) l k b = k.0
+balancing_puts (Activity.Rebalance (Rebalance.Freeze (Freeze.Pin i))) l k b = absurd k
 balancing_puts (Activity.Rebalance _) l k b = k
 balancing_puts _ l k b = absurd b
 
@@ -108,6 +113,9 @@ no_read (Some (Put key value)) p c = c
 no_read (Some (Del key)) p c = c
 no_read (Some (Get key)) p c = p
 no_read (Some (Scan from upto)) p c = p
+no_read (Some Pin) p c = p
+no_read (Some (ScanAt from upto)) p c = p
+no_read (Some Unpin) p c = p
 no_read None p c = p
 
 mark_ends : (a b : Activity) (l : Local) → IsKind a l → IsReadCall l.call → IsMark a b → IsEnd a b

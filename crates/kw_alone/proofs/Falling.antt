@@ -35,6 +35,7 @@ module _ (z : Sizes) (rows : ℕ) (v v' : Words) (s : ℕ) (choice : Choice) whe
   arrow_falls (Activity.Look b) l next y c f = reader_falls z rows v v' s choice (Activity.Look b) l next y tt f
   arrow_falls (Activity.Read b) l next y c f = reader_falls z rows v v' s choice (Activity.Read b) l next y tt f
   arrow_falls (Activity.EndScan answer) l next y c f = way_falls z rows v v' s choice (Activity.EndScan answer) l next y tt f
+  arrow_falls Activity.ClearPin l next y c f = way_falls z rows v v' s choice Activity.ClearPin l next y tt f
   arrow_falls (Activity.Put b) l next y c f = putting_falls z rows v v' s choice (Activity.Put b) l next y tt c f
   arrow_falls (Activity.Insert b) l next y c f = putting_falls z rows v v' s choice (Activity.Insert b) l next y tt c f
   arrow_falls (Activity.Rebalance (Rebalance.Engage b)) l next y c f = engaging_falls z rows v v' s choice (Activity.Rebalance (Rebalance.Engage b)) l next y tt c f

@@ -8,16 +8,18 @@ use Rattle.kw_words.specs.Plain.{value_of_word}
 use Rattle.kw_words.proofs.PendWords.{pend_word_of}
 use Rattle.kw_world.specs.declared.activity.Activity.{Activity}
 use Rattle.kw_world.specs.declared.activity.rebalance.Rebalance.TheVariants as Rebalance
+use Rattle.kw_world.specs.declared.activity.rebalance.freeze.Freeze.TheVariants as Freeze
 use Rattle.kw_world.specs.declared.event.Choice.{Choice}
 use Rattle.kw_world.specs.declared.local.Local.{Local}
 use Rattle.kw_world.specs.TakeTransitions.{keeping}
 use Rattle.kw_world.specs.Sizes.{Sizes}
 use Rattle.kw_world.specs.Table.{transition}
 use Rattle.kw_core.specs.Words.{Words}
-use Rattle.kw_core.proofs.Arrows.{Arrow, builds, freezes_count, sees_idle, sees_unstamped, remembers, remembers_last, sees_frozen, sees_frozen_last, freezes_entry, freezes_last, looks_again, sees_quiet, sees_quiet_last, helps_scan, sees_drawn, sees_drawn_last, draws_for, settles_scan, settles_last, finds_drawn, finds_drawn_last, finds_no_scan, finds_no_scan_last, take_leads, takes_left, takes_no_more, takes_key, takes_version, keeps_taken, takes_left_key, keeps_left, keeps_no_more}
+use Rattle.kw_core.proofs.Arrows.{Arrow, builds, freezes_count, sees_idle, sees_unstamped, remembers, remembers_last, sees_frozen, sees_frozen_last, freezes_entry, freezes_last, looks_again, sees_quiet, sees_quiet_last, helps_scan, sees_drawn, sees_drawn_last, draws_for, settles_scan, settles_last, finds_drawn, finds_drawn_last, finds_no_scan, finds_no_scan_last, take_leads, takes_left, takes_no_more, takes_key, takes_version, keeps_taken, takes_left_key, keeps_left, keeps_no_more, looks_at_pin}
 use Rattle.kw_core.proofs.Building.{IsBuilding}
 use Rattle.kw_core.proofs.Grouping.{NextFrozen, freezes_ahead, froze_all, NextGathered, gathers_ahead, gathered_all}
 use Rattle.kw_core.proofs.Happens.{Changed, chosen, not_chosen}
+use Rattle.kw_core.proofs.Pinning.{NextPinLook, sees_pin, sees_pin_last, sees_no_pin, sees_no_pin_last}
 use Rattle.kw_alone.specs.Facts.{Facts}
 use Rattle.kw_alone.specs.Falls.{Falls}
 use Rattle.kw_alone.specs.Prices.{ahead_price, first_seek_price, rows_left, scan_price}
@@ -47,6 +49,13 @@ module _ (z : Sizes) (rows : ℕ) (v v' : Words) where
   gathered_falls : (a : Activity) (l m next : Local) → NextGathered z m next → places_price z m.rebalance + 5 + first_seek_price z rows ≤ rest z rows v a l → Falls z rows v v' a l next
   gathered_falls a l m next (gathers_ahead r e) k = inr (inr (omega (arith, k, ap rows_left e)))
   gathered_falls a l m next (gathered_all e) k = inr (inr (omega (arith, k)))
+
+  -- a pin is looked at
+  pin_look_falls : (i w : ℕ) (l next : Local) → i < z.seats → NextPinLook z i w l next → Falls z rows v v' (Activity.Rebalance (Rebalance.Freeze (Freeze.Pin i))) l next
+  pin_look_falls i w l next h (sees_pin version e k) = inr (inr (omega (arith, h)))
+  pin_look_falls i w l next h (sees_pin_last version e k) = inr (inr (omega (arith, h, left_most l.rebalance.second)))
+  pin_look_falls i w l next h (sees_no_pin e k) = inr (inr (omega (arith, h)))
+  pin_look_falls i w l next h (sees_no_pin_last e k) = inr (inr (omega (arith, h, left_most l.rebalance.second)))
 
 -- the gathered cells stay
 pub gathered_stays : (z : Sizes) (m next : Local) → NextGathered z m next → next.rebalance.gathered ≡ m.rebalance.gathered
@@ -81,6 +90,7 @@ grouping_falls z rows v v' s choice a l next (finds_drawn k d e h) w c f = inr (
 grouping_falls z rows v v' s choice a l next (finds_drawn_last k d e h) w c f = inr (inr (omega (arith, left_most l.rebalance.second)))
 grouping_falls z rows v v' s choice a l next (finds_no_scan k e h) w c f = inr (inr (omega arith))
 grouping_falls z rows v v' s choice a l next (finds_no_scan_last k e h) w c f = inr (inr (omega (arith, left_most l.rebalance.second)))
+grouping_falls z rows v v' s choice a l next (looks_at_pin k m n) w c f = pin_look_falls z rows v v' k _ l m f.range n
 grouping_falls z rows v v' s choice a l next (take_leads d e) w c f = inr (inr (omega arith))
 grouping_falls z rows v v' s choice a l next (takes_left m e h k) w c f = inr (inr (omega arith))
 grouping_falls z rows v v' s choice a l next (takes_no_more n e k y) w c f = gathered_falls z rows v v' a l l next y (omega arith)

@@ -27,7 +27,7 @@ use Rattle.kw_world.specs.Transition.{row_linked, row_or_first}
 use Rattle.kw_core.specs.Run.{Run}
 use Rattle.kw_core.specs.Stages.{IsBalancing}
 use Rattle.kw_core.specs.Words.{Words, least_in, next_in}
-use Rattle.kw_core.proofs.Arrows.{Arrow, NextLook, looks, lists, NextLeftOver, goes_to_left_over, answers, ends_scan, scans_on, builds, sees_stamped, sees_neither, is_gone_by, helps, finds_stamped, finds_other, first_ends, list_ends, key_above, left_over_gone_by, gathers_left_over, finds_full, takes_full, announces_full, stamps_full, tidies, finds_follower, marks_led, decides, takes_leader, reaches_leader, remembers_last, sees_frozen_last, freezes_last, takes_no_more, keeps_no_more}
+use Rattle.kw_core.proofs.Arrows.{Arrow, NextLook, looks, lists, NextLeftOver, goes_to_left_over, answers, ends_scan, scans_on, builds, sees_stamped, sees_neither, is_gone_by, helps, finds_stamped, finds_other, first_ends, list_ends, key_above, left_over_gone_by, gathers_left_over, finds_full, takes_full, announces_full, stamps_full, tidies, finds_follower, marks_led, decides, takes_leader, reaches_leader, remembers_last, sees_frozen_last, freezes_last, takes_no_more, keeps_no_more, asks_of_pin, looks_at_pin}
 use Rattle.kw_core.proofs.Building.{Building, marked_link, first_is_taken, sought_is_taken, pass_is_old, pass_is_young, takes_row, loses_row, gives_one_back, gives_last_back, writes_first, writes_entry, writes_no_cell, writes_after, begins_before, takes_head_before, leads_on_marked, leads_nowhere, walks_past, is_marked_before, is_replaced}
 use Rattle.kw_core.proofs.Grouping.{counted_leads, frozen_leads, gathered_leads}
 use Rattle.kw_core.proofs.Happens.{Happens}
@@ -44,6 +44,7 @@ use Rattle.kw_alone.specs.Wins.{is_unled}
 use Rattle.kw_alone.proofs.Going.{engaged_led}
 use Rattle.kw_alone.proofs.Living.{live_stays}
 use Rattle.kw_alone.proofs.Steps.{Steps}
+use Rattle.kw_puts.proofs.BuiltStages.{of_pin_is, pin_look_is}
 
 -- the seat has come to a row left of its own one, which is engaged
 pub record LeftOf (v : Words) (l k : Local) : Type 0 where
@@ -273,4 +274,6 @@ module _ (z : Sizes) (r r' : Run) (s : ℕ) (choice : Choice) (l : Local) where
   leads_by a k (freezes_last j m e o n) x f c d = plain a k (frozen_leads (Elsewhere v' r'.ledger.rows) (λ y. (λ u. absurd (cc), tt)) (λ y. (λ u. absurd (cc), tt)) _ k n k)
   leads_by a k (takes_no_more m e y n) x f c d = plain a k (gathered_leads (Elsewhere v' r'.ledger.rows) (λ y. (λ u. absurd (cc), tt)) (λ y. (λ u. absurd (cc), tt)) z _ k n k)
   leads_by a k (keeps_no_more m y n) x f c d = plain a k (gathered_leads (Elsewhere v' r'.ledger.rows) (λ y. (λ u. absurd (cc), tt)) (λ y. (λ u. absurd (cc), tt)) z _ k n k)
+  leads_by a k (asks_of_pin m o n) x f c d = plain a k (of_pin_is (Elsewhere v' r'.ledger.rows) (λ y. (λ u. absurd (cc), tt)) (λ y. (λ u. absurd (cc), tt)) (λ y. (λ u. absurd (cc), tt)) (λ y. (λ u. absurd (cc), tt)) (λ y. (λ u. absurd (cc), tt)) (λ y. (λ u. absurd (cc), tt)) n k)
+  leads_by a k (looks_at_pin j m n) x f c d = plain a k (pin_look_is (Elsewhere v' r'.ledger.rows) (λ q y. (λ u. absurd (cc), tt)) (λ y. (λ u. absurd (cc), tt)) n k)
   leads_by a k _ x f c d = (λ b u. absurd (cc), tt)

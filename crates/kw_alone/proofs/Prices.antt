@@ -4,7 +4,7 @@ use Rattle.std.proofs.Math.Nat.{mul-le-mul_right}
 use Rattle.kw_words.specs.declared.state.State.{State}
 use Rattle.kw_words.specs.declared.state.State.TheVariants as state
 use Rattle.kw_model.specs.declared.call.Call.{Call}
-use Rattle.kw_model.specs.declared.call.Call.TheVariants.{Put, Del, Get, Scan}
+use Rattle.kw_model.specs.declared.call.Call.TheVariants.{Put, Del, Get, Scan, Pin, ScanAt, Unpin}
 use Rattle.kw_world.specs.declared.local.Local.{Local}
 use Rattle.kw_world.specs.Calls.{is_scan}
 use Rattle.kw_world.specs.Sizes.{Sizes}
@@ -52,6 +52,9 @@ not_put (Some (Put k x)) e = absurd (cc e)
 not_put (Some (Del k)) e = absurd (cc e)
 not_put (Some (Get k)) e = refl
 not_put (Some (Scan b c)) e = refl
+not_put (Some Pin) e = refl
+not_put (Some (ScanAt b c)) e = refl
+not_put (Some Unpin) e = refl
 not_put None e = refl
 
 -- the price of a lost exchange goes by the word of the link

@@ -12,7 +12,7 @@ use Rattle.kw_world.specs.declared.event.Choice.{Choice}
 use Rattle.kw_world.specs.declared.local.Local.{Local}
 use Rattle.kw_world.specs.Sizes.{Sizes}
 use Rattle.kw_core.specs.Words.{Words}
-use Rattle.kw_core.proofs.Arrows.{Arrow, builds, begins, enters, enters_scan, is_spent, waits, stores_waiting, draws, settles_empty, settles, starts_at_head, guesses, guess_fails, retries, enters_again}
+use Rattle.kw_core.proofs.Arrows.{Arrow, builds, begins, enters, enters_scan, is_spent, waits, stores_waiting, draws, settles_empty, settles, starts_at_head, guesses, guess_fails, retries, enters_again, asks_of_pin, settles_pin, stores_pin}
 use Rattle.kw_core.proofs.Building.{Building, IsBuilding, makes_normal, makes_last_normal, draws_number, retires_ahead, retires_row, retires_and_leaves}
 use Rattle.kw_core.specs.Stages.{IsBalancing}
 use Rattle.kw_alone.specs.Fair.{IsFair, IsStart}
@@ -21,6 +21,7 @@ use Rattle.kw_alone.specs.Rest.{rest}
 use Rattle.kw_alone.specs.Steady.{IsLed, IsOnWay}
 use Rattle.kw_alone.specs.Wins as wins
 use Rattle.kw_alone.specs.Wins.{rest_plus}
+use Rattle.kw_puts.proofs.BuiltStages.{of_pin_is}
 
 -- By activity.
 
@@ -46,6 +47,7 @@ rest_some z rows v (Activity.Draw Draw.Clock) l e = omega arith
 rest_some z rows v (Activity.Draw Draw.Wait) l e = omega arith
 rest_some z rows v (Activity.Draw Draw.Version) l e = omega arith
 rest_some z rows v (Activity.Draw Draw.Settle) l e = omega arith
+rest_some z rows v (Activity.Draw Draw.Pin) l e = omega arith
 rest_some z rows v Activity.Retry l e = omega arith
 rest_some z rows v (Activity.Rebalance (Rebalance.Replace Replace.Normalise)) l e = omega arith
 rest_some z rows v (Activity.Rebalance (Rebalance.Replace Replace.Number)) l e = omega arith
@@ -105,12 +107,15 @@ begun_on z v s choice l a k (builds b m y t) e v' g' = by b k t e
 begun_on z v s choice l a k (begins call c b) e v' g' = (inl refl, tt)
 begun_on z v s choice l a k (enters c) e v' g' = (inr (inl tt), tt)
 begun_on z v s choice l a k (enters_scan c) e v' g' = (inl refl, tt)
+begun_on z v s choice l a k (asks_of_pin next o n) e v' g' = of_pin_is (λ b. IsOnWay v' g' b next × IsLed v' g' b next) (inl refl, tt) (inr (inr tt), tt) (inr (inr tt), tt) (inr (inr tt), tt) (inr (inl tt), tt) (inr (inr tt), tt) n
 begun_on z v s choice l a k (is_spent o) e v' g' = (inr (inr tt), tt)
 begun_on z v s choice l a k (waits o) e v' g' = (inl refl, tt)
 begun_on z v s choice l a k stores_waiting e v' g' = (inl refl, tt)
 begun_on z v s choice l a k draws e v' g' = (inl refl, tt)
 begun_on z v s choice l a k (settles_empty c) e v' g' = (inr (inr tt), tt)
 begun_on z v s choice l a k (settles c) e v' g' = (inr (inl tt), tt)
+begun_on z v s choice l a k (settles_pin c) e v' g' = (inl refl, tt)
+begun_on z v s choice l a k stores_pin e v' g' = (inr (inr tt), tt)
 begun_on z v s choice l a k retries e v' g' = (inl refl, tt)
 begun_on z v s choice l a k enters_again e v' g' = (inl refl, tt)
 begun_on z v s choice l a k _ e v' g' = absurd (cc)
@@ -130,12 +135,15 @@ begun_stays z v s choice l a k (builds b m y t) e d = by b k t e d
 begun_stays z v s choice l a k (begins call c b) e d = absurd d
 begun_stays z v s choice l a k (enters c) e d = absurd d
 begun_stays z v s choice l a k (enters_scan c) e d = absurd d
+begun_stays z v s choice l a k (asks_of_pin next o n) e d = of_pin_is (λ b. IsBalancing b → wins.begins b ≡ true) (λ y. absurd y) (λ y. absurd y) (λ y. absurd y) (λ y. absurd y) (λ y. absurd y) (λ y. absurd y) n d
 begun_stays z v s choice l a k (is_spent o) e d = absurd d
 begun_stays z v s choice l a k (waits o) e d = absurd d
 begun_stays z v s choice l a k stores_waiting e d = absurd d
 begun_stays z v s choice l a k draws e d = absurd d
 begun_stays z v s choice l a k (settles_empty c) e d = absurd d
 begun_stays z v s choice l a k (settles c) e d = absurd d
+begun_stays z v s choice l a k (settles_pin c) e d = absurd d
+begun_stays z v s choice l a k stores_pin e d = absurd d
 begun_stays z v s choice l a k retries e d = absurd d
 begun_stays z v s choice l a k enters_again e d = absurd d
 begun_stays z v s choice l a k _ e d = absurd (cc)

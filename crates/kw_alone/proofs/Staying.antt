@@ -27,11 +27,12 @@ use Rattle.kw_world.specs.WriteTransitions.{unmarked_link}
 use Rattle.kw_core.specs.Run.{Run}
 use Rattle.kw_core.specs.Stages.{IsBalancing}
 use Rattle.kw_core.specs.Words.{Words}
-use Rattle.kw_core.proofs.Arrows.{Arrow, NextLook, looks, lists, NextLeftOver, goes_to_left_over, answers, ends_scan, scans_on, builds, begins, enters, enters_scan, is_spent, waits, stores_waiting, draws, settles_empty, settles, starts_at_head, guesses, guess_fails, takes_head, guess_serves, guess_is_above, stops, puts_in_last, reads_last, reaches_next, walks_on, puts_before, reads_before, sees_pending, sees_stamped, sees_neither, is_wanted, is_gone_by, loads_to_help, helps, finds_stamped, finds_other, begins_behind, begins_at_first, first_leads, first_ends, list_leads, list_ends, key_below, key_within, key_above, loads_version, gathers_listed, left_over_wanted, left_over_gone_by, gathers_left_over, clears_scan, clears, leaves, retries, enters_again, clock_is_spent, ends_at_clock, epoch_is_spent, ends_at_epoch, finds_other_state, ends_at_state, marks_led, decides, decides_not, ends_undecided, claims_not, ends_unclaimed, takes_leader, reaches_leader, head_follows, ends_at_head, none_is_left, ends_at_none, passes_left, ends_past, remembers_last, sees_frozen_last, freezes_last, takes_no_more, keeps_no_more}
+use Rattle.kw_core.proofs.Arrows.{Arrow, NextLook, looks, lists, NextLeftOver, goes_to_left_over, answers, ends_scan, scans_on, builds, begins, enters, enters_scan, is_spent, waits, stores_waiting, draws, settles_empty, settles, starts_at_head, guesses, guess_fails, takes_head, guess_serves, guess_is_above, stops, puts_in_last, reads_last, reaches_next, walks_on, puts_before, reads_before, sees_pending, sees_stamped, sees_neither, is_wanted, is_gone_by, loads_to_help, helps, finds_stamped, finds_other, begins_behind, begins_at_first, first_leads, first_ends, list_leads, list_ends, key_below, key_within, key_above, loads_version, gathers_listed, left_over_wanted, left_over_gone_by, gathers_left_over, clears_scan, clears, leaves, retries, enters_again, clock_is_spent, ends_at_clock, epoch_is_spent, ends_at_epoch, finds_other_state, ends_at_state, marks_led, decides, decides_not, ends_undecided, claims_not, ends_unclaimed, takes_leader, reaches_leader, head_follows, ends_at_head, none_is_left, ends_at_none, passes_left, ends_past, remembers_last, sees_frozen_last, freezes_last, takes_no_more, keeps_no_more, asks_of_pin, settles_pin, stores_pin, clears_pin, looks_at_pin}
 use Rattle.kw_core.proofs.Building.{Building, IsBuilding, first_is_taken, sought_is_taken, pass_is_old, pass_is_young, takes_row, loses_row, gives_one_back, gives_last_back, writes_first, writes_entry, writes_no_cell, writes_after, begins_before, takes_head_before, leads_to_full, leads_on_marked, leads_nowhere, walks_past, replaces_row, is_marked_before, is_replaced, makes_normal, makes_last_normal, draws_number, retires_ahead, retires_row, retires_and_leaves}
 use Rattle.kw_core.proofs.Grouping.{NextCounted, claims_row, goes_alone, NextFrozen, freezes_ahead, froze_all, NextGathered, gathers_ahead, gathered_all}
 use Rattle.kw_core.proofs.Happens.{Happens}
 use Rattle.kw_core.proofs.NextBuilt.{GivenBack, tries_again, was_done, is_refused_rows, was_served, moves_left, NextBack, gives_back, has_none, NextSeek, asks, has_asked, NextPass, looks_on, has_looked, NextTaken, wants_more, has_enough, NextNewRow, writes_row, has_written, NextNewCell, fills, empties, has_cells, NextNewEntry, writes_idle, has_entries, NextBefore, is_first, is_behind}
+use Rattle.kw_core.proofs.Pinning.{NextPinLook, sees_pin, sees_pin_last, sees_no_pin, sees_no_pin_last}
 use Rattle.kw_shape.specs.Balances.{claiming}
 use Rattle.kw_shape.specs.ReachedRows.{IsReached}
 use Rattle.kw_shape.specs.RowsIn.{rows_in, state_seen}
@@ -88,6 +89,12 @@ module _ (v : Words) (g : Ledger) where
   taken_fair : (a : Activity) (r : ℕ) (m k : Local) → IsBalancing a → IsLive g m.row → NextTaken r m k → StaysFair v g a k
   taken_fair a r m k at f (wants_more x h w) = seek_fair a r m k at f w
   taken_fair a r m k at f (has_enough h) = inr f
+
+  pin_look_fair : (z : Sizes) (i w : ℕ) (m k : Local) → IsLive g m.row → NextPinLook z i w m k → IsFair v g k.activity k
+  pin_look_fair z i w m k f (sees_pin version e h) = f
+  pin_look_fair z i w m k f (sees_pin_last version e h) = f
+  pin_look_fair z i w m k f (sees_no_pin e h) = f
+  pin_look_fair z i w m k f (sees_no_pin_last e h) = f
 
   row_fair : (m k : Local) → IsLive g m.row → NextNewRow m k → IsFair v g k.activity k
   row_fair m k f (writes_row h) = f
@@ -197,12 +204,15 @@ module _ (z : Sizes) (r r' : Run) (s : ℕ) (choice : Choice) (l : Local) where
   fair_stays a l' (begins call c b) h i x f = absurd f
   fair_stays a l' (enters e) h i x f = absurd f
   fair_stays a l' (enters_scan e) h i x f = absurd f
+  fair_stays a l' (asks_of_pin next o n) h i x f = absurd f
   fair_stays a l' (is_spent o) h i x f = absurd f
   fair_stays a l' (waits o) h i x f = absurd f
   fair_stays a l' stores_waiting h i x f = absurd f
   fair_stays a l' draws h i x f = absurd f
   fair_stays a l' (settles_empty e) h i x f = absurd f
   fair_stays a l' (settles e) h i x f = absurd f
+  fair_stays a l' (settles_pin e) h i x f = absurd f
+  fair_stays a l' stores_pin h i x f = absurd f
   fair_stays a l' retries h i x f = absurd f
   fair_stays a l' enters_again h i x f = absurd f
   fair_stays a l' starts_at_head h i x f = absurd f
@@ -242,6 +252,7 @@ module _ (z : Sizes) (r r' : Run) (s : ℕ) (choice : Choice) (l : Local) where
   fair_stays a l' (left_over_gone_by k e n) h i x f = inr (left_over_fair v' g' l l' n)
   fair_stays a l' (gathers_left_over k n) h i x f = inr (left_over_fair v' g' _ l' n)
   fair_stays a l' (clears_scan answer) h i x f = inr tt
+  fair_stays a l' clears_pin h i x f = inr tt
   fair_stays a l' clears h i x f = inr tt
   fair_stays a l' (leaves answer) h i x f = inl (ends answer)
   fair_stays a l' (clock_is_spent o t) h i x f = inr tt
@@ -277,6 +288,7 @@ module _ (z : Sizes) (r r' : Run) (s : ℕ) (choice : Choice) (l : Local) where
   fair_stays a l' (freezes_last j k e o n) h i x f = inr (frozen_fair v' g' l l' (live_stays a h i tt l.row f) n)
   fair_stays a l' (takes_no_more k e m n) h i x f = inr (gathered_fair v' g' z l l' (live_stays a h i tt l.row f) n)
   fair_stays a l' (keeps_no_more k m n) h i x f = inr (gathered_fair v' g' z _ l' (live_stays a h i tt l.row f) n)
+  fair_stays a l' (looks_at_pin j k n) h i x f = inr (pin_look_fair v' g' z _ _ l k (live_stays a h i tt l.row f) n)
   fair_stays a l' _ h i x f = inr (live_stays a h i tt l.row f)
 
   -- and from the beginning of a walk it is fair

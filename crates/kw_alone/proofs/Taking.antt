@@ -8,10 +8,11 @@ use Rattle.kw_world.specs.declared.rebalance.Afterwards.TheVariants.{TryAgain, R
 use Rattle.kw_world.specs.SeekTransitions.{seeking, with_row}
 use Rattle.kw_world.specs.Sizes.{Sizes}
 use Rattle.kw_core.specs.Words.{Words}
-use Rattle.kw_core.proofs.Arrows.{Arrow, NextLook, looks, lists, NextLeftOver, goes_to_left_over, answers, ends_scan, scans_on, builds, sees_stamped, sees_neither, is_gone_by, helps, finds_stamped, finds_other, first_ends, list_ends, key_above, left_over_gone_by, gathers_left_over, marks_led, decides, remembers_last, sees_frozen_last, freezes_last, takes_no_more, keeps_no_more}
+use Rattle.kw_core.proofs.Arrows.{Arrow, NextLook, looks, lists, NextLeftOver, goes_to_left_over, answers, ends_scan, scans_on, builds, sees_stamped, sees_neither, is_gone_by, helps, finds_stamped, finds_other, first_ends, list_ends, key_above, left_over_gone_by, gathers_left_over, marks_led, decides, remembers_last, sees_frozen_last, freezes_last, takes_no_more, keeps_no_more, asks_of_pin, looks_at_pin}
 use Rattle.kw_core.proofs.Building.{Building, first_is_free, first_is_taken, sought_is_free, sought_is_taken, first_is_retired, sought_is_retired, pass_is_old, pass_is_young, frees_row, takes_row, loses_row, gives_one_back, gives_last_back, writes_first, writes_entry, writes_no_cell, writes_after, begins_before, takes_head_before, leads_on_marked, leads_nowhere, walks_past, is_marked_before, is_replaced, makes_last_normal, draws_number, retires_ahead, retires_row, retires_and_leaves}
 use Rattle.kw_core.proofs.Grouping.{NextCounted, claims_row, goes_alone, NextFrozen, freezes_ahead, froze_all, NextGathered, gathers_ahead, gathered_all}
 use Rattle.kw_core.proofs.NextBuilt.{GivenBack, tries_again, was_done, is_refused_rows, was_served, moves_left, NextBack, gives_back, has_none, NextSeek, asks, has_asked, NextPass, looks_on, has_looked, NextTaken, wants_more, has_enough, NextNewRow, writes_row, has_written, NextNewCell, fills, empties, has_cells, NextNewEntry, writes_idle, has_entries, NextBefore, is_first, is_behind}
+use Rattle.kw_core.proofs.Pinning.{NextOfPin, NextPinLook, pins, is_held, reads_no_pin, reads_no_key, reads_at_pin, unpins, unpins_none, sees_pin, sees_pin_last, sees_no_pin, sees_no_pin_last}
 use Rattle.kw_alone.specs.Known.{Taken}
 use Rattle.kw_alone.proofs.Counting.{one_taken}
 
@@ -80,6 +81,21 @@ frozen_taken : (m next : Local) → NextFrozen m next → length m.rebalance.tak
 frozen_taken m next (freezes_ahead r e) h = record { most = h; fewer = λ x. absurd x; some = λ x. absurd x }
 frozen_taken m next (froze_all e) h = record { most = h; fewer = λ x. absurd x; some = λ x. absurd x }
 
+of_pin_taken : (m next : Local) → NextOfPin m next → length m.rebalance.taken ≤ m.rebalance.asked → Taken next.activity next
+of_pin_taken m next (pins e f) h = record { most = h; fewer = λ x. absurd x; some = λ x. absurd x }
+of_pin_taken m next (is_held version e f) h = record { most = h; fewer = λ x. absurd x; some = λ x. absurd x }
+of_pin_taken m next (reads_no_pin from upto e f) h = record { most = h; fewer = λ x. absurd x; some = λ x. absurd x }
+of_pin_taken m next (reads_no_key from upto version e f g) h = record { most = h; fewer = λ x. absurd x; some = λ x. absurd x }
+of_pin_taken m next (reads_at_pin from upto version e f g) h = record { most = h; fewer = λ x. absurd x; some = λ x. absurd x }
+of_pin_taken m next (unpins version e f) h = record { most = h; fewer = λ x. absurd x; some = λ x. absurd x }
+of_pin_taken m next (unpins_none e f) h = record { most = h; fewer = λ x. absurd x; some = λ x. absurd x }
+
+pin_look_taken : (z : Sizes) (i w : ℕ) (m next : Local) → NextPinLook z i w m next → length m.rebalance.taken ≤ m.rebalance.asked → Taken next.activity next
+pin_look_taken z i w m next (sees_pin version e f) h = record { most = h; fewer = λ x. absurd x; some = λ x. absurd x }
+pin_look_taken z i w m next (sees_pin_last version e f) h = record { most = h; fewer = λ x. absurd x; some = λ x. absurd x }
+pin_look_taken z i w m next (sees_no_pin e f) h = record { most = h; fewer = λ x. absurd x; some = λ x. absurd x }
+pin_look_taken z i w m next (sees_no_pin_last e f) h = record { most = h; fewer = λ x. absurd x; some = λ x. absurd x }
+
 gathered_taken : (z : Sizes) (m next : Local) → NextGathered z m next → length m.rebalance.taken ≤ m.rebalance.asked → Taken next.activity next
 gathered_taken z m next (gathers_ahead r e) h = record { most = h; fewer = λ x. absurd x; some = λ x. absurd x }
 gathered_taken z m next (gathered_all e) h = record { most = omega arith; fewer = λ x. omega arith; some = λ x. absurd x }
@@ -139,4 +155,6 @@ module _ (z : Sizes) (v : Words) (choice : Choice) where
   arrow_taken s a l next (freezes_last i k e o n) h = frozen_taken l k n h.most
   arrow_taken s a l next (takes_no_more k e m n) h = gathered_taken z l k n h.most
   arrow_taken s a l next (keeps_no_more k m n) h = gathered_taken z _ k n h.most
+  arrow_taken s a l next (asks_of_pin k o n) h = of_pin_taken l k n h.most
+  arrow_taken s a l next (looks_at_pin i k n) h = pin_look_taken z i _ l k n h.most
   arrow_taken s a l next _ h = record { most = omega (arith, h.most); fewer = λ x. absurd x; some = λ x. absurd x }

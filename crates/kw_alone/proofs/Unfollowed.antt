@@ -21,7 +21,7 @@ use Rattle.kw_world.specs.Transition.{row_or_first}
 use Rattle.kw_core.specs.Run.{Run}
 use Rattle.kw_core.specs.Stages.{IsBalancing}
 use Rattle.kw_core.specs.Words.{Words}
-use Rattle.kw_core.proofs.Arrows.{Arrow, NextLook, looks, lists, NextLeftOver, goes_to_left_over, answers, ends_scan, scans_on, builds, begins, enters, settles, stops, sees_stamped, sees_neither, is_gone_by, helps, finds_stamped, finds_other, first_ends, list_ends, key_above, left_over_gone_by, gathers_left_over, finds_full, takes_full, announces_full, stamps_full, clears, tidies, leaves, clock_is_spent, ends_at_clock, clock_serves, epoch_is_spent, ends_at_epoch, epoch_serves, finds_infant, finds_normal, finds_leader, finds_follower, finds_other_state, ends_at_state, normalises, engages, is_engaged, marks_led, decides, begins_left, takes_leader, reaches_leader, head_follows, ends_at_head, none_is_left, ends_at_none, passes_left, ends_past, remembers_last, sees_frozen_last, freezes_last, takes_no_more, keeps_no_more}
+use Rattle.kw_core.proofs.Arrows.{Arrow, NextLook, looks, lists, NextLeftOver, goes_to_left_over, answers, ends_scan, scans_on, builds, begins, enters, settles, stops, sees_stamped, sees_neither, is_gone_by, helps, finds_stamped, finds_other, first_ends, list_ends, key_above, left_over_gone_by, gathers_left_over, finds_full, takes_full, announces_full, stamps_full, clears, tidies, leaves, clock_is_spent, ends_at_clock, clock_serves, epoch_is_spent, ends_at_epoch, epoch_serves, finds_infant, finds_normal, finds_leader, finds_follower, finds_other_state, ends_at_state, normalises, engages, is_engaged, marks_led, decides, begins_left, takes_leader, reaches_leader, head_follows, ends_at_head, none_is_left, ends_at_none, passes_left, ends_past, remembers_last, sees_frozen_last, freezes_last, takes_no_more, keeps_no_more, asks_of_pin, looks_at_pin}
 use Rattle.kw_core.proofs.Building.{IsBuilding}
 use Rattle.kw_core.proofs.BuiltNext.{IsAfterBuilding, built_next}
 use Rattle.kw_core.proofs.Grouping.{counted_leads, frozen_leads, gathered_leads}
@@ -33,6 +33,7 @@ use Rattle.kw_alone.specs.Clean.{FollowsNone, KnowsLeader}
 use Rattle.kw_alone.specs.Known.{HaveLeaders}
 use Rattle.kw_alone.specs.Marks.{IsMark, ends, moves}
 use Rattle.kw_alone.proofs.Clearing.{IsLeftStart}
+use Rattle.kw_puts.proofs.BuiltStages.{of_pin_is, pin_look_is}
 
 -- new rows are taken, written and linked in a rebalance
 building_balances : (a : Activity) → IsBuilding a → IsBalancing a
@@ -100,6 +101,8 @@ module _ (z : Sizes) (r r' : Run) (s : ℕ) (choice : Choice) (l : Local) where
   knows_leader a k (freezes_last j m e o n) h i f = frozen_leads (λ b. (x : Local) → KnowsLeader v' b x) (λ x. tt) (λ x. tt) _ k n k
   knows_leader a k (takes_no_more m e x n) h i f = gathered_leads (λ b. (x : Local) → KnowsLeader v' b x) (λ x. tt) (λ x. tt) z _ k n k
   knows_leader a k (keeps_no_more m x n) h i f = gathered_leads (λ b. (x : Local) → KnowsLeader v' b x) (λ x. tt) (λ x. tt) z _ k n k
+  knows_leader a k (asks_of_pin m o n) h i f = of_pin_is (λ b. KnowsLeader v' b m) tt tt tt tt tt tt n
+  knows_leader a k (looks_at_pin j m n) h i f = pin_look_is (λ b. KnowsLeader v' b m) (λ q. tt) tt n
   knows_leader a k _ h i f = tt
 
   -- the event is a mark, or the next walk begins, or the seat still goes left of none
@@ -161,6 +164,8 @@ module _ (z : Sizes) (r r' : Run) (s : ℕ) (choice : Choice) (l : Local) where
   follows_on a k (freezes_last j m e o n) h f = inr (inr (frozen_leads (λ b. (x : Local) → FollowsNone v' b x) (λ x. tt) (λ x. tt) _ k n k))
   follows_on a k (takes_no_more m e x n) h f = inr (inr (gathered_leads (λ b. (x : Local) → FollowsNone v' b x) (λ x. tt) (λ x. tt) z _ k n k))
   follows_on a k (keeps_no_more m x n) h f = inr (inr (gathered_leads (λ b. (x : Local) → FollowsNone v' b x) (λ x. tt) (λ x. tt) z _ k n k))
+  follows_on a k (asks_of_pin m o n) h f = of_pin_is (λ b. IsMark a b ⊎ (b ≡ Activity.Walk Walk.Start) ⊎ FollowsNone v' b m) (inr (inr tt)) (inr (inr tt)) (inr (inr tt)) (inr (inr tt)) (inr (inl refl)) (inr (inr tt)) n
+  follows_on a k (looks_at_pin j m n) h f = pin_look_is (λ b. IsMark a b ⊎ (b ≡ Activity.Walk Walk.Start) ⊎ FollowsNone v' b m) (λ q. (inr (inr tt))) (inr (inr tt)) n
   follows_on a k _ h f = inr (inr f)
 
   -- the way to the leader of a follower begins by a load, with a guess or without one

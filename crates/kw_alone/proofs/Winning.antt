@@ -7,7 +7,7 @@ use Rattle.kw_words.proofs.LinkWords.{link_word_of}
 use Rattle.kw_lists.specs.Counts.{count_below}
 use Rattle.kw_lists.proofs.Counting.{count_gains}
 use Rattle.kw_model.specs.declared.call.Call.{Call}
-use Rattle.kw_model.specs.declared.call.Call.TheVariants.{Put, Del, Get, Scan}
+use Rattle.kw_model.specs.declared.call.Call.TheVariants.{Put, Del, Get, Scan, Pin, ScanAt, Unpin}
 use Rattle.kw_rows.specs.Group.{Group}
 use Rattle.kw_rows.specs.Ledger.{Fate, Ledger, IsLive}
 use Rattle.kw_rows.specs.Ledger as fate
@@ -54,6 +54,9 @@ put_test (Some (Put key value)) x = refl
 put_test (Some (Del key)) x = refl
 put_test (Some (Get key)) x = absurd x
 put_test (Some (Scan from upto)) x = absurd x
+put_test (Some Pin) x = absurd x
+put_test (Some (ScanAt from upto)) x = absurd x
+put_test (Some Unpin) x = absurd x
 put_test None x = absurd x
 
 -- the group that a live row leads is decided

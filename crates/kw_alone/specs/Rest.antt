@@ -98,6 +98,7 @@ draw_rest Draw.Clock = 6
 draw_rest Draw.Wait = 5
 draw_rest Draw.Version = 4
 draw_rest Draw.Settle = 3
+draw_rest Draw.Pin = 2
 
 abbrev pub walk_rest : Sizes → ℕ → Words → Walk → Local → ℕ
 walk_rest z rows v Walk.Start l = start_price z rows + 2
@@ -173,6 +174,7 @@ freeze_rest z rows v (Freeze.Entry i) l = ahead_price z l.rebalance.ahead + 2 * 
 freeze_rest z rows v (Freeze.Scan i) l = 3 * (z.seats - i) + take_price z rows
 freeze_rest z rows v (Freeze.Draw i) l = 3 * (z.seats - (i + 1)) + 2 + take_price z rows
 freeze_rest z rows v (Freeze.Settle i) l = 3 * (z.seats - (i + 1)) + 1 + take_price z rows
+freeze_rest z rows v (Freeze.Pin i) l = (z.seats - i) + take_price z rows
 
 -- how many places are left to be gathered, each with four events
 abbrev pub places_price : Sizes → Rebalancing → ℕ
@@ -226,7 +228,7 @@ rebalance_rest z rows v (Rebalance.Seek a) l = seek_rest z rows a l
 rebalance_rest z rows v (Rebalance.Write a) l = write_rest z rows a l
 rebalance_rest z rows v (Rebalance.Replace a) l = replace_rest rows v a l
 
--- the rest, by activity
+-- the rest, by activity: none is left at the end of a call, whose event is a mark
 abbrev pub rest : Sizes → ℕ → Words → Activity → Local → ℕ
 rest z rows v Activity.Idle l = 8
 rest z rows v (Activity.Enter a) l = enter_rest a
@@ -234,9 +236,10 @@ rest z rows v (Activity.Draw a) l = draw_rest a
 rest z rows v (Activity.Walk a) l = walk_rest z rows v a l
 rest z rows v (Activity.Look a) l = look_rest z rows v a l
 rest z rows v (Activity.Read a) l = read_rest z rows v a l
-rest z rows v (Activity.EndScan answer) l = 2
+rest z rows v (Activity.EndScan answer) l = 1
+rest z rows v Activity.ClearPin l = 1
 rest z rows v (Activity.Put a) l = put_rest z rows a
 rest z rows v (Activity.Insert a) l = insert_rest z rows v a l
 rest z rows v (Activity.Rebalance a) l = rebalance_rest z rows v a l
 rest z rows v Activity.Retry l = retry_price
-rest z rows v (Activity.Leave answer) l = 1
+rest z rows v (Activity.Leave answer) l = 0

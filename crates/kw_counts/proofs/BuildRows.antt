@@ -26,8 +26,8 @@ use Rattle.kw_shape.proofs.Planned.{IsPlan, plan_of}
 use Rattle.kw_reads.proofs.Keeps.{inv_holds}
 use Rattle.kw_counts.specs.Builds.{IsMostOfBuild, KeepsBuilds}
 
--- a seat that has its plan has looked at all scans
-planned_needs : (z : Sizes) (a : Activity) → IsPlanned (nursing_of a) → needed_by z a ≡ z.seats
+-- a seat that has its plan has looked at all scans, and may need as many pins
+planned_needs : (z : Sizes) (a : Activity) → IsPlanned (nursing_of a) → needed_by z a ≡ 2 * z.seats
 planned_needs z (Activity.Rebalance (Rebalance.Freeze f)) x = absurd x
 planned_needs z _ x = refl
 
@@ -39,7 +39,7 @@ module _ (z : Sizes) (r : Run) (i : Shape z r) (t : ℕ) (l : Local) (g : slice_
   plans : Plans z l.activity l
   plans = i.plans t l g
 
-  needed : length l.rebalance.needed ≤ z.seats
+  needed : length l.rebalance.needed ≤ 2 * z.seats
   needed = omega (arith, known.room.rebalance.needed, planned_needs z l.activity x)
 
   plan : IsPlan z.built l

@@ -10,7 +10,7 @@ use Rattle.kw_words.specs.Count.{count_of}
 use Rattle.kw_rows.specs.Ledger.{Fate, IsLive}
 use Rattle.kw_rows.proofs.Named.{one_row}
 use Rattle.kw_model.specs.declared.call.Call.{Call}
-use Rattle.kw_model.specs.declared.call.Call.TheVariants.{Del, Get, Put, Scan}
+use Rattle.kw_model.specs.declared.call.Call.TheVariants.{Del, Get, Put, Scan, Pin, ScanAt, Unpin}
 use Rattle.kw_model.specs.declared.call.Reply.{Reply}
 use Rattle.kw_world.specs.declared.activity.Activity.{Activity}
 use Rattle.kw_world.specs.declared.answer.Answer.{Answer}
@@ -70,6 +70,9 @@ makes_key (Put k v) key value m = sym m.0
 makes_key (Del k) key value m = sym m.0
 makes_key (Get k) key value m = absurd m
 makes_key (Scan from upto) key value m = absurd m
+makes_key Pin key value m = absurd m
+makes_key (ScanAt from upto) key value m = absurd m
+makes_key Unpin key value m = absurd m
 
 -- a put or a delete is done, or it is refused
 data Leaves (call : Call) (answer : Answer) (r : Reply) : Type 0 where
@@ -90,6 +93,9 @@ leaves_put c call answer pairs e p k = by call (subst IsPutCall e p) answer (sub
     by (Del key) q _ j = absurd j
     by (Get key) q b j = absurd q
     by (Scan from upto) q b j = absurd q
+    by Pin q b j = absurd q
+    by (ScanAt from upto) q b j = absurd q
+    by Unpin q b j = absurd q
 
 -- a row that has room has not given all its cells
 room_given : (z : Sizes) (c : Option Count) → has_room z c ≡ true → given_of c < z.cells

@@ -10,12 +10,12 @@ use Rattle.kw_world.specs.declared.event.Choice.{Choice}
 use Rattle.kw_world.specs.declared.local.Local.{Local}
 use Rattle.kw_world.specs.Sizes.{Sizes}
 use Rattle.kw_core.specs.Words.{Words}
-use Rattle.kw_core.proofs.Arrows.{Arrow, NextLook, looks, lists, NextLeftOver, goes_to_left_over, answers, ends_scan, scans_on, sees_stamped, sees_neither, is_gone_by, helps, finds_stamped, finds_other, first_ends, list_ends, key_above, left_over_gone_by, gathers_left_over, helps_scan, draws_for, builds}
+use Rattle.kw_core.proofs.Arrows.{Arrow, NextLook, looks, lists, NextLeftOver, goes_to_left_over, answers, ends_scan, scans_on, sees_stamped, sees_neither, is_gone_by, helps, finds_stamped, finds_other, first_ends, list_ends, key_above, left_over_gone_by, gathers_left_over, helps_scan, draws_for, builds, asks_of_pin, looks_at_pin}
 use Rattle.kw_core.proofs.Arrows.{freezes_last, keeps_no_more, remembers_last, sees_frozen_last, takes_no_more, marks_led, decides}
 use Rattle.kw_core.proofs.BuiltNext.{built_next}
 use Rattle.kw_core.proofs.Grouping.{counted_leads, frozen_leads, gathered_leads}
 use Rattle.kw_puts.specs.Positions.{HelpsScan}
-use Rattle.kw_puts.proofs.BuiltStages.{after_helps}
+use Rattle.kw_puts.proofs.BuiltStages.{after_helps, of_pin_is, pin_look_is}
 
 -- the activities by which a seat helps the scan of seat i
 abbrev pub looking : ℕ → Activity
@@ -64,4 +64,6 @@ helps_now z v s choice l a k i (takes_no_more next e none n) x = absurd (gathere
 helps_now z v s choice l a k i (keeps_no_more next none n) x = absurd (gathered_leads (λ b. HelpsScan i b → ⊥) (λ y. y) (λ y. y) z _ next n x)
 helps_now z v s choice l a k i (marks_led count next d n) x = absurd (counted_leads (λ b. HelpsScan i b → ⊥) (λ y. y) (λ y. y) _ _ next n x)
 helps_now z v s choice l a k i (decides count m next e n) x = absurd (counted_leads (λ b. HelpsScan i b → ⊥) (λ y. y) (λ y. y) _ _ next n x)
+helps_now z v s choice l a k i (asks_of_pin next o n) x = absurd (of_pin_is (λ b. HelpsScan i b → ⊥) (λ y. y) (λ y. y) (λ y. y) (λ y. y) (λ y. y) (λ y. y) n x)
+helps_now z v s choice l a k i (looks_at_pin j next n) x = absurd (pin_look_is (λ b. HelpsScan i b → ⊥) (λ q y. y) (λ y. y) n x)
 helps_now z v s choice l a k i _ x = absurd x

@@ -4,7 +4,7 @@ use Rattle.std.proofs.Common.{ℕ, ◌≡◌, ◌≢◌, ◌⊎◌, inl, inr, �
 use Rattle.std.proofs.lemmas.Bool.{cases_eq}
 use Rattle.kw_words.specs.declared.layout.Name.TheVariants as name
 use Rattle.kw_model.specs.declared.call.Call.{Call}
-use Rattle.kw_model.specs.declared.call.Call.TheVariants.{Del, Get, Put, Scan}
+use Rattle.kw_model.specs.declared.call.Call.TheVariants.{Del, Get, Put, Scan, Pin, ScanAt, Unpin}
 use Rattle.kw_model.specs.declared.call.Reply.{Reply}
 use Rattle.kw_world.specs.declared.activity.Activity.{Activity}
 use Rattle.kw_world.specs.declared.activity.draw.Draw.TheVariants as Draw
@@ -40,7 +40,7 @@ use Rattle.kw_counts.proofs.Updates.{at_left, at_set}
 
 -- What is kept.
 
--- 1 for a call that is a scan
+-- 1 for a call that waits to draw
 abbrev scans_of : Option Call → ℕ
 scans_of (Some call) = scan_one call
 scans_of None = 0
@@ -75,6 +75,9 @@ is_scan_one (Some (Scan from upto)) x = refl
 is_scan_one (Some (Put key value)) x = absurd x
 is_scan_one (Some (Del key)) x = absurd x
 is_scan_one (Some (Get key)) x = absurd x
+is_scan_one (Some Pin) x = refl
+is_scan_one (Some (ScanAt from upto)) x = absurd x
+is_scan_one (Some Unpin) x = absurd x
 is_scan_one None x = absurd x
 
 put_is_none : (c : Option Call) → IsPutCall c → scans_of c ≡ 0
@@ -82,6 +85,9 @@ put_is_none (Some (Put key value)) x = refl
 put_is_none (Some (Del key)) x = refl
 put_is_none (Some (Get key)) x = absurd x
 put_is_none (Some (Scan from upto)) x = absurd x
+put_is_none (Some Pin) x = absurd x
+put_is_none (Some (ScanAt from upto)) x = refl
+put_is_none (Some Unpin) x = refl
 put_is_none None x = absurd x
 
 -- Where the seat has yet to wait.

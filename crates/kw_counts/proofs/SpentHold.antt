@@ -8,7 +8,7 @@ use Rattle.kw_words.specs.declared.layout.Name.TheVariants as name
 use Rattle.kw_words.specs.declared.sizes.TheConstants.{MOST_GROUP}
 use Rattle.kw_windows.proofs.Summing.{sum_grows}
 use Rattle.kw_model.specs.declared.call.Call.{Call}
-use Rattle.kw_model.specs.declared.call.Call.TheVariants.{Del, Put, Scan}
+use Rattle.kw_model.specs.declared.call.Call.TheVariants.{Del, Put, Scan, Pin}
 use Rattle.kw_world.specs.declared.activity.Activity.{Activity}
 use Rattle.kw_world.specs.declared.activity.draw.Draw.TheVariants as Draw
 use Rattle.kw_world.specs.declared.activity.rebalance.engage.Engage.TheVariants as Engage
@@ -79,6 +79,7 @@ wins_front z o xs ys = omega (arith, ap (λ (c : Counts). c.wins) (counted-appen
 -- a scan asks the clock alone, and any other call the clock or the epoch
 asks_what : (call : Call) (a : Activity) (op : Operation) → IsAsking call a op → (op.name ≡ name.Clock) ⊎ ((op.name ≡ name.Epoch) × (IsScan call → ⊥))
 asks_what (Scan from upto) (Activity.Draw Draw.Clock) op e = inl (ap (λ (q : Operation). q.name) e)
+asks_what Pin (Activity.Draw Draw.Clock) op e = inl (ap (λ (q : Operation). q.name) e)
 asks_what (Put key value) (Activity.Rebalance (Rebalance.Engage Engage.Clock)) op e = inl (ap (λ (q : Operation). q.name) e)
 asks_what (Put key value) (Activity.Rebalance (Rebalance.Engage Engage.Epoch)) op e = inr (ap (λ (q : Operation). q.name) e, λ y. y)
 asks_what (Del key) (Activity.Rebalance (Rebalance.Engage Engage.Clock)) op e = inl (ap (λ (q : Operation). q.name) e)

@@ -5,7 +5,7 @@ use Rattle.std.proofs.lemmas.Bool.{cases_eq}
 use Rattle.kw_windows.specs.Sums.{sum_below}
 use Rattle.kw_windows.proofs.Summing.{sum_grows, sum_one_changed}
 use Rattle.kw_model.specs.declared.call.Call.{Call}
-use Rattle.kw_model.specs.declared.call.Call.TheVariants.{Del, Get, Put, Scan}
+use Rattle.kw_model.specs.declared.call.Call.TheVariants.{Del, Get, Put, Scan, Pin, ScanAt, Unpin}
 use Rattle.kw_world.specs.declared.event.Event.{Event}
 use Rattle.kw_world.specs.declared.opening.Opening.{Opening}
 use Rattle.kw_world.specs.Sizes.{Sizes}
@@ -49,6 +49,9 @@ makes_update (Put k v) key value m = refl
 makes_update (Del k) key value m = refl
 makes_update (Get k) key value m = absurd m
 makes_update (Scan from upto) key value m = absurd m
+makes_update Pin key value m = absurd m
+makes_update (ScanAt from upto) key value m = absurd m
+makes_update Unpin key value m = absurd m
 
 updates_of : (z : Sizes) (r : Run) → Inv z r → (x p : ℕ) → (called r.history x).put ≡ Some p → IsUpdateOf z.seats (called r.history x)
 updates_of z r v x p e =

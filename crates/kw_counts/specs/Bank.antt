@@ -5,7 +5,7 @@ use Rattle.std.specs.Prelude.{ℕ, ◌≡◌, ◌+◌, ◌*◌, ◌≤◌, true,
 use Rattle.kw_lists.specs.Counts.{count_below}
 use Rattle.kw_windows.specs.Sums.{sum_below}
 use Rattle.kw_model.specs.declared.call.Call.{Call}
-use Rattle.kw_model.specs.declared.call.Call.TheVariants.{Del, Get, Put, Scan}
+use Rattle.kw_model.specs.declared.call.Call.TheVariants.{Del, Get, Put, Scan, Pin, ScanAt, Unpin}
 use Rattle.kw_world.specs.declared.event.Event.{Event}
 use Rattle.kw_world.specs.declared.opening.Opening.{Opening}
 use Rattle.kw_world.specs.Sizes.{Sizes}
@@ -36,6 +36,9 @@ update_one (Put key value) = 1
 update_one (Del key) = 1
 update_one (Get key) = 0
 update_one (Scan from upto) = 0
+update_one Pin = 0
+update_one (ScanAt from upto) = 0
+update_one Unpin = 0
 
 -- how many of these calls are
 abbrev pub updates_in : List CallSeen → ℕ

@@ -4,7 +4,7 @@ use Rattle.std.specs.Prelude.{ℕ, ◌≡◌, ◌+◌, ◌*◌, ◌≤◌, List,
 use Rattle.kw_words.specs.declared.layout.Name.TheVariants as name
 use Rattle.kw_windows.specs.Sums.{sum_below}
 use Rattle.kw_model.specs.declared.call.Call.{Call}
-use Rattle.kw_model.specs.declared.call.Call.TheVariants.{Del, Get, Put, Scan}
+use Rattle.kw_model.specs.declared.call.Call.TheVariants.{Del, Get, Put, Scan, Pin, ScanAt, Unpin}
 use Rattle.kw_world.specs.declared.event.Event.{Event}
 use Rattle.kw_world.specs.declared.opening.Opening.{Opening}
 use Rattle.kw_world.specs.Sizes.{Sizes}
@@ -36,19 +36,22 @@ pub record KeepsDraws (z : Sizes) (o : Opening) (w : WorldView) (d : Draws) : Ty
 
 -- Scans.
 
--- 1 for a scan
+-- 1 for a call that waits to draw: a scan, or a pin
 abbrev pub scan_one : Call → ℕ
 scan_one (Put key value) = 0
 scan_one (Del key) = 0
 scan_one (Get key) = 0
 scan_one (Scan from upto) = 1
+scan_one Pin = 1
+scan_one (ScanAt from upto) = 0
+scan_one Unpin = 0
 
--- how many of these calls are scans
+-- how many of these calls are
 abbrev pub scans_in : List CallSeen → ℕ
 scans_in [] = 0
 scans_in (c ∷ cs) = scan_one c.call + scans_in cs
 
--- how many scans one seat has begun, and all seats
+-- how many scans and pins one seat has begun, and all seats
 abbrev pub scans_by : Sizes → Opening → List Event → ℕ → ℕ
 scans_by z o es t = scans_in (calls_seen z o t es)
 

@@ -1,6 +1,6 @@
 -- Every event keeps where copies stand: a new row is written with no more cells than a row is built
 -- with, and a copy of any other row was one before.
-use Rattle.std.proofs.Common.{ℕ, ◌≡◌, ◌⊎◌, inl, inr, ◌-◌, ◌<◌, ◌≤◌, None, Some, arith, refl, sym, ◌∙◌, ap, drop, length, slice_get, slice_index, subst}
+use Rattle.std.proofs.Common.{ℕ, ◌≡◌, ◌⊎◌, inl, inr, ◌-◌, ◌*◌, ◌<◌, ◌≤◌, None, Some, arith, refl, sym, ◌∙◌, ap, drop, length, slice_get, slice_index, subst}
 use Rattle.std.proofs.lemmas.Bool.{cases_lt}
 use Rattle.std.proofs.lemmas.List.{length-take}
 use Rattle.std.proofs.lemmas.Option.{slice_get_within}
@@ -55,7 +55,7 @@ module _ {z : Sizes} {r r' : Run} {s : ℕ} {choice : Choice} {l l' : Local} (h 
   plan : IsPlan z.built l
   plan = plan_of z (Activity.Rebalance (Rebalance.Replace Replace.Exchange)) l plans tt i.built needed
     where
-      needed : length l.rebalance.needed ≤ z.seats
+      needed : length l.rebalance.needed ≤ 2 * z.seats
       needed = omega (arith, rw h.activity at known.room.rebalance.needed)
 
   -- it is one of those that are planned, so it has no more cells than a row is built with

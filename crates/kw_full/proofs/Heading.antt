@@ -26,12 +26,14 @@ use Rattle.kw_world.specs.Sizes.{Sizes}
 use Rattle.kw_world.specs.Transition.{row_or_first}
 use Rattle.kw_core.specs.Stages.{IsBalancing}
 use Rattle.kw_core.specs.Words.{Words, next_in}
-use Rattle.kw_core.proofs.Arrows.{Arrow, IsNotOwn, NextLeftOver, NextLook, announces_full, answers, builds, clock_serves, decides, ends_scan, epoch_serves, finds_follower, finds_full, finds_infant, finds_normal, finds_other, finds_stamped, first_ends, freezes_last, gathers_left_over, goes_to_left_over, helps, is_engaged, is_gone_by, keeps_no_more, key_above, left_over_gone_by, list_ends, lists, looks, marks_led, normalises, reaches_leader, remembers_last, scans_on, sees_frozen_last, sees_neither, sees_stamped, stamps_full, takes_full, takes_leader, takes_no_more, tidies}
+use Rattle.kw_core.proofs.Arrows.{Arrow, IsNotOwn, NextLeftOver, NextLook, announces_full, answers, builds, clock_serves, decides, ends_scan, epoch_serves, finds_follower, finds_full, finds_infant, finds_normal, finds_other, finds_stamped, first_ends, freezes_last, gathers_left_over, goes_to_left_over, helps, is_engaged, is_gone_by, keeps_no_more, key_above, left_over_gone_by, list_ends, lists, looks, marks_led, normalises, reaches_leader, remembers_last, scans_on, sees_frozen_last, sees_neither, sees_stamped, stamps_full, takes_full, takes_leader, takes_no_more, tidies, asks_of_pin, looks_at_pin}
 use Rattle.kw_core.proofs.Building.{Building, begins_before, first_is_taken, gives_last_back, gives_one_back, is_marked_before, is_replaced, leads_nowhere, leads_on_marked, loses_row, marked_link, pass_is_old, pass_is_young, sought_is_taken, takes_head_before, takes_row, walks_past, writes_after, writes_entry, writes_first, writes_no_cell}
 use Rattle.kw_core.proofs.Grouping.{NextCounted, NextFrozen, NextGathered, claims_row, freezes_ahead, froze_all, gathered_all, gathers_ahead, goes_alone}
 use Rattle.kw_core.proofs.NextBuilt.{GivenBack, NextBack, NextBefore, NextNewCell, NextNewEntry, NextNewRow, NextPass, NextSeek, NextTaken, asks, empties, fills, gives_back, has_asked, has_cells, has_enough, has_entries, has_looked, has_none, has_written, is_behind, is_first, is_refused_rows, looks_on, moves_left, tries_again, wants_more, was_done, was_served, writes_idle, writes_row}
+use Rattle.kw_core.proofs.Pinning.{NextOfPin, NextPinLook}
 use Rattle.kw_shape.specs.Search.{HasBefore, IsSearching}
 use Rattle.kw_full.specs.Full.{IsEngaging}
+use Rattle.kw_puts.proofs.BuiltStages.{of_pin_is, pin_look_is}
 
 -- Where a seat stands.
 
@@ -130,6 +132,12 @@ frozen_off l k (froze_all e) = (λ x. x, λ x. x)
 gathered_off : (z : Sizes) (l k : Local) → NextGathered z l k → IsOff k
 gathered_off z l k (gathers_ahead q e) = (λ x. x, λ x. x)
 gathered_off z l k (gathered_all e) = (λ x. x, λ x. x)
+
+of_pin_off : (l k : Local) → NextOfPin l k → IsOff k
+of_pin_off l k n = of_pin_is (λ b. (IsEngaging b → ⊥) × (IsMoving b k → ⊥)) (λ x. x, λ x. x) (λ x. x, λ x. x) (λ x. x, λ x. x) (λ x. x, λ x. x) (λ x. x, λ x. x) (λ x. x, λ x. x) n
+
+pin_look_off : (z : Sizes) (i w : ℕ) (l k : Local) → NextPinLook z i w l k → IsOff k
+pin_look_off z i w l k n = pin_look_is (λ b. (IsEngaging b → ⊥) × (IsMoving b k → ⊥)) (λ j. (λ x. x, λ x. x)) (λ x. x, λ x. x) n
 
 given_off : (c : Afterwards) (l k : Local) → (c ≡ MoveLeft → ⊥) → GivenBack l c k → IsOff k
 given_off c l k n (tries_again d) = (λ x. x, λ x. x)
@@ -264,4 +272,6 @@ module _ (z : Sizes) (v : Words) (s : ℕ) (l : Local) where
   heads choice a k (keeps_no_more next m n) = off a k (gathered_off z _ next n)
   heads choice a k (marks_led count next d n) = off a k (counted_off _ _ next n)
   heads choice a k (decides count m next e n) = off a k (counted_off _ _ next n)
+  heads choice a k (asks_of_pin next o n) = off a k (of_pin_off _ next n)
+  heads choice a k (looks_at_pin i next n) = off a k (pin_look_off z _ _ _ next n)
   heads choice a k _ = elsewhere (λ x. x) (λ x. x)

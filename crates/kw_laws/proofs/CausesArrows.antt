@@ -13,7 +13,7 @@ use Rattle.kw_words.specs.State.{state_of, state_word}
 use Rattle.kw_words.proofs.PlainWords.{IsCounted-number_of_word, number_word-number_of_word}
 use Rattle.kw_words.proofs.StateWords.{state_of-Free}
 use Rattle.kw_model.specs.declared.call.Call.{Call}
-use Rattle.kw_model.specs.declared.call.Call.TheVariants.{Put, Del, Get, Scan}
+use Rattle.kw_model.specs.declared.call.Call.TheVariants.{Put, Del, Get, Scan, Pin, ScanAt, Unpin}
 use Rattle.kw_world.specs.declared.activity.Activity.{Activity}
 use Rattle.kw_world.specs.declared.activity.draw.Draw.TheVariants as Draw
 use Rattle.kw_world.specs.declared.activity.rebalance.engage.Engage.TheVariants as Engage
@@ -47,7 +47,7 @@ use Rattle.kw_core.specs.Events.{event, world}
 use Rattle.kw_core.specs.Run.{Run}
 use Rattle.kw_core.specs.Stages.{IsBusy}
 use Rattle.kw_core.specs.Words.{Words}
-use Rattle.kw_core.proofs.Arrows.{Arrow, NextLook, looks, lists, NextLeftOver, goes_to_left_over, answers, ends_scan, scans_on, is_spent, sees_stamped, sees_neither, is_gone_by, helps, finds_stamped, finds_other, list_ends, key_above, left_over_gone_by, gathers_left_over, clears_scan, clock_is_spent, epoch_is_spent, remembers_last, sees_frozen_last, freezes_last, takes_no_more, keeps_no_more, builds, first_ends, marks_led, decides}
+use Rattle.kw_core.proofs.Arrows.{Arrow, NextLook, looks, lists, NextLeftOver, goes_to_left_over, answers, ends_scan, scans_on, is_spent, sees_stamped, sees_neither, is_gone_by, helps, finds_stamped, finds_other, list_ends, key_above, left_over_gone_by, gathers_left_over, clears_scan, clock_is_spent, epoch_is_spent, remembers_last, sees_frozen_last, freezes_last, takes_no_more, keeps_no_more, builds, first_ends, marks_led, decides, asks_of_pin, looks_at_pin}
 use Rattle.kw_core.proofs.Building.{Building, first_is_free, first_is_taken, first_is_retired, sought_is_free, sought_is_taken, sought_is_retired, pass_is_old, pass_is_young, frees_row, takes_row, loses_row, gives_one_back, gives_last_back, writes_first, writes_entry, writes_no_cell, writes_after, begins_before, takes_head_before, leads_on_marked, leads_nowhere, walks_past, is_marked_before, is_replaced}
 use Rattle.kw_core.proofs.NextBuilt.{tries_again, moves_left, NextBack, gives_back, has_none, NextNewRow, writes_row, has_written, NextNewCell, fills, empties, has_cells, NextNewEntry, writes_idle, has_entries, NextBefore, is_first, is_behind, was_done}
 use Rattle.kw_core.proofs.Grouping.{NextCounted, NextFrozen, NextGathered, claims_row, goes_alone, freezes_ahead, froze_all, gathers_ahead, gathered_all}
@@ -63,6 +63,7 @@ use Rattle.kw_laws.proofs.CausesLast.{IsSearching, asked_lasts, spent_lasts, try
 use Rattle.kw_cells.proofs.Even.{starts_some}
 use Rattle.kw_laws.proofs.CausesSearch.{none_gone_by, in_front, in_last, in_was, IsBeforeSearch, Searching, searching_begun, searching_lasts, searching_number, AsksPassWords, asks_lasts, asks_taken, asked_all, next_row}
 use Rattle.kw_laws.proofs.Occurs.{occurs_now, occurs_was, occurs_within}
+use Rattle.kw_puts.proofs.BuiltStages.{of_pin_is, pin_look_is}
 
 -- what the events of the call, which began at this position, say of its seat
 abbrev pub Since : Activity → Sizes → Opening → List Event → ℕ → ℕ → Call → Local → Type 0
@@ -109,18 +110,27 @@ asks_scan (Put key value) k = absurd k
 asks_scan (Del key) k = absurd k
 asks_scan (Get key) k = absurd k
 asks_scan (Scan from upto) k = refl
+asks_scan Pin k = refl
+asks_scan (ScanAt from upto) k = absurd k
+asks_scan Unpin k = absurd k
 
 asks_clock : (call : Call) → IsPutCall (Some call) → IsAsking call (Activity.Rebalance (Rebalance.Engage Engage.Clock)) (record { kind = kind.LoadClock; name = name.Clock; action = Load })
 asks_clock (Put key value) k = refl
 asks_clock (Del key) k = refl
 asks_clock (Get key) k = absurd k
 asks_clock (Scan from upto) k = absurd k
+asks_clock Pin k = absurd k
+asks_clock (ScanAt from upto) k = absurd k
+asks_clock Unpin k = absurd k
 
 asks_epoch : (call : Call) → IsPutCall (Some call) → IsAsking call (Activity.Rebalance (Rebalance.Engage Engage.Epoch)) (record { kind = kind.LoadEpoch; name = name.Epoch; action = Load })
 asks_epoch (Put key value) k = refl
 asks_epoch (Del key) k = refl
 asks_epoch (Get key) k = absurd k
 asks_epoch (Scan from upto) k = absurd k
+asks_epoch Pin k = absurd k
+asks_epoch (ScanAt from upto) k = absurd k
+asks_epoch Unpin k = absurd k
 
 -- a state that is not free is not the word of a free one
 not_free : (w : ℕ) (x : Option State) → state_of w ≡ x → x ≢ Some Free → w ≢ state_word Free
@@ -285,6 +295,8 @@ module _ (z : Sizes) (o : Opening) (es : List Event) (e : Event) (r r' : Run) (l
   by_arrow b k is (keeps_no_more next none n) x = next_gathered _ next n
   by_arrow b k is (marks_led count next d n) x = next_counted _ _ next n
   by_arrow b k is (decides count m next f n) x = next_counted _ _ next n
+  by_arrow b k is (asks_of_pin next asks n) x = of_pin_is (λ c. Since c z o (es ++ e ∷ []) e.seat first call next) tt tt tt tt tt tt n
+  by_arrow b k is (looks_at_pin j next n) x = pin_look_is (λ c. Since c z o (es ++ e ∷ []) e.seat first call next) (λ q. tt) tt n
   by_arrow b k is _ x = tt
 
   -- In a search.

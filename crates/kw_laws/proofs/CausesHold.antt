@@ -7,7 +7,7 @@ use Rattle.kw_model.specs.declared.call.Reply.{Reply}
 use Rattle.kw_model.specs.declared.call.Reply.TheVariants as reply
 use Rattle.kw_world.specs.declared.activity.Activity.{Activity}
 use Rattle.kw_world.specs.declared.answer.Answer.{Answer}
-use Rattle.kw_world.specs.declared.answer.Answer.TheVariants.{Done, Value, Absent, Pairs, NoRows, Spent, Stopped}
+use Rattle.kw_world.specs.declared.answer.Answer.TheVariants.{Done, Value, Absent, Pairs, NoRows, Spent, Stopped, Held, NotPinned}
 use Rattle.kw_world.specs.declared.event.Choice.{Choice}
 use Rattle.kw_world.specs.declared.event.Choice.TheVariants.{Begin}
 use Rattle.kw_world.specs.declared.event.Event.{Event}
@@ -32,7 +32,7 @@ use Rattle.kw_core.specs.declared.history.End.{End}
 use Rattle.kw_core.specs.Run.{Run, goes_on, noted_by, start, history}
 use Rattle.kw_core.specs.Stages.{IsBusy, IsUnderway}
 use Rattle.kw_core.specs.Words.{Words}
-use Rattle.kw_core.proofs.Arrows.{Arrow, NextLook, looks, lists, NextLeftOver, goes_to_left_over, answers, ends_scan, scans_on, begins, sees_stamped, sees_neither, is_gone_by, helps, finds_stamped, finds_other, list_ends, key_above, left_over_gone_by, gathers_left_over, leaves, builds, first_ends}
+use Rattle.kw_core.proofs.Arrows.{Arrow, NextLook, looks, lists, NextLeftOver, goes_to_left_over, answers, ends_scan, scans_on, begins, sees_stamped, sees_neither, is_gone_by, helps, finds_stamped, finds_other, list_ends, key_above, left_over_gone_by, gathers_left_over, leaves, builds, first_ends, asks_of_pin, looks_at_pin}
 use Rattle.kw_core.proofs.Arrows.{freezes_last, keeps_no_more, remembers_last, sees_frozen_last, takes_no_more, marks_led, decides}
 use Rattle.kw_core.proofs.BuiltNext.{IsAfterBuilding, built_next}
 use Rattle.kw_core.proofs.Events.{may_come, valid-nil, valid-snoc}
@@ -50,6 +50,7 @@ use Rattle.kw_laws.proofs.MirrorKeeps.{mirrors_hold}
 use Rattle.kw_laws.proofs.Occurs.{ends_lasts, ends_was, occurs_now, occurs_was, occurs_within}
 use Rattle.kw_core.proofs.Grouping.{counted_leads, frozen_leads, gathered_leads}
 use Rattle.kw_shape.proofs.Worlds.{world-rows}
+use Rattle.kw_puts.proofs.BuiltStages.{of_pin_is, pin_look_is}
 
 -- What is kept.
 
@@ -118,6 +119,8 @@ arrow_busy z v s choice l a k (takes_no_more next e none n) u = gathered_leads I
 arrow_busy z v s choice l a k (keeps_no_more next none n) u = gathered_leads IsBusy tt tt z _ next n
 arrow_busy z v s choice l a k (marks_led count next d n) u = counted_leads IsBusy tt tt _ _ next n
 arrow_busy z v s choice l a k (decides count m next e n) u = counted_leads IsBusy tt tt _ _ next n
+arrow_busy z v s choice l a k (asks_of_pin next o n) u = of_pin_is IsBusy tt tt tt tt tt tt n
+arrow_busy z v s choice l a k (looks_at_pin i next n) u = pin_look_is IsBusy (λ j. tt) tt n
 arrow_busy z v s choice l a k _ u = tt
 
 -- One more event.
@@ -229,6 +232,8 @@ module _ (z : Sizes) (o : Opening) (es : List Event) (e : Event) (r r' : Run) (l
   cause_now x call Absent pairs c = tt
   cause_now x call Pairs pairs c = tt
   cause_now x call Stopped pairs c = tt
+  cause_now x call Held pairs c = tt
+  cause_now x call NotPinned pairs c = tt
 
   caused_on : AllCaused z o (es ++ e ∷ [])
   caused_on x y t call answer w b n d = which (ends_was z o es e y t answer d) (begun_was x t call b)

@@ -8,14 +8,14 @@ use Rattle.kw_words.specs.declared.sizes.TheConstants.{SPENT}
 use Rattle.kw_words.specs.Scan.{scan_of, scan_word}
 use Rattle.kw_words.proofs.ScanWords.{scan_word_of}
 use Rattle.kw_model.specs.declared.call.Call.{Call}
-use Rattle.kw_model.specs.declared.call.Call.TheVariants.{Put, Del, Get, Scan}
+use Rattle.kw_model.specs.declared.call.Call.TheVariants.{Put, Del, Get, Scan, Pin, ScanAt, Unpin}
 use Rattle.kw_model.specs.declared.call.Reply.TheVariants as reply
 use Rattle.kw_world.specs.declared.activity.Activity.{Activity}
 use Rattle.kw_world.specs.declared.activity.draw.Draw.TheVariants as Draw
 use Rattle.kw_world.specs.declared.activity.rebalance.freeze.Freeze.TheVariants as Freeze
 use Rattle.kw_world.specs.declared.activity.rebalance.Rebalance.TheVariants as Rebalance
 use Rattle.kw_world.specs.declared.answer.Answer.{Answer}
-use Rattle.kw_world.specs.declared.answer.Answer.TheVariants.{Done, Value, Absent, Pairs, NoRows, Spent, Stopped}
+use Rattle.kw_world.specs.declared.answer.Answer.TheVariants.{Done, Value, Absent, Pairs, NoRows, Spent, Stopped, Held, NotPinned}
 use Rattle.kw_world.specs.declared.event.Choice.{Choice}
 use Rattle.kw_world.specs.declared.event.Event.{Event}
 use Rattle.kw_world.specs.declared.local.Local.{Local}
@@ -91,6 +91,9 @@ is_one c (Scan from upto) i e = tt
 is_one c (Put key value) i e = true_false (sym (ap is_scan i) ∙ e) refl
 is_one c (Del key) i e = true_false (sym (ap is_scan i) ∙ e) refl
 is_one c (Get key) i e = true_false (sym (ap is_scan i) ∙ e) refl
+is_one c Pin i e = tt
+is_one c (ScanAt from upto) i e = true_false (sym (ap is_scan i) ∙ e) refl
+is_one c Unpin i e = true_false (sym (ap is_scan i) ∙ e) refl
 
 -- and as that of a seat
 is_the_seats : (c : Option Call) (from upto : ℕ) → c ≡ Some (Scan from upto) → is_scan c ≡ true
@@ -105,6 +108,8 @@ is_refusal Absent pairs e = absurd (cc)
 is_refusal Pairs pairs e = absurd (cc)
 is_refusal NoRows pairs e = absurd (cc)
 is_refusal Stopped pairs e = absurd (cc)
+is_refusal Held pairs e = absurd (cc)
+is_refusal NotPinned pairs e = absurd (cc)
 
 -- no event takes a call out of the record
 more_calls : (h h' : History) (e : Logged) (z : Sizes) (v : Words) (s : ℕ) (choice : Choice) (l : Local) (g : SeatLog) (o : Origins) (a : Activity) (c : Change) → Makes z v s choice l g o a c → h' ≡ noted h e c → length h.calls ≤ length h'.calls

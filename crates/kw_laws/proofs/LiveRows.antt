@@ -9,7 +9,7 @@ use Rattle.kw_words.specs.declared.layout.Name.TheVariants as name
 use Rattle.kw_words.specs.declared.scan.ScanWord.TheVariants.{Drawn, Waiting}
 use Rattle.kw_words.specs.Scan.{scan_word}
 use Rattle.kw_model.specs.declared.call.Call.{Call}
-use Rattle.kw_model.specs.declared.call.Call.TheVariants.{Del, Get, Put, Scan}
+use Rattle.kw_model.specs.declared.call.Call.TheVariants.{Del, Get, Put, Scan, Pin, ScanAt, Unpin}
 use Rattle.kw_world.specs.declared.activity.Activity.{Activity}
 use Rattle.kw_world.specs.declared.activity.insert.Insert.TheVariants as Insert
 use Rattle.kw_world.specs.declared.activity.put.Put.TheVariants as Put
@@ -179,6 +179,9 @@ no_scan (Some (Put key value)) p e = let x : false ≡ true = e in absurd (cc)
 no_scan (Some (Del key)) p e = let x : false ≡ true = e in absurd (cc)
 no_scan (Some (Get key)) p e = absurd p
 no_scan (Some (Scan from upto)) p e = absurd p
+no_scan (Some Pin) p e = absurd p
+no_scan (Some (ScanAt from upto)) p e = absurd p
+no_scan (Some Unpin) p e = absurd p
 no_scan None p e = absurd p
 
 -- a scan that is at its row has its version

@@ -11,10 +11,10 @@ use Rattle.kw_words.specs.declared.layout.Name.TheVariants as name
 use Rattle.kw_cells.specs.declared.cell.Cell as kw_cell
 use Rattle.kw_cells.specs.Cells.{best_of}
 use Rattle.kw_model.specs.declared.call.Call.{Call}
-use Rattle.kw_model.specs.declared.call.Call.TheVariants.{Put, Del, Get, Scan}
+use Rattle.kw_model.specs.declared.call.Call.TheVariants.{Put, Del, Get, Scan, Pin, ScanAt, Unpin}
 use Rattle.kw_world.specs.declared.answer.Answer.{Answer}
 use Rattle.kw_model.specs.declared.call.Reply.TheVariants as reply
-use Rattle.kw_world.specs.declared.answer.Answer.TheVariants.{Done, Value, Absent, Pairs, NoRows, Spent, Stopped}
+use Rattle.kw_world.specs.declared.answer.Answer.TheVariants.{Done, Value, Absent, Pairs, NoRows, Spent, Stopped, Held, NotPinned}
 use Rattle.kw_world.specs.declared.activity.Activity.{Activity}
 use Rattle.kw_world.specs.declared.activity.draw.Draw.TheVariants as Draw
 use Rattle.kw_world.specs.declared.activity.look.Look.TheVariants as Look
@@ -139,6 +139,9 @@ answer_among (Some (Put key value)) l g p e = let x : None ≡ Some p = e in abs
 answer_among (Some (Del key)) l g p e = let x : None ≡ Some p = e in absurd (cc)
 answer_among (Some (Get key)) l g p e = best_among (best_of l.gathered key NEWEST) l.gathered g.ids p e
 answer_among (Some (Scan from upto)) l g p e = let x : None ≡ Some p = e in absurd (cc)
+answer_among (Some Pin) l g p e = let x : None ≡ Some p = e in absurd (cc)
+answer_among (Some (ScanAt from upto)) l g p e = let x : None ≡ Some p = e in absurd (cc)
+answer_among (Some Unpin) l g p e = let x : None ≡ Some p = e in absurd (cc)
 answer_among None l g p e = let x : None ≡ Some p = e in absurd (cc)
 
 -- a log with these attempts, or with none of them
@@ -206,6 +209,9 @@ pairs_of_scan (Some (Put key value)) h = absurd h
 pairs_of_scan (Some (Del key)) h = absurd h
 pairs_of_scan (Some (Get key)) h = absurd h
 pairs_of_scan (Some (Scan from upto)) h = refl
+pairs_of_scan (Some Pin) h = absurd h
+pairs_of_scan (Some (ScanAt from upto)) h = absurd h
+pairs_of_scan (Some Unpin) h = absurd h
 pairs_of_scan None h = absurd h
 
 -- a reader that loads a value is in its call
@@ -326,6 +332,8 @@ module _ (z : Sizes) (o : Opening) (es : List Event) (e : Event) (r r' : Run) (l
   drew_at_end NoRows d is g = let x : None ≡ Some d = g in absurd (cc)
   drew_at_end Spent d is g = let x : None ≡ Some d = g in absurd (cc)
   drew_at_end Stopped d is g = let x : None ≡ Some d = g in absurd (cc)
+  drew_at_end Held d is g = let x : None ≡ Some d = g in absurd (cc)
+  drew_at_end NotPinned d is g = let x : None ≡ Some d = g in absurd (cc)
 
   pub draws_keep : (x : ℕ) (d : drawn.Drawn) → x < length r'.history.calls → (called r'.history x).draw ≡ Some d → HasSettled z o (es ++ e ∷ []) (called r'.history x).seat d.at d.version
   draws_keep x d w g = which (was x w)

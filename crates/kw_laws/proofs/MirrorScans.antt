@@ -30,7 +30,7 @@ use Rattle.kw_core.specs.Run.{Run, start, with_settled}
 use Rattle.kw_core.specs.Stages.{IsUnderway, IsSettling, IsWaiting, HasDrawn}
 use Rattle.kw_core.specs.Step.{Step}
 use Rattle.kw_core.specs.Words.{Words}
-use Rattle.kw_core.proofs.Arrows.{builds, Arrow, NextLook, looks, lists, NextLeftOver, goes_to_left_over, answers, ends_scan, scans_on, sees_stamped, sees_neither, is_gone_by, helps, finds_stamped, finds_other, list_ends, key_above, left_over_gone_by, gathers_left_over, settles_empty, settles, draws_for, first_ends}
+use Rattle.kw_core.proofs.Arrows.{builds, Arrow, NextLook, looks, lists, NextLeftOver, goes_to_left_over, answers, ends_scan, scans_on, sees_stamped, sees_neither, is_gone_by, helps, finds_stamped, finds_other, list_ends, key_above, left_over_gone_by, gathers_left_over, settles_empty, settles, draws_for, first_ends, asks_of_pin, looks_at_pin, settles_pin}
 use Rattle.kw_core.proofs.Arrows.{freezes_last, keeps_no_more, remembers_last, sees_frozen_last, takes_no_more, marks_led, decides}
 use Rattle.kw_core.proofs.Building.{IsBuilding}
 use Rattle.kw_core.proofs.BuiltNext.{IsAfterBuilding, built_next}
@@ -39,8 +39,10 @@ use Rattle.kw_core.proofs.FreezeFrame.{scan_stays}
 use Rattle.kw_core.proofs.Happens.{Happens, each_seat, log_entry, chosen, not_chosen, exchanged, not_exchanged}
 use Rattle.kw_core.proofs.SeatLogs.{settle_kept, settle_lost}
 use Rattle.kw_shape.proofs.ShapeOpens.{all_resting}
+use Rattle.kw_shape.proofs.AfterBuilding.{kind_at}
 use Rattle.kw_puts.proofs.OwnScans.{drawn_from, not_idle_drawn, draws_no_more, drawn_underway, settling_waits, was_scan, waits_from, drawn_kept, has_drawn}
 use Rattle.kw_puts.proofs.RelyProof.{draw_stays}
+use Rattle.kw_puts.proofs.BuiltStages.{of_pin_is, pin_look_is}
 use Rattle.kw_reads.specs.Inv.{Inv, lower}
 use Rattle.kw_reads.proofs.HistoryKeeps.{history_step}
 use Rattle.kw_laws.specs.Mirror.{Acts, operation}
@@ -155,6 +157,8 @@ helper_drew z v s choice l a k (takes_no_more next e none n) = gathered_leads (D
 helper_drew z v s choice l a k (keeps_no_more next none n) = gathered_leads (DrewFor v a k) tt tt z _ next n
 helper_drew z v s choice l a k (marks_led count next d n) = counted_leads (DrewFor v a k) tt tt _ _ next n
 helper_drew z v s choice l a k (decides count m next e n) = counted_leads (DrewFor v a k) tt tt _ _ next n
+helper_drew z v s choice l a k (asks_of_pin next o n) = of_pin_is (DrewFor v a next) tt tt tt tt tt tt n
+helper_drew z v s choice l a k (looks_at_pin i next n) = pin_look_is (DrewFor v a next) (λ j. tt) tt n
 helper_drew z v s choice l a k _ = tt
 
 -- the activity of a scan that settles
@@ -172,6 +176,7 @@ settled_version : (z : Sizes) (v : Words) (s : ℕ) (choice : Choice) (l : Local
 settled_version z v s choice l a k (builds b next y t) x = settling_builds b y x
 settled_version z v s choice l a k (settles_empty e) x = refl
 settled_version z v s choice l a k (settles e) x = refl
+settled_version z v s choice l a k (settles_pin e) x = refl
 settled_version z v s choice l a k _ x = absurd x
 
 -- One more event.
@@ -255,7 +260,7 @@ module _ (z : Sizes) (o : Opening) (es : List Event) (e : Event) (r r' : Run) (l
   -- The settle.
 
   settled_own : is_scan l'.call ≡ true → HasDrawn l'.activity → HasSettled z o (es ++ e ∷ []) e.seat (r'.seats e.seat).drawn l'.version
-  settled_own f x = which (drawn_from z (word z r.world) e.seat (offered r.world.rows e.choice) l a l' h.arrow f x)
+  settled_own f x = which (drawn_from z (word z r.world) e.seat (offered r.world.rows e.choice) l a l' h.arrow (kind_at a h i.shape) f x)
     where
       u : IsUnderway a
       u = drawn_underway z (word z r.world) e.seat (offered r.world.rows e.choice) l a l' h.arrow x

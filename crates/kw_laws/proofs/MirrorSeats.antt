@@ -54,16 +54,18 @@ use Rattle.kw_core.proofs.Happens.{Happens, each_seat, found_at, knows_next, kno
 use Rattle.kw_core.proofs.Changes.{made}
 use Rattle.kw_core.proofs.Building.{IsBuilding}
 use Rattle.kw_core.proofs.BuiltNext.{IsAfterBuilding, built_goes, built_next}
-use Rattle.kw_core.proofs.Arrows.{builds, Arrow, NextLook, looks, lists, NextLeftOver, goes_to_left_over, answers, ends_scan, scans_on}
+use Rattle.kw_core.proofs.Arrows.{builds, Arrow, NextLook, looks, lists, NextLeftOver, goes_to_left_over, answers, ends_scan, scans_on, asks_of_pin, looks_at_pin}
 use Rattle.kw_core.proofs.Arrows.{begins, loads_to_help, loads_clock, sees_stamped, sees_neither, is_gone_by, helps, finds_stamped, finds_other, list_ends, key_above, left_over_gone_by, gathers_left_over, leaves, first_ends}
 use Rattle.kw_core.proofs.Arrows.{freezes_last, keeps_no_more, remembers_last, sees_frozen_last, takes_no_more, marks_led, decides}
 use Rattle.kw_core.proofs.Grouping.{counted_goes, counted_leads, frozen_goes, frozen_leads, gathered_goes, gathered_leads}
 use Rattle.kw_shape.proofs.NextCalls.{cell_call}
+use Rattle.kw_shape.proofs.AfterBuilding.{of_pin_goes, look_goes}
 use Rattle.kw_core.proofs.Steps.{none_some}
 use Rattle.kw_core.proofs.SeatLogs.{either, call_kept, settled_same}
 use Rattle.kw_laws.proofs.Occurs.{acts_lasts, occurs_was}
 use Rattle.kw_laws.proofs.Over.{CallOver, goes_on, is_ended, call_over, IsCallNow, call_was}
 use Rattle.kw_laws.proofs.Mirroring.{Kept, acts_here, kind_here, ended_here}
+use Rattle.kw_puts.proofs.BuiltStages.{of_pin_is, pin_look_is}
 
 -- How many calls a seat has begun.
 
@@ -115,6 +117,8 @@ arrow_counts z v s choice l a k (takes_no_more next e none n) = let x = (gathere
 arrow_counts z v s choice l a k (keeps_no_more next none n) = let x = (gathered_goes z _ next n).number in omega (arith, x)
 arrow_counts z v s choice l a k (marks_led count next d n) = let x = (counted_goes _ _ next n).number in omega (arith, x)
 arrow_counts z v s choice l a k (decides count m next e n) = let x = (counted_goes _ _ next n).number in omega (arith, x)
+arrow_counts z v s choice l a k (asks_of_pin next o n) = let x = (of_pin_goes _ next n).number in omega (arith, x)
+arrow_counts z v s choice l a k (looks_at_pin i next n) = let x = (look_goes z _ _ _ next n).number in omega (arith, x)
 arrow_counts z v s choice l a k _ = omega arith
 
 -- What an arrow leads to.
@@ -166,6 +170,8 @@ arrow_busy z v s choice l a k (takes_no_more next e none n) u = gathered_leads I
 arrow_busy z v s choice l a k (keeps_no_more next none n) u = gathered_leads IsBusy tt tt z _ next n
 arrow_busy z v s choice l a k (marks_led count next d n) u = counted_leads IsBusy tt tt _ _ next n
 arrow_busy z v s choice l a k (decides count m next e n) u = counted_leads IsBusy tt tt _ _ next n
+arrow_busy z v s choice l a k (asks_of_pin next o n) u = of_pin_is IsBusy tt tt tt tt tt tt n
+arrow_busy z v s choice l a k (looks_at_pin i next n) u = pin_look_is IsBusy (λ j. tt) tt n
 arrow_busy z v s choice l a k _ u = tt
 
 look_stamp : {A : Type 0} (z : Sizes) (j : ℕ) (next : Activity) → NextLook z j next → IsStamp next ⊎ IsHelp next → A
@@ -206,6 +212,8 @@ arrow_stamp z v s choice l a k (takes_no_more next e none n) u = absurd (gathere
 arrow_stamp z v s choice l a k (keeps_no_more next none n) u = absurd (gathered_leads (λ b. IsStamp b → ⊥) (λ x. x) (λ x. x) z _ next n u)
 arrow_stamp z v s choice l a k (marks_led count next d n) u = absurd (counted_leads (λ b. IsStamp b → ⊥) (λ x. x) (λ x. x) _ _ next n u)
 arrow_stamp z v s choice l a k (decides count m next e n) u = absurd (counted_leads (λ b. IsStamp b → ⊥) (λ x. x) (λ x. x) _ _ next n u)
+arrow_stamp z v s choice l a k (asks_of_pin next o n) u = absurd (of_pin_is (λ b. IsStamp b → ⊥) (λ x. x) (λ x. x) (λ x. x) (λ x. x) (λ x. x) (λ x. x) n u)
+arrow_stamp z v s choice l a k (looks_at_pin i next n) u = absurd (pin_look_is (λ b. IsStamp b → ⊥) (λ j x. x) (λ x. x) n u)
 arrow_stamp z v s choice l a k _ u = absurd u
 
 -- so has a seat that is to help
@@ -230,6 +238,8 @@ arrow_help z v s choice l a k (takes_no_more next e none n) u = absurd (gathered
 arrow_help z v s choice l a k (keeps_no_more next none n) u = absurd (gathered_leads (λ b. IsHelp b → ⊥) (λ x. x) (λ x. x) z _ next n u)
 arrow_help z v s choice l a k (marks_led count next d n) u = absurd (counted_leads (λ b. IsHelp b → ⊥) (λ x. x) (λ x. x) _ _ next n u)
 arrow_help z v s choice l a k (decides count m next e n) u = absurd (counted_leads (λ b. IsHelp b → ⊥) (λ x. x) (λ x. x) _ _ next n u)
+arrow_help z v s choice l a k (asks_of_pin next o n) u = absurd (of_pin_is (λ b. IsHelp b → ⊥) (λ x. x) (λ x. x) (λ x. x) (λ x. x) (λ x. x) (λ x. x) n u)
+arrow_help z v s choice l a k (looks_at_pin i next n) u = absurd (pin_look_is (λ b. IsHelp b → ⊥) (λ j x. x) (λ x. x) n u)
 arrow_help z v s choice l a k _ u = absurd u
 
 -- Where a seat loaded the clock last.

@@ -6,11 +6,11 @@ use Rattle.kw_words.specs.declared.scan.ScanWord.TheVariants.{Waiting}
 use Rattle.kw_words.specs.declared.sizes.TheConstants.{SPENT}
 use Rattle.kw_words.specs.Scan.{scan_of}
 use Rattle.kw_model.specs.declared.call.Call.{Call}
-use Rattle.kw_model.specs.declared.call.Call.TheVariants.{Put, Del, Get, Scan}
+use Rattle.kw_model.specs.declared.call.Call.TheVariants.{Put, Del, Get, Scan, Pin, ScanAt, Unpin}
 use Rattle.kw_world.specs.declared.activity.Activity.{Activity}
 use Rattle.kw_world.specs.declared.activity.draw.Draw.TheVariants as Draw
 use Rattle.kw_world.specs.declared.answer.Answer.{Answer}
-use Rattle.kw_world.specs.declared.answer.Answer.TheVariants.{Done, Value, Absent, Pairs, NoRows, Spent, Stopped}
+use Rattle.kw_world.specs.declared.answer.Answer.TheVariants.{Done, Value, Absent, Pairs, NoRows, Spent, Stopped, Held, NotPinned}
 use Rattle.kw_world.specs.declared.event.Choice.{Choice}
 use Rattle.kw_world.specs.declared.event.Choice.TheVariants.{Begin, Go, Guess, Stop}
 use Rattle.kw_world.specs.declared.local.Local.{Local}
@@ -19,12 +19,12 @@ use Rattle.kw_world.specs.ScanTransitions.{answer_or_stopped}
 use Rattle.kw_world.specs.Sizes.{Sizes}
 use Rattle.kw_core.specs.Stages.{IsUnderway}
 use Rattle.kw_core.specs.Words.{Words}
-use Rattle.kw_core.proofs.Arrows.{Arrow, NextLook, looks, lists, NextLeftOver, goes_to_left_over, answers, ends_scan, scans_on, begins, enters_scan, is_spent, sees_stamped, sees_neither, is_gone_by, helps, finds_stamped, finds_other, first_ends, list_ends, key_above, left_over_gone_by, gathers_left_over, clears_scan, leaves, retries, enters_again, clock_is_spent, epoch_is_spent, helps_scan, draws_for, builds}
+use Rattle.kw_core.proofs.Arrows.{Arrow, NextLook, looks, lists, NextLeftOver, goes_to_left_over, answers, ends_scan, scans_on, begins, enters_scan, is_spent, sees_stamped, sees_neither, is_gone_by, helps, finds_stamped, finds_other, first_ends, list_ends, key_above, left_over_gone_by, gathers_left_over, clears_scan, leaves, retries, enters_again, clock_is_spent, epoch_is_spent, helps_scan, draws_for, builds, asks_of_pin, looks_at_pin}
 use Rattle.kw_core.proofs.Arrows.{freezes_last, keeps_no_more, remembers_last, sees_frozen_last, takes_no_more, marks_led, decides}
 use Rattle.kw_core.proofs.BuiltNext.{IsAfterBuilding, built_next}
 use Rattle.kw_shape.specs.Shape.{IsKind, IsPairs, IsPutCall, IsScanCall}
 use Rattle.kw_puts.specs.Positions.{HelpsScan}
-use Rattle.kw_puts.proofs.BuiltStages.{after_helps}
+use Rattle.kw_puts.proofs.BuiltStages.{after_helps, of_pin_is, pin_look_is}
 use Rattle.kw_puts.proofs.Owners.{true_false}
 use Rattle.kw_core.proofs.Grouping.{counted_leads, frozen_leads, gathered_leads}
 
@@ -36,6 +36,9 @@ put_scans_not (Some (Put key value)) k e = true_false e refl
 put_scans_not (Some (Del key)) k e = true_false e refl
 put_scans_not (Some (Get key)) k e = absurd k
 put_scans_not (Some (Scan from upto)) k e = absurd k
+put_scans_not (Some Pin) k e = absurd k
+put_scans_not (Some (ScanAt from upto)) k e = absurd k
+put_scans_not (Some Unpin) k e = absurd k
 put_scans_not None k e = absurd k
 
 -- the call of a scan
@@ -44,6 +47,9 @@ scans (Some (Scan from upto)) x = refl
 scans (Some (Put key value)) x = absurd x
 scans (Some (Del key)) x = absurd x
 scans (Some (Get key)) x = absurd x
+scans (Some Pin) x = absurd x
+scans (Some (ScanAt from upto)) x = absurd x
+scans (Some Unpin) x = absurd x
 scans None x = absurd x
 
 -- Before the load.
@@ -103,6 +109,8 @@ before_from z v s choice l a k (takes_no_more next e none n) x = absurd (gathere
 before_from z v s choice l a k (keeps_no_more next none n) x = absurd (gathered_leads (λ b. IsBeforeLoad b → ⊥) (λ y. y) (λ y. y) z _ next n x)
 before_from z v s choice l a k (marks_led count next d n) x = absurd (counted_leads (λ b. IsBeforeLoad b → ⊥) (λ y. y) (λ y. y) _ _ next n x)
 before_from z v s choice l a k (decides count m next e n) x = absurd (counted_leads (λ b. IsBeforeLoad b → ⊥) (λ y. y) (λ y. y) _ _ next n x)
+before_from z v s choice l a k (asks_of_pin next o n) x = inl tt
+before_from z v s choice l a k (looks_at_pin i next n) x = absurd (pin_look_is (λ b. IsBeforeLoad b → ⊥) (λ j y. y) (λ y. y) n x)
 before_from z v s choice l a k _ x = absurd x
 
 -- a scan that goes on does not begin anew
@@ -146,6 +154,8 @@ help_from z v s choice l a k t (takes_no_more next e none n) x = absurd (gathere
 help_from z v s choice l a k t (keeps_no_more next none n) x = absurd (gathered_leads (λ b. HelpsScan t b → ⊥) (λ y. y) (λ y. y) z _ next n x)
 help_from z v s choice l a k t (marks_led count next d n) x = absurd (counted_leads (λ b. HelpsScan t b → ⊥) (λ y. y) (λ y. y) _ _ next n x)
 help_from z v s choice l a k t (decides count m next e n) x = absurd (counted_leads (λ b. HelpsScan t b → ⊥) (λ y. y) (λ y. y) _ _ next n x)
+help_from z v s choice l a k t (asks_of_pin next o n) x = absurd (of_pin_is (λ b. HelpsScan t b → ⊥) (λ y. y) (λ y. y) (λ y. y) (λ y. y) (λ y. y) (λ y. y) n x)
+help_from z v s choice l a k t (looks_at_pin i next n) x = absurd (pin_look_is (λ b. HelpsScan t b → ⊥) (λ j y. y) (λ y. y) n x)
 help_from z v s choice l a k t _ x = absurd x
 
 -- Refusals.
@@ -181,6 +191,8 @@ over_refuses_not Absent choice p x = p
 over_refuses_not NoRows choice p x = p
 over_refuses_not Spent choice p x = p
 over_refuses_not Stopped choice p x = p
+over_refuses_not Held choice p x = p
+over_refuses_not NotPinned choice p x = p
 
 -- a scan is refused where it loads the clock, and finds it at its bound
 pub refused_from : (z : Sizes) (v : Words) (s : ℕ) (choice : Choice) (l : Local) (a : Activity) (k : Local) → Arrow z v s choice l a k → IsKind a l → IsRefused k.activity → is_scan k.call ≡ true → (a ≡ Activity.Draw Draw.Clock) × (SPENT ≤ v name.Clock)
@@ -207,4 +219,6 @@ refused_from z v s choice l a k (takes_no_more next f none n) i x e = absurd (ga
 refused_from z v s choice l a k (keeps_no_more next none n) i x e = absurd (gathered_leads (λ b. IsRefused b → ⊥) (λ y. y) (λ y. y) z _ next n x)
 refused_from z v s choice l a k (marks_led count next d n) i x e = absurd (counted_leads (λ b. IsRefused b → ⊥) (λ y. y) (λ y. y) _ _ next n x)
 refused_from z v s choice l a k (decides count m next f n) i x e = absurd (counted_leads (λ b. IsRefused b → ⊥) (λ y. y) (λ y. y) _ _ next n x)
+refused_from z v s choice l a k (asks_of_pin next o n) i x e = absurd (of_pin_is (λ b. IsRefused b → ⊥) (λ y. y) (λ y. y) (λ y. y) (λ y. y) (λ y. y) (λ y. y) n x)
+refused_from z v s choice l a k (looks_at_pin j next n) i x e = absurd (pin_look_is (λ b. IsRefused b → ⊥) (λ q y. y) (λ y. y) n x)
 refused_from z v s choice l a k _ i x e = absurd x

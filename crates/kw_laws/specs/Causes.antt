@@ -12,7 +12,7 @@ use Rattle.kw_words.specs.declared.sizes.TheConstants.{SPENT}
 use Rattle.kw_words.specs.declared.state.State.TheVariants as state
 use Rattle.kw_words.specs.State.{state_of, state_word}
 use Rattle.kw_model.specs.declared.call.Call.{Call}
-use Rattle.kw_model.specs.declared.call.Call.TheVariants.{Put, Del, Scan}
+use Rattle.kw_model.specs.declared.call.Call.TheVariants.{Put, Del, Scan, Pin}
 use Rattle.kw_model.specs.declared.call.Reply.TheVariants.{NoRows, Spent}
 use Rattle.kw_world.specs.declared.activity.Activity.{Activity}
 use Rattle.kw_world.specs.declared.activity.draw.Draw.TheVariants as Draw
@@ -37,6 +37,7 @@ use Rattle.kw_laws.specs.Mirror.{Acts, operation}
 -- by this operation a seat that makes the call asks at this activity for a version, or for a number
 abbrev pub IsAsking : Call → Activity → Operation → Type 0
 IsAsking (Scan from upto) (Activity.Draw Draw.Clock) op = op ≡ operation kind.LoadClock name.Clock Load
+IsAsking Pin (Activity.Draw Draw.Clock) op = op ≡ operation kind.LoadClock name.Clock Load
 IsAsking (Put key value) (Activity.Rebalance (Rebalance.Engage Engage.Clock)) op = op ≡ operation kind.LoadClock name.Clock Load
 IsAsking (Put key value) (Activity.Rebalance (Rebalance.Engage Engage.Epoch)) op = op ≡ operation kind.LoadEpoch name.Epoch Load
 IsAsking (Del key) (Activity.Rebalance (Rebalance.Engage Engage.Clock)) op = op ≡ operation kind.LoadClock name.Clock Load

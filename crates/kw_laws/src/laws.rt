@@ -76,10 +76,10 @@ pub fn cause_laws()
         is_valid z o events ≡ true → AsksWhereItStands z o events }
 {}
 
-/// Versions are drawn for scans alone: where no call of a valid list from an opening is a scan, the
-/// clock is that of the opening. So the scan that loads the clock first finds it there, and a scan
-/// is refused only where another scan began before it ended, or where the clock of the opening was
-/// at its bound.
+/// Versions are drawn for scans and pins alone: where no call of a valid list from an opening is
+/// one, the clock is that of the opening. So the scan that loads the clock first finds it there,
+/// and a scan is refused only where another one, or a pin, began before it ended, or where the
+/// clock of the opening was at its bound.
 pub fn clock_laws()
     ensures rests { (z : Sizes) (o : Opening) (events : List Event) → IsOpening z o →
         is_valid z o events ≡ true → RestsWithoutScans z o events (history z o events).history }

@@ -4,10 +4,12 @@ use Rattle.std.proofs.Common.{ℕ, ◌≡◌, ◌⊎◌, inl, inr, ◌*◌, ◌�
 use Rattle.std.proofs.Math.Nat.{mul-le-mul_left}
 use Rattle.kw_words.specs.declared.layout.Name.TheVariants as name
 use Rattle.kw_model.specs.declared.call.Call.{Call}
-use Rattle.kw_model.specs.declared.call.Call.TheVariants.{Del, Get, Put, Scan}
+use Rattle.kw_model.specs.declared.call.Call.TheVariants.{Del, Get, Put, Scan, Pin, ScanAt, Unpin}
 use Rattle.kw_windows.specs.Builders.{Elsewhere}
 use Rattle.kw_world.specs.declared.activity.Activity.{Activity}
+use Rattle.kw_world.specs.declared.activity.draw.Draw.TheVariants as Draw
 use Rattle.kw_world.specs.declared.activity.rebalance.Rebalance.TheVariants as Rebalance
+use Rattle.kw_world.specs.declared.activity.rebalance.freeze.Freeze.TheVariants as Freeze
 use Rattle.kw_world.specs.declared.activity.rebalance.engage.Engage.TheVariants as Engage
 use Rattle.kw_world.specs.declared.answer.Answer.{Answer}
 use Rattle.kw_world.specs.declared.answer.Answer.TheVariants as answer
@@ -43,6 +45,9 @@ update_put (Some (Put key value)) x = refl
 update_put (Some (Del key)) x = refl
 update_put (Some (Get key)) x = absurd x
 update_put (Some (Scan from upto)) x = absurd x
+update_put (Some Pin) x = absurd x
+update_put (Some (ScanAt from upto)) x = absurd x
+update_put (Some Unpin) x = absurd x
 update_put None x = absurd x
 
 -- a reader makes none
@@ -51,6 +56,9 @@ read_no_put (Some (Put key value)) x = absurd x
 read_no_put (Some (Del key)) x = absurd x
 read_no_put (Some (Get key)) x = refl
 read_no_put (Some (Scan from upto)) x = refl
+read_no_put (Some Pin) x = refl
+read_no_put (Some (ScanAt from upto)) x = refl
+read_no_put (Some Unpin) x = refl
 read_no_put None x = absurd x
 
 scan_no_put : (c : Option Call) → IsScanCall c → is_put c ≡ false
@@ -58,9 +66,13 @@ scan_no_put (Some (Put key value)) x = absurd x
 scan_no_put (Some (Del key)) x = absurd x
 scan_no_put (Some (Get key)) x = absurd x
 scan_no_put (Some (Scan from upto)) x = refl
+scan_no_put (Some Pin) x = refl
+scan_no_put (Some (ScanAt from upto)) x = refl
+scan_no_put (Some Unpin) x = refl
 scan_no_put None x = absurd x
 
 pub reader_no_put : (a : Activity) (l : Local) → IsReader a → Kinds a l → is_put l.call ≡ false
+reader_no_put (Activity.Draw Draw.Pin) l x k = absurd k.kind
 reader_no_put (Activity.Draw _) l x k = scan_no_put l.call k.kind
 reader_no_put (Activity.Look _) l x k = read_no_put l.call k.kind
 reader_no_put (Activity.Read _) l x k = read_no_put l.call k.kind
@@ -76,6 +88,8 @@ leaves_elsewhere answer.Pairs c e = refl
 leaves_elsewhere answer.NoRows c e = ap refusing e
 leaves_elsewhere answer.Spent c e = ap refusing e
 leaves_elsewhere answer.Stopped c e = refl
+leaves_elsewhere answer.Held c e = refl
+leaves_elsewhere answer.NotPinned c e = refl
 
 -- a seat that rebalances makes an update
 pub balancing_puts : (a : Activity) (l : Local) → IsBalancing a → IsKind a l → IsPutCall l.call
@@ -88,6 +102,7 @@ balancing_puts (Activity.Rebalance (Rebalance.Engage Engage.Lead)) l x k = k
 balancing_puts (Activity.Rebalance (Rebalance.Engage (Engage.MarkLink count))) l x k = k
 balancing_puts (Activity.Rebalance (Rebalance.Claim _)) l x k = k
 balancing_puts (Activity.Rebalance (Rebalance.Left _)) l x k = k
+balancing_puts (Activity.Rebalance (Rebalance.Freeze (Freeze.Pin i))) l x k = absurd k
 balancing_puts (Activity.Rebalance (Rebalance.Freeze _)) l x k = k
 balancing_puts (Activity.Rebalance (Rebalance.Gather _)) l x k = k
 balancing_puts (Activity.Rebalance (Rebalance.Seek _)) l x k = k
@@ -119,6 +134,8 @@ leave_cases answer.Spent c = saw (is_put c) refl
     saw true e = inr (e, inr refl)
     saw false e = inl (ap refusing e)
 leave_cases answer.Stopped c = inl refl
+leave_cases answer.Held c = inl refl
+leave_cases answer.NotPinned c = inl refl
 
 -- Seats that tidy.
 
@@ -142,6 +159,9 @@ put_refused (Del key) e a pairs (inl f) = subst (λ b. IsRefusal (Del key) (repl
 put_refused (Del key) e a pairs (inr f) = subst (λ b. IsRefusal (Del key) (reply_of b pairs)) (sym f) tt
 put_refused (Get key) e a pairs f = let x : false ≡ true = e in absurd (cc)
 put_refused (Scan from upto) e a pairs f = let x : false ≡ true = e in absurd (cc)
+put_refused Pin e a pairs f = let x : false ≡ true = e in absurd (cc)
+put_refused (ScanAt from upto) e a pairs f = let x : false ≡ true = e in absurd (cc)
+put_refused Unpin e a pairs f = let x : false ≡ true = e in absurd (cc)
 
 -- a seat that leaves ends its call with this answer
 module _ (z : Sizes) (r r' : Run) (s : ℕ) (choice : Choice) (l l' : Local) (a : Activity) (h : Happens z r r' s choice l l' a) (v : Inv z r) (b : Answer) (e : a ≡ Activity.Leave b) where

@@ -41,6 +41,8 @@ no_rows_of answer.Pairs pairs e = let x : reply.Pairs pairs ≡ reply.NoRows = e
 no_rows_of answer.NoRows pairs e = refl
 no_rows_of answer.Spent pairs e = let x : reply.Spent ≡ reply.NoRows = e in absurd (cc)
 no_rows_of answer.Stopped pairs e = let x : reply.Stopped ≡ reply.NoRows = e in absurd (cc)
+no_rows_of answer.Held pairs e = let x : reply.Held ≡ reply.NoRows = e in absurd (cc)
+no_rows_of answer.NotPinned pairs e = let x : reply.NotPinned ≡ reply.NoRows = e in absurd (cc)
 
 module _ (z : Sizes) (r r' : Run) (s : ℕ) (choice : Choice) (l l' : Local) (a : Activity) (h : Happens z r r' s choice l l' a) (none : HasNoRefusal r.history) where
   -- where none was refused before, the seat of one that is refused now was about to leave

@@ -6,11 +6,13 @@ use Rattle.kw_words.specs.Link.{link_of}
 use Rattle.kw_words.specs.Plain.{value_of_word}
 use Rattle.kw_windows.specs.Builders.{Asking, Elsewhere}
 use Rattle.kw_world.specs.declared.activity.Activity.{Activity}
+use Rattle.kw_world.specs.declared.activity.enter.Enter.TheVariants as Enter
 use Rattle.kw_world.specs.declared.activity.look.Look.{Look}
 use Rattle.kw_world.specs.declared.activity.read.Read.{Read}
 use Rattle.kw_world.specs.declared.activity.rebalance.Rebalance.TheVariants as Rebalance
 use Rattle.kw_world.specs.declared.activity.rebalance.engage.Engage.{Engage}
 use Rattle.kw_world.specs.declared.activity.rebalance.freeze.Freeze.{Freeze}
+use Rattle.kw_world.specs.declared.activity.rebalance.freeze.Freeze.TheVariants as Freeze
 use Rattle.kw_world.specs.declared.activity.rebalance.gather.Gather.{Gather}
 use Rattle.kw_world.specs.declared.activity.rebalance.left.Left.TheVariants as Left
 use Rattle.kw_world.specs.declared.answer.Answer.{Answer}
@@ -26,9 +28,10 @@ use Rattle.kw_world.specs.Sizes.{Sizes}
 use Rattle.kw_world.specs.Transition.{row_linked, row_or_first}
 use Rattle.kw_core.specs.Stages.{IsAtRow, IsBalancing, is_put}
 use Rattle.kw_core.specs.Words.{Words, least_in, next_in}
-use Rattle.kw_core.proofs.Arrows.{Arrow, NextLeftOver, NextLook, announces_full, answers, builds, claims_not, clears_scan, clock_is_spent, decides, decides_not, ends_at_clock, ends_at_epoch, ends_at_head, ends_at_none, ends_at_state, ends_past, ends_scan, ends_unclaimed, ends_undecided, epoch_is_spent, finds_full, finds_other, finds_other_state, finds_stamped, first_ends, freezes_last, gathers_left_over, goes_to_left_over, head_follows, helps, is_gone_by, is_spent, keeps_no_more, key_above, leaves, left_over_gone_by, list_ends, lists, looks, marks_led, none_is_left, passes_left, reaches_leader, remembers_last, scans_on, sees_frozen_last, sees_neither, sees_stamped, stamps_full, takes_full, takes_leader, takes_no_more, tidies}
+use Rattle.kw_core.proofs.Arrows.{Arrow, NextLeftOver, NextLook, announces_full, answers, builds, claims_not, clears_scan, clock_is_spent, decides, decides_not, ends_at_clock, ends_at_epoch, ends_at_head, ends_at_none, ends_at_state, ends_past, ends_scan, ends_unclaimed, ends_undecided, epoch_is_spent, finds_full, finds_other, finds_other_state, finds_stamped, first_ends, freezes_last, gathers_left_over, goes_to_left_over, head_follows, helps, is_gone_by, is_spent, keeps_no_more, key_above, leaves, left_over_gone_by, list_ends, lists, looks, marks_led, none_is_left, passes_left, reaches_leader, remembers_last, scans_on, sees_frozen_last, sees_neither, sees_stamped, stamps_full, takes_full, takes_leader, takes_no_more, tidies, asks_of_pin, looks_at_pin}
 use Rattle.kw_core.proofs.Building.{Building, IsBuilding}
 use Rattle.kw_core.proofs.Grouping.{NextCounted, NextFrozen, NextGathered, claims_row, freezes_ahead, froze_all, gathered_all, gathers_ahead, goes_alone}
+use Rattle.kw_core.proofs.Pinning.{NextOfPin, NextPinLook, pins, is_held, reads_no_pin, reads_no_key, reads_at_pin, unpins, unpins_none, sees_pin, sees_pin_last, sees_no_pin, sees_no_pin_last}
 use Rattle.kw_shape.proofs.Comings.{IsGoingLeft}
 use Rattle.kw_laws.specs.Laws.{IsStated}
 use Rattle.kw_used.specs.Seats.{held_at, refusing, stage_at}
@@ -99,6 +102,21 @@ module _ (z : Sizes) (v : Words) (choice : Choice) (wins : ℕ) (begun : Option 
   counted_turns l m next e count c (claims_row r n o) = stays (ap Asking c) refl
   counted_turns l m next e count c (goes_alone n) = stays (ap Asking c) refl
 
+  of_pin_turns : (l next : Local) → NextOfPin l next → Turn z v choice wins begun l (Activity.Enter Enter.Announce) next
+  of_pin_turns l next (pins e f) = stays refl refl
+  of_pin_turns l next (is_held version e f) = stays refl refl
+  of_pin_turns l next (reads_no_pin from upto e f) = stays refl refl
+  of_pin_turns l next (reads_no_key from upto version e f g) = stays refl refl
+  of_pin_turns l next (reads_at_pin from upto version e f g) = stays refl refl
+  of_pin_turns l next (unpins version e f) = stays refl refl
+  of_pin_turns l next (unpins_none e f) = stays refl refl
+
+  pin_look_turns : (i w : ℕ) (l next : Local) → NextPinLook z i w l next → Turn z v choice wins begun l (Activity.Rebalance (Rebalance.Freeze (Freeze.Pin i))) next
+  pin_look_turns i w l next (sees_pin version e f) = stays refl refl
+  pin_look_turns i w l next (sees_pin_last version e f) = stays refl refl
+  pin_look_turns i w l next (sees_no_pin e f) = stays refl refl
+  pin_look_turns i w l next (sees_no_pin_last e f) = stays refl refl
+
   -- Each arrow.
   pub turn : (s : ℕ) (l : Local) (a : Activity) (k : Local) → Arrow z v s choice l a k → Turn z v choice wins begun l a k
   turn s l a k (is_spent o) = leaves_reading Spent tt refl refl refl
@@ -146,4 +164,6 @@ module _ (z : Sizes) (v : Words) (choice : Choice) (wins : ℕ) (begun : Option 
   turn s l a k (takes_no_more next e m n) = gathered_turns l l next _ refl n
   turn s l a k (keeps_no_more next m n) = gathered_turns l (keeping z (value_of_word (v (name.Value l.rebalance.hand l.place))) l) next _ refl n
   turn s l a k (builds b next y t) = goes_on y t
+  turn s l a k (asks_of_pin next o n) = of_pin_turns l next n
+  turn s l a k (looks_at_pin i next n) = pin_look_turns i _ l next n
   turn s l a k _ = stays refl refl
