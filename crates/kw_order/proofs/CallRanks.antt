@@ -2,13 +2,12 @@
 use Rattle.std.proofs.Common.{ℕ, ◌≡◌, ◌+◌, ◌<◌, ◌≤◌, ◌⊎◌, inl, inr, List, Option, Some, None, arith, refl, sym, ap, subst, length, get_or, IfSome}
 use Rattle.std.proofs.lemmas.Option.{same_Some, slice_get_within}
 use Rattle.kw_core.specs.History.{History, attempt, called, Call, Put, Del, Get, Scan, Reply, Done, Value, Absent, Pairs, NoRows, Spent, Stopped}
-use Rattle.kw_core.specs.declared.history.Drawn.{Drawn}
 use Rattle.kw_core.specs.declared.history.CallLog.{CallLog}
 use Rattle.kw_core.specs.HistoryLaws.{HistoryLaws, IsPut, IsGapOf, EndsWith, Answers, shows, Got}
 use Rattle.kw_core.proofs.Attempts.{called_read}
-use Rattle.kw_order.specs.Order.{IsPoint, Serves, IsGap, Rank, IsPlaced, HasRank, behind, at_first, of_scan, of_refused}
+use Rattle.kw_order.specs.Order.{IsPoint, Serves, IsGap, Rank, IsPlaced, HasRank, behind, at_first, of_scan, of_first}
 use Rattle.kw_order.specs.Puts.{HasGap}
-use Rattle.kw_order.specs.Points.{IsRankBehind, rank_at}
+use Rattle.kw_order.specs.Points.{IsRankBehind, drawn_by, rank_at, rank_at_draw}
 use Rattle.kw_order.proofs.PutPoints.{point_unique}
 use Rattle.kw_order.proofs.Keys.{point_of}
 use Rattle.kw_order.proofs.Gaps.{get_clears, serves_from}
@@ -72,9 +71,7 @@ value_rank h l x at v r e n b = which (called h x).call refl (answers_of h l x a
   where
     which : (c : Call) → (called h x).call ≡ c → Answers c None (Value v) → HasRank h x r
     which (Get key) f a = gap_rank h l x key at (Value v) (called h x).answer r (f, e.1) refl (value_put h l x key at v (f, e.1)) b
-    which (Put k w) f a = absurd a
-    which (Del k) f a = absurd a
-    which (Scan from to) f a = absurd a
+    which _ f a = absurd a
 
 -- and the put that it answered is one
 pub value_answered : (h : History) → HistoryLaws h → (x at v : ℕ) → EndsWith h x (called h x).call at (Value v) → (called h x).put ≡ None → IfSome (called h x).answer (IsPut h)
@@ -82,9 +79,7 @@ value_answered h l x at v e n = which (called h x).call refl (answers_of h l x a
   where
     which : (c : Call) → (called h x).call ≡ c → Answers c None (Value v) → IfSome (called h x).answer (IsPut h)
     which (Get key) f a = value_put h l x key at v (f, e.1)
-    which (Put k w) f a = absurd a
-    which (Del k) f a = absurd a
-    which (Scan from to) f a = absurd a
+    which _ f a = absurd a
 
 -- nothing, as a get
 pub absent_is_get : (h : History) → HistoryLaws h → (x at : ℕ) → EndsWith h x (called h x).call at Absent → (called h x).put ≡ None → (key : ℕ) × ((called h x).call ≡ Get key)
@@ -92,48 +87,29 @@ absent_is_get h l x at e n = which (called h x).call refl (answers_of h l x at A
   where
     which : (c : Call) → (called h x).call ≡ c → Answers c None Absent → (key : ℕ) × ((called h x).call ≡ Get key)
     which (Get key) f a = (key, f)
-    which (Put k w) f a = absurd a
-    which (Del k) f a = absurd a
-    which (Scan from to) f a = absurd a
+    which _ f a = absurd a
 
--- pairs, as a scan
-pub pairs_drawn : (h : History) → HistoryLaws h → (x at : ℕ) (ps : List (ℕ × ℕ)) → EndsWith h x (called h x).call at (Pairs ps) → (called h x).put ≡ None → (d : Drawn) × ((called h x).draw ≡ Some d)
-pairs_drawn h l x at ps e n = which (called h x).call refl (answers_of h l x at (Pairs ps) e n)
+-- any other call, by what it asked and its reply
+pub other_rank : (h : History) → HistoryLaws h → (x at : ℕ) (reply : Reply) → EndsWith h x (called h x).call at reply → (called h x).put ≡ None → ((v : ℕ) → reply ≡ Value v → ⊥) → (reply ≡ Absent → ⊥) →
+    HasRank h x (rank_at_draw (called h x).first (drawn_by (called h x).call reply (called h x).draw))
+other_rank h l x at reply e n v a = which (called h x).call reply e (answers_of h l x at reply e n) v a
   where
-    which : (c : Call) → (called h x).call ≡ c → Answers c None (Pairs ps) → (d : Drawn) × ((called h x).draw ≡ Some d)
-    which (Scan from to) f a = let s = l.scanned x from to at ps (f, e.1) in (s.draw, s.drawn)
-    which (Put k w) f a = absurd a
-    which (Del k) f a = absurd a
-    which (Get k) f a = absurd a
+    never : (r : Rank) → (q : ℕ) × (None ≡ Some q) → HasRank h x r
+    never r (q, z) = let y : None ≡ Some q = z in absurd (cc)
 
--- its rank
-pub pairs_rank : (h : History) → HistoryLaws h → (x at : ℕ) (ps : List (ℕ × ℕ)) (d : Drawn) → EndsWith h x (called h x).call at (Pairs ps) → (called h x).put ≡ None → (called h x).draw ≡ Some d → HasRank h x (record { at = d.at; add = 0; tail = (called h x).first + 1 })
-pairs_rank h l x at ps d e n w = which (called h x).call refl (answers_of h l x at (Pairs ps) e n)
-  where
-    which : (c : Call) → (called h x).call ≡ c → Answers c None (Pairs ps) → HasRank h x (record { at = d.at; add = 0; tail = (called h x).first + 1 })
-    which (Scan from to) f a = of_scan from to at ps d (f, e.1) w
-    which (Put k v) f a = absurd a
-    which (Del k) f a = absurd a
-    which (Get k) f a = absurd a
-
--- and a refusal
-pub other_rank : (h : History) → HistoryLaws h → (x at : ℕ) (reply : Reply) → EndsWith h x (called h x).call at reply → (called h x).put ≡ None → ((v : ℕ) → reply ≡ Value v → ⊥) → (reply ≡ Absent → ⊥) → ((ps : List (ℕ × ℕ)) → reply ≡ Pairs ps → ⊥) → HasRank h x (rank_at (called h x).first)
-other_rank h l x at Done e n v a p = which (called h x).call (answers_of h l x at Done e n)
-  where
-    never : (q : ℕ) × (None ≡ Some q) → HasRank h x (rank_at (called h x).first)
-    never (q, z) = let y : None ≡ Some q = z in absurd (cc)
-
-    which : (c : Call) → Answers c None Done → HasRank h x (rank_at (called h x).first)
-    which (Put k w) z = never z
-    which (Del k) z = never z
-    which (Get k) z = absurd z
-    which (Scan from to) z = absurd z
-other_rank h l x at (Value u) e n v a p = absurd (v u refl)
-other_rank h l x at Absent e n v a p = absurd (a refl)
-other_rank h l x at (Pairs ps) e n v a p = absurd (p ps refl)
-other_rank h l x at NoRows e n v a p = of_refused (called h x).call at NoRows e tt
-other_rank h l x at Spent e n v a p = of_refused (called h x).call at Spent e tt
-other_rank h l x at Stopped e n v a p = of_refused (called h x).call at Stopped e tt
+    which : (c : Call) (r : Reply) → EndsWith h x c at r → Answers c None r → ((v : ℕ) → r ≡ Value v → ⊥) → (r ≡ Absent → ⊥) → HasRank h x (rank_at_draw (called h x).first (drawn_by c r (called h x).draw))
+    which (Scan from to) (Pairs ps) f z v a = let s = l.scanned x from to at ps f in subst (λ d. HasRank h x (rank_at_draw (called h x).first d)) (sym s.drawn) (of_scan from to at ps s.draw f s.drawn)
+    which (Put k w) Done f z v a = never (rank_at (called h x).first) z
+    which (Del k) Done f z v a = never (rank_at (called h x).first) z
+    which (Get k) (Value u) f z v a = absurd (v u refl)
+    which (Get k) Absent f z v a = absurd (a refl)
+    which (Put k w) NoRows f z v a = of_first (Put k w) at NoRows f tt
+    which (Put k w) Spent f z v a = of_first (Put k w) at Spent f tt
+    which (Del k) NoRows f z v a = of_first (Del k) at NoRows f tt
+    which (Del k) Spent f z v a = of_first (Del k) at Spent f tt
+    which (Scan from to) Spent f z v a = of_first (Scan from to) at Spent f tt
+    which (Scan from to) Stopped f z v a = of_first (Scan from to) at Stopped f tt
+    which _ _ f z v a = absurd z
 
 -- what the code reads at a place of the list of calls
 pub read_called : (h : History) (list : List CallLog) (x : ℕ) (c : CallLog) → list ≡ h.calls → c ≡ get_or list x c → x < length h.calls → c ≡ called h x

@@ -2,7 +2,7 @@
 use Rattle.std.proofs.Common.{ℕ, ◌≡◌, ◌≢◌, ◌<◌, ◌≤◌, ◌⊎◌, inl, inr, Option, Some, None, arith, sym, ◌∙◌, ap, subst, length, refl}
 use Rattle.std.proofs.lemmas.Bool.{cases_lt}
 use Rattle.std.proofs.lemmas.List.{get_or_past}
-use Rattle.kw_core.specs.History.{History, attempt, called, no_call, Get, Scan, Reply, Done, Value, Absent, Pairs, NoRows, Spent, Stopped, Stands}
+use Rattle.kw_core.specs.History.{History, attempt, called, no_call, Get, Scan, Pin, ScanAt, Unpin, Reply, Done, Value, Absent, Pairs, NoRows, Spent, Stopped, Held, NotPinned, Stands}
 use Rattle.kw_core.specs.declared.history.CallLog.{CallLog}
 use Rattle.kw_core.specs.declared.history.End.{End}
 use Rattle.kw_words.specs.declared.kind.Kind.TheVariants.{LoadEpoch}
@@ -32,6 +32,17 @@ get_no_put h l x p key c e = let m = call_makes h l x p e in subst (λ q. Makes 
 -- and a scan
 pub scan_no_put : (h : History) → HistoryLaws h → (x p from to : ℕ) → (called h x).call ≡ Scan from to → (called h x).put ≡ Some p → ⊥
 scan_no_put h l x p from to c e = let m = call_makes h l x p e in subst (λ q. Makes q (attempt h p).key (attempt h p).value) c m
+
+-- and a pin
+pub pin_no_put : (h : History) → HistoryLaws h → (x p : ℕ) → (called h x).call ≡ Pin → (called h x).put ≡ Some p → ⊥
+pin_no_put h l x p c e = let m = call_makes h l x p e in subst (λ q. Makes q (attempt h p).key (attempt h p).value) c m
+
+-- nor has a scan of a snapshot, or an unpin
+pub snapshot_no_put : (h : History) → HistoryLaws h → (x p from to : ℕ) → (called h x).call ≡ ScanAt from to → (called h x).put ≡ Some p → ⊥
+snapshot_no_put h l x p from to c e = let m = call_makes h l x p e in subst (λ q. Makes q (attempt h p).key (attempt h p).value) c m
+
+pub unpin_no_put : (h : History) → HistoryLaws h → (x p : ℕ) → (called h x).call ≡ Unpin → (called h x).put ≡ Some p → ⊥
+unpin_no_put h l x p c e = let m = call_makes h l x p e in subst (λ q. Makes q (attempt h p).key (attempt h p).value) c m
 
 -- the point of a put is not the first event of a call
 pub point_not_first : (h : History) → HistoryLaws h → (p a x : ℕ) (e : End) → IsPut h p → IsPoint h p a → (called h x).end ≡ Some e → a ≢ (called h x).first
@@ -108,3 +119,5 @@ gap_facts h l x key at (Pairs ps) g e i = absurd i
 gap_facts h l x key at NoRows g e i = absurd i
 gap_facts h l x key at Spent g e i = absurd i
 gap_facts h l x key at Stopped g e i = absurd i
+gap_facts h l x key at Held g e i = absurd i
+gap_facts h l x key at NotPinned g e i = absurd i

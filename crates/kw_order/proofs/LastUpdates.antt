@@ -1,6 +1,6 @@
 -- The last update before a place.
 use Rattle.std.proofs.Common.{ℕ, ◌≡◌, ◌⊎◌, inl, inr, Option, Some, None, sym, ◌∙◌, ap, subst, refl}
-use Rattle.kw_core.specs.History.{History, attempt, called, Call, Put, Del, Get, Scan}
+use Rattle.kw_core.specs.History.{History, attempt, called, Call, Put, Del, Get, Scan, Pin, ScanAt, Unpin}
 use Rattle.kw_core.specs.HistoryLaws.{StandsUpTo, IsGapOf, HistoryLaws, Makes, shows}
 use Rattle.kw_order.specs.Order.{IsPoint, Rank, Below, HasRank, of_put, put_rank, Separates, Updates, LastBelow, written, written_by}
 use Rattle.kw_order.proofs.Keys.{cases_upto, point_of}
@@ -14,6 +14,9 @@ makes_written (Put key value) k v m = sym m.1
 makes_written (Del key) k v m = sym m.1
 makes_written (Get key) k v m = absurd m
 makes_written (Scan from to) k v m = absurd m
+makes_written Pin k v m = absurd m
+makes_written (ScanAt from to) k v m = absurd m
+makes_written Unpin k v m = absurd m
 
 -- the rank of an update
 update_rank : (h : History) → HistoryLaws h → (k z : ℕ) (s : Rank) (u : Updates h k z) → HasRank h z s → (b : ℕ) × IsPoint h u.put b × (put_rank h u.put b ≡ s)

@@ -9,12 +9,12 @@ use Rattle.kw_model.specs.Legal.{may_refuse, is_update, shown}
 use Rattle.kw_model.proofs.Pairs.{lower}
 use Rattle.kw_order.specs.Served as served
 use Rattle.kw_order.proofs.Legality.{legal_from}
-use Rattle.kw_core.specs.History.{History, attempt, called, Call, Put, Del, Get, Scan, Reply, Done, Pairs, NoRows, Spent, Stopped}
+use Rattle.kw_core.specs.History.{History, attempt, called, Call, Put, Del, Get, Scan, Pin, ScanAt, Unpin, Reply, Done, Pairs, NoRows, Spent, Stopped}
 use Rattle.kw_core.specs.declared.history.End.{End}
 use Rattle.kw_core.specs.HistoryLaws.{HistoryLaws, Makes, Answers, EndsWith, RisesWithin, answer_of}
 use Rattle.kw_order.specs.Order.{Rank, Below, HasRank, IsPlaced, IsOrder, Updates, LastBelow, written, written_by}
 use Rattle.kw_order.specs.OrderLaws.{OrderLaws}
-use Rattle.kw_order.specs.Legal.{reply_or_done, reply_of, call_of, IsLegalOrder}
+use Rattle.kw_order.specs.Legal.{reply_or_done, reply_of, call_of, seat_of, IsLegalOrder}
 use Rattle.kw_order.proofs.Calls.{call_makes, get_no_put, scan_no_put}
 use Rattle.kw_order.proofs.Ranks.{below_not_above, below_chain}
 use Rattle.kw_order.proofs.OrderProofs.{order_has_laws}
@@ -33,6 +33,9 @@ written_is (Put k v) = refl
 written_is (Del k) = refl
 written_is (Get k) = refl
 written_is (Scan a b) = refl
+written_is Pin = refl
+written_is (ScanAt a b) = refl
+written_is Unpin = refl
 
 -- what a get answers
 answer_is : (v : Option ℕ) → answer_of v ≡ found v
@@ -66,6 +69,9 @@ has_update (Del q) k put Spent u a = absurd (false≢true u)
 has_update (Del q) k put _ u a = absurd a
 has_update (Get q) k put r u a = absurd (false≢true u)
 has_update (Scan a b) k put r u an = absurd (never (not (may_refuse (Scan a b) r)) u)
+has_update Pin k put r u an = absurd an
+has_update (ScanAt a b) k put r u an = absurd an
+has_update Unpin k put r u an = absurd an
 
 -- the key of an update
 key_of_update : (c : Call) (k key : ℕ) (v : Option ℕ) (r : Reply) → is_update k c r ≡ true → Makes c key v → key ≡ k
@@ -73,6 +79,9 @@ key_of_update (Put q w) k key v r u m = let e : key ≡ q = m.0 in grind (arith,
 key_of_update (Del q) k key v r u m = let e : key ≡ q = m.0 in grind (arith, nat_tests)
 key_of_update (Get q) k key v r u m = absurd m
 key_of_update (Scan a b) k key v r u m = absurd m
+key_of_update Pin k key v r u m = absurd m
+key_of_update (ScanAt a b) k key v r u m = absurd m
+key_of_update Unpin k key v r u m = absurd m
 
 -- a call with a put was not refused, and updates the key of the put
 makes_update : (c : Call) (k key : ℕ) (v : Option ℕ) (p : ℕ) (put : Option ℕ) (e : Option End) → put ≡ Some p → ((f : End) → e ≡ Some f → Answers c put f.reply) → Makes c key v → key ≡ k → is_update k c (reply_or_done e) ≡ true
@@ -94,6 +103,9 @@ makes_update (Del q) k key v p put (Some f) i a m s = at f.reply (a f refl)
     at _ an = absurd an
 makes_update (Get q) k key v p put e i a m s = absurd m
 makes_update (Scan b d) k key v p put e i a m s = absurd m
+makes_update Pin k key v p put e i a m s = absurd m
+makes_update (ScanAt b d) k key v p put e i a m s = absurd m
+makes_update Unpin k key v p put e i a m s = absurd m
 
 -- what is not nothing is something
 some_from : (o : Option ℕ) → o ≢ None → (p : ℕ) × (o ≡ Some p)
@@ -132,7 +144,7 @@ module _ (h : History) (l : HistoryLaws h) (xs : List ℕ) (o : IsOrder h xs) wh
   earlier_chain x y z e f = record { low = e.low; high = f.high; is_low = e.is_low; is_high = f.is_high; below = below_chain e.low e.high f.high e.below (below_between y z e.high f.high e.is_high f.is_high f) }
 
   -- members, by place
-  place : (x : ℕ) → Contains xs x → IsPlaced h x
+  pub place : (x : ℕ) → Contains xs x → IsPlaced h x
   place x c = o.placed c.0 x (slice_get-get_or xs c.0 x c.1 ∙ ap Some c.2)
 
   -- a call that has a place is in the order
@@ -174,7 +186,7 @@ module _ (h : History) (l : HistoryLaws h) (xs : List ℕ) (o : IsOrder h xs) wh
 
   -- the last update before x
   abbrev IsLast : ℕ → ℕ → Option ℕ → Type 0
-  IsLast k x y = served.IsLastUpdate (call_of h) (reply_of h) (Earlier h) xs k x y
+  IsLast k x y = served.IsLastUpdate (seat_of h) (call_of h) (reply_of h) (Earlier h) xs k x y
 
   -- is the last below its rank
   last_from : (k x : ℕ) (rank : Rank) (y : Option ℕ) → HasRank h x rank → LastBelow h k rank y → IsLast k x y
@@ -191,12 +203,12 @@ module _ (h : History) (l : HistoryLaws h) (xs : List ℕ) (o : IsOrder h xs) wh
       which q s r (inr w) = inr (record { low = s; high = b.rank; is_low = r; is_high = b.has_rank; below = w })
 
   -- what it writes
-  writes : (y : Option ℕ) → written_by h y ≡ served.shows (call_of h) (reply_of h) (Earlier h) y
+  writes : (y : Option ℕ) → written_by h y ≡ served.shows (seat_of h) (call_of h) (reply_of h) (Earlier h) y
   writes None = refl
   writes (Some y) = written_is (called h y).call
 
   -- a scan that ended
-  ended_scan : (x : ℕ) → Contains xs x → (a b : ℕ) → (called h x).call ≡ Scan a b → (f : End) → (called h x).end ≡ Some f → (r : Reply) → f.reply ≡ r → Answers (Scan a b) (called h x).put r → served.IsServedAt (call_of h) (reply_of h) (Earlier h) xs x (Scan a b)
+  ended_scan : (x : ℕ) → Contains xs x → (a b : ℕ) → (called h x).call ≡ Scan a b → (f : End) → (called h x).end ≡ Some f → (r : Reply) → f.reply ≡ r → Answers (Scan a b) (called h x).put r → served.IsServedAt (seat_of h) (call_of h) (reply_of h) (Earlier h) xs x (Scan a b)
   ended_scan x c a b e f s (Pairs ps) q an =
       let rank = laws.ranked x (place x c) in
       let ends : EndsWith h x (Scan a b) f.at (Pairs ps) = (e, s ∙ ap (λ r. Some (record { at = f.at; reply = r })) q) in
@@ -213,7 +225,7 @@ module _ (h : History) (l : HistoryLaws h) (xs : List ℕ) (o : IsOrder h xs) wh
   ended_scan x c a b e f s _ q an = absurd an
 
   -- a call that ended
-  ended : (x : ℕ) → Contains xs x → (w : Call) → (called h x).call ≡ w → (f : End) → (called h x).end ≡ Some f → Answers w (called h x).put f.reply → served.IsServedAt (call_of h) (reply_of h) (Earlier h) xs x w
+  ended : (x : ℕ) → Contains xs x → (w : Call) → (called h x).call ≡ w → (f : End) → (called h x).end ≡ Some f → Answers w (called h x).put f.reply → served.IsServedAt (seat_of h) (call_of h) (reply_of h) (Earlier h) xs x w
   ended x c (Put k v) e f s a = rw (e, s) (put_reply k v (called h x).put f.reply a)
   ended x c (Del k) e f s a = rw (e, s) (delete_reply k (called h x).put f.reply a)
   ended x c (Get k) e f s a =
@@ -221,22 +233,32 @@ module _ (h : History) (l : HistoryLaws h) (xs : List ℕ) (o : IsOrder h xs) wh
       let g = laws.get_answers x k f.at f.reply rank.0 (e, s) rank.1 in
       (g.0, last_from k x rank.0 g.0 rank.1 g.1, ap reply_or_done s ∙ g.2 ∙ answer_is (written_by h g.0) ∙ ap found (writes g.0))
   ended x c (Scan a b) e f s an = ended_scan x c a b e f s f.reply refl an
+  ended x c Pin e f s an = absurd an
+  ended x c (ScanAt a b) e f s an = absurd an
+  ended x c Unpin e f s an = absurd an
+
+  -- a call that makes no put has none
+  none_made : (x p : ℕ) (w : Call) → (called h x).call ≡ w → (called h x).put ≡ Some p → ((k : ℕ) (v : Option ℕ) → Makes w k v → ⊥) → ⊥
+  none_made x p w e i n = n (attempt h p).key (attempt h p).value (subst (λ q. Makes q (attempt h p).key (attempt h p).value) e (call_makes h l x p i))
 
   -- a call that has not
-  not_ended : (x : ℕ) → Contains xs x → (w : Call) → (called h x).call ≡ w → (called h x).end ≡ None → served.IsServedAt (call_of h) (reply_of h) (Earlier h) xs x w
+  not_ended : (x : ℕ) → Contains xs x → (w : Call) → (called h x).call ≡ w → (called h x).end ≡ None → served.IsServedAt (seat_of h) (call_of h) (reply_of h) (Earlier h) xs x w
   not_ended x c (Put k v) e s = inr (ap reply_or_done s)
   not_ended x c (Del k) e s = inr (ap reply_or_done s)
   not_ended x c (Get k) e s = let p = unended x c s in absurd (get_no_put h l x p.0 k e p.1)
   not_ended x c (Scan a b) e s = let p = unended x c s in absurd (scan_no_put h l x p.0 a b e p.1)
+  not_ended x c Pin e s = let p = unended x c s in absurd (none_made x p.0 Pin e p.1 (λ k v m. m))
+  not_ended x c (ScanAt a b) e s = let p = unended x c s in absurd (none_made x p.0 (ScanAt a b) e p.1 (λ k v m. m))
+  not_ended x c Unpin e s = let p = unended x c s in absurd (none_made x p.0 Unpin e p.1 (λ k v m. m))
 
   -- each reply is served by the last updates before it
-  serve : (x : ℕ) → Contains xs x → served.IsServedAt (call_of h) (reply_of h) (Earlier h) xs x (call_of h x)
+  serve : (x : ℕ) → Contains xs x → served.IsServedAt (seat_of h) (call_of h) (reply_of h) (Earlier h) xs x (call_of h x)
   serve x c = which (called h x).end refl
     where
-      which : (e : Option End) → (called h x).end ≡ e → served.IsServedAt (call_of h) (reply_of h) (Earlier h) xs x (called h x).call
+      which : (e : Option End) → (called h x).end ≡ e → served.IsServedAt (seat_of h) (call_of h) (reply_of h) (Earlier h) xs x (called h x).call
       which None s = not_ended x c (called h x).call refl s
       which (Some f) s = ended x c (called h x).call refl f s (l.ends x f s).1
 
   -- so the order is legal
   pub order_is_legal : IsLegalOrder h xs
-  order_is_legal = legal_from (call_of h) (reply_of h) (Earlier h) not_later earlier_chain xs in_order serve
+  order_is_legal = legal_from (seat_of h) (call_of h) (reply_of h) (Earlier h) not_later earlier_chain xs in_order serve

@@ -16,6 +16,7 @@ pub mod Among
 pub mod LastAmong
 pub mod Legality
 pub mod LegalOrder
+pub mod MapOrders
 pub mod PutLists
 pub mod GapLists
 pub mod Lexicographic

@@ -6,10 +6,10 @@ use Rattle.std.proofs.lemmas.Bool.{cases_lt, cases_eq}
 use Rattle.std.proofs.lemmas.Option.{slice_get_within, get_or_from_slice_get, slice_get-get_or}
 use Rattle.std.proofs.lemmas.List.{get_or_append_left, get_or_push, get_or-map, get_or_default, length-map}
 use Rattle.std.proofs.lemmas.List.Sorted.{All-permutation, Contains-permutation}
-use Rattle.kw_core.specs.History.{History}
+use Rattle.kw_core.specs.History.{History, Done}
 use Rattle.kw_core.specs.HistoryLaws.{HistoryLaws}
 use Rattle.kw_order.specs.declared.rank.RankedCall.{RankedCall}
-use Rattle.kw_order.specs.Order.{Rank, Below, HasRank, of_put, behind, at_first, of_scan, of_refused, IsPlaced}
+use Rattle.kw_order.specs.Order.{Rank, Below, HasRank, of_put, behind, at_first, of_scan, of_pin, of_first, IsPlaced}
 use Rattle.kw_order.specs.declared.points.Point.{Point}
 use Rattle.kw_order.specs.Points.{places, AreRanked, ranked_at, IsRanked, AreRankedBelow, name_of, point_from, IsPointOf, ArePoints, AreNames}
 use Rattle.kw_order.proofs.Ranks.{ranks_differ}
@@ -24,7 +24,8 @@ rank_placed h x r (of_put p a e i) = inr (λ n. let z : Some p ≡ None = sym e 
 rank_placed h x r (behind key at reply p a e g i y) = inl (λ n. let z : Some (record { at = at; reply = reply }) ≡ None = sym e.1 ∙ n in cc)
 rank_placed h x r (at_first key at reply o e g y) = inl (λ n. let z : Some (record { at = at; reply = reply }) ≡ None = sym e.1 ∙ n in cc)
 rank_placed h x r (of_scan from to at pairs d e g) = inl (λ n. let z = sym e.1 ∙ n in cc)
-rank_placed h x r (of_refused c at reply e i) = inl (λ n. let z : Some (record { at = at; reply = reply }) ≡ None = sym e.1 ∙ n in cc)
+rank_placed h x r (of_pin at d e g) = inl (λ n. let z : Some (record { at = at; reply = Done }) ≡ None = sym e.1 ∙ n in cc)
+rank_placed h x r (of_first c at reply e i) = inl (λ n. let z : Some (record { at = at; reply = reply }) ≡ None = sym e.1 ∙ n in cc)
 
 -- one more call is ranked
 pub ranked_more : (h : History) (ranked : List RankedCall) (n : ℕ) (one : RankedCall) → AreRankedBelow h ranked n → HasRank h one.call one.rank → one.call ≡ n → AreRankedBelow h (ranked ++ one ∷ []) (n + 1)

@@ -6,7 +6,7 @@ use Rattle.kw_core.specs.History.{History, attempt, called, Call, Put, Del, Get,
 use Rattle.kw_core.specs.declared.history.End.{End}
 use Rattle.kw_core.specs.declared.history.Drawn.{Drawn}
 use Rattle.kw_core.specs.HistoryLaws.{IsPut, StandsBefore, shows, IsGapOf, HistoryLaws, EndsWith, Answers}
-use Rattle.kw_order.specs.Order.{IsPoint, IsGap, Rank, Below, HasRank, of_put, behind, at_first, of_scan, of_refused, put_rank, IsPlaced, Inside}
+use Rattle.kw_order.specs.Order.{IsPoint, IsGap, Rank, Below, HasRank, of_put, behind, at_first, of_scan, of_pin, of_first, put_rank, IsPlaced, Inside}
 use Rattle.kw_order.proofs.PutPoints.{times, point_order, point_placed, point_unique}
 use Rattle.kw_order.proofs.Keys.{StandsAtMost, upto_from, before_cases, point_of, same_add}
 use Rattle.kw_order.proofs.Gaps.{serves_from, first_gap}
@@ -44,7 +44,8 @@ rank_inside h l x r (of_scan from to at pairs d e g) =
       first = omega (arith, c.first, s);
       end = λ f w. let z = same_Some _ _ (sym e.1 ∙ w) in omega (arith, c.before_end, s, ap (λ (q : End). q.at) z);
     }
-rank_inside h l x r (of_refused call at reply e i) = record { first = omega arith; end = λ d w. omega (arith, (l.ends x d w).0) }
+rank_inside h l x r (of_pin at d e g) = absurd (subst (λ c. Answers c (called h x).put Done) e.0 (l.ends x _ e.1).1)
+rank_inside h l x r (of_first call at reply e i) = record { first = omega arith; end = λ d w. omega (arith, (l.ends x d w).0) }
 
 -- a rank is of a put, or of no other call with this first event
 pub data TailOf (h : History) (x : ℕ) (r : Rank) : Type 0 where
@@ -57,7 +58,8 @@ tail_of h x r (of_put p a e i) = put_tail p e refl refl
 tail_of h x r (behind key at reply p a e g i y) = first_tail (ended_within h x _ e.1) refl
 tail_of h x r (at_first key at reply o e g y) = first_tail (ended_within h x _ e.1) refl
 tail_of h x r (of_scan from to at pairs d e g) = first_tail (ended_within h x _ e.1) refl
-tail_of h x r (of_refused call at reply e i) = first_tail (ended_within h x _ e.1) refl
+tail_of h x r (of_pin at d e g) = first_tail (ended_within h x _ e.1) refl
+tail_of h x r (of_first call at reply e i) = first_tail (ended_within h x _ e.1) refl
 
 -- ranks differ
 pub ranks_differ : (h : History) → HistoryLaws h → (x y : ℕ) (r s : Rank) → HasRank h x r → HasRank h y s → r.add ≡ s.add → r.tail ≡ s.tail → x ≡ y
@@ -145,9 +147,9 @@ ended_ranked h l x at (Get k) Absent e a =
     let m = first_gap h l k (called h x).first g.gap (serves_from h k (called h x).first g.gap f.gap (absent_shows (shows h g.gap) f.reply) f.clears) in
     get_ranked h x k at Absent m.0 e m.1 m.1.serves.gap
 ended_ranked h l x at (Scan from to) (Pairs ps) e a = let s = l.scanned x from to at ps e in (_, of_scan from to at ps s.draw e s.drawn)
-ended_ranked h l x at c NoRows e a = (_, of_refused c at NoRows e tt)
-ended_ranked h l x at c Spent e a = (_, of_refused c at Spent e tt)
-ended_ranked h l x at c Stopped e a = (_, of_refused c at Stopped e tt)
+ended_ranked h l x at c NoRows e a = (_, of_first c at NoRows e tt)
+ended_ranked h l x at c Spent e a = (_, of_first c at Spent e tt)
+ended_ranked h l x at c Stopped e a = (_, of_first c at Stopped e tt)
 ended_ranked h l x at _ _ e a = absurd a
 
 -- each placed call has a rank

@@ -3,11 +3,11 @@ use Rattle.kw_model.specs.Map.{value_of}
 use Rattle.std.proofs.Common.{ℕ, ◌≡◌, ◌+◌, ◌<◌, ◌≤◌, ◌⊎◌, inl, inr, List, Option, Some, None, true, false, arith, sym, ◌∙◌, ap, subst, refl}
 use Rattle.std.proofs.lemmas.Bool.{cases_lt}
 use Rattle.std.proofs.lemmas.Option.{same_Some}
-use Rattle.kw_core.specs.History.{History, attempt, called, Get, Scan, Reply, Pairs, NoRows, Spent, Stopped}
+use Rattle.kw_core.specs.History.{History, attempt, called, Call, Get, Scan, Pin, Reply, Pairs, NoRows, Spent, Stopped}
 use Rattle.kw_core.specs.declared.history.End.{End}
 use Rattle.kw_core.specs.declared.history.Drawn.{Drawn}
 use Rattle.kw_core.specs.HistoryLaws.{IsPutOf, StandsBefore, StandsUpTo, shows, IsGapOf, HasVersionUpTo, HistoryLaws, EndsWith, Scanned, ScanKey, Attempted, DrawLogged, answer_of, Answers}
-use Rattle.kw_order.specs.Order.{IsPoint, IsGap, Rank, Below, HasRank, of_put, behind, at_first, of_scan, of_refused, IsRefused, put_rank, Separates, IsTop}
+use Rattle.kw_order.specs.Order.{IsPoint, IsGap, Rank, Below, HasRank, of_put, behind, at_first, of_scan, of_pin, of_first, StandsFirst, put_rank, Separates, IsTop}
 use Rattle.kw_order.proofs.PutPoints.{times, point_order, draw_above, draw_below, load_before_draw}
 use Rattle.kw_order.proofs.Keys.{StandsAtMost, upto_gives, past_gap, point_of}
 use Rattle.kw_order.proofs.Calls.{get_no_put, scan_no_put, point_not_first, point_at_most, GapFacts, gap_facts}
@@ -18,14 +18,20 @@ same_get h x key key' at at' r r' e f = let c : Get key' ≡ Get key = sym f.0 �
     let g = same_Some _ _ (sym f.1 ∙ e.1) in (cc, ap (λ (q : End). q.at) g, ap (λ (q : End). q.reply) g)
 
 -- and was not refused
-pub get_not_refused : (h : History) → HistoryLaws h → (x key at : ℕ) (r : Reply) → EndsWith h x (Get key) at r → IsRefused r → ⊥
-get_not_refused h l x key at r e i = which r i (subst (λ c. Answers c (called h x).put r) e.0 (l.ends x _ e.1).1)
+pub get_not_first : (h : History) → HistoryLaws h → (x key at : ℕ) (r : Reply) → EndsWith h x (Get key) at r → StandsFirst (Get key) r → ⊥
+get_not_first h l x key at r e i = which r i (subst (λ c. Answers c (called h x).put r) e.0 (l.ends x _ e.1).1)
   where
-    which : (r : Reply) → IsRefused r → Answers (Get key) (called h x).put r → ⊥
+    which : (r : Reply) → StandsFirst (Get key) r → Answers (Get key) (called h x).put r → ⊥
     which NoRows i a = a
     which Spent i a = a
     which Stopped i a = a
     which _ i a = i
+
+-- a call ended once, so it stands at its first event by any of its ends
+pub first_moved : (h : History) (x at at' : ℕ) (c c' : Call) (r r' : Reply) → EndsWith h x c at r → EndsWith h x c' at' r' → StandsFirst c r → StandsFirst c' r'
+first_moved h x at at' c c' r r' e f i =
+    let s = same_Some _ _ (sym e.1 ∙ f.1) in
+    subst (λ q. StandsFirst q r') (sym e.0 ∙ f.0) (subst (StandsFirst c) (ap (λ (q : End). q.reply) s) i)
 
 -- ranks that rise by their second part, and by their third
 pub rises_by_add : (a b m n t u : ℕ) → a ≤ b → m < n → Below (record { at = a; add = m; tail = t }) (record { at = b; add = n; tail = u })
@@ -90,8 +96,8 @@ get_separates h l x key at reply r e (at_first key' at' reply' o f g y) =
     let k = gap_facts h l x key at reply o e g' in
     (o, g', k.gap, k.reply, first_separates h l x key at reply o e k y)
 get_separates h l x key at reply r e (of_scan from to at' pairs d f g) = let c : Get key ≡ Scan from to = sym e.0 ∙ f.0 in cc
-get_separates h l x key at reply r e (of_refused call at' reply' f i) =
-    let s = same_Some _ _ (sym f.1 ∙ e.1) in absurd (get_not_refused h l x key at reply e (subst IsRefused (ap (λ (q : End). q.reply) s) i))
+get_separates h l x key at reply r e (of_pin at' d f g) = let c : Get key ≡ Pin = sym e.0 ∙ f.0 in cc
+get_separates h l x key at reply r e (of_first call at' reply' f i) = absurd (get_not_first h l x key at reply e (first_moved h x at' at call (Get key) reply' reply f e i))
 
 -- a scan gives the values of the tops at its version
 pub scan_top : (h : History) → HistoryLaws h → (x from to at : ℕ) (pairs : List (ℕ × ℕ)) (d : Drawn) → EndsWith h x (Scan from to) at (Pairs pairs) → (called h x).draw ≡ Some d →
@@ -151,8 +157,8 @@ pub scan_separates : (h : History) → HistoryLaws h → (x from to at : ℕ) (p
 scan_separates h l x from to at pairs r e (of_put p a w i) key y z = absurd (scan_no_put h l x p from to e.0 w)
 scan_separates h l x from to at pairs r e (behind key' at' reply' p a f g i w) key y z = let c : Get key' ≡ Scan from to = sym f.0 ∙ e.0 in cc
 scan_separates h l x from to at pairs r e (at_first key' at' reply' o f g w) key y z = let c : Get key' ≡ Scan from to = sym f.0 ∙ e.0 in cc
-scan_separates h l x from to at pairs r e (of_refused call at' reply' f i) key y z =
-    let s = same_Some _ _ (sym f.1 ∙ e.1) in absurd (subst IsRefused (ap (λ (q : End). q.reply) s) i)
+scan_separates h l x from to at pairs r e (of_pin at' d f g) key y z = let c : Pin ≡ Scan from to = sym f.0 ∙ e.0 in cc
+scan_separates h l x from to at pairs r e (of_first call at' reply' f i) key y z = absurd (first_moved h x at' at call (Scan from to) reply' (Pairs pairs) f e i)
 scan_separates h l x from to at pairs r e (of_scan from' to' at' pairs' d f g) key y z =
     let k = scan_top h l x from to at pairs d e g key y z in
     (k.0, top_gap h key d.version k.0 k.1, k.2, top_separates h l key ((called h x).first + 1) d (l.drawn x d g) k.0 k.1)

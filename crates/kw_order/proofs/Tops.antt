@@ -5,7 +5,7 @@ use Rattle.std.proofs.lemmas.Bool.{cases_Bool}
 use Rattle.std.proofs.lemmas.Bool.Decides.{nat_tests}
 use Rattle.kw_core.specs.History.{History, attempt, called, Get, Reply}
 use Rattle.kw_core.specs.HistoryLaws.{IsPutOf, HistoryLaws, EndsWith, RisesWithin}
-use Rattle.kw_order.specs.Order.{IsPoint, IsGap, Rank, Below, HasRank, of_put, behind, at_first, of_scan, of_refused, put_rank}
+use Rattle.kw_order.specs.Order.{IsPoint, IsGap, Rank, Below, HasRank, of_put, behind, at_first, of_scan, of_pin, of_first, put_rank}
 use Rattle.kw_order.specs.OrderLaws.{IsGetBehind}
 use Rattle.kw_order.proofs.PutPoints.{times}
 use Rattle.kw_order.proofs.Keys.{same_add}
@@ -43,4 +43,5 @@ stands_directly h l x key at r p a e g i y z s (behind key' at' reply' q b f k j
     keys = sym n.key ∙ ap (λ n. (attempt h n).key) same ∙ m.key
 stands_directly h l x key at r p a e g i y z s (at_first key' at' reply' o f k w) u v = absurd (omega (arith, u, v, (times h l p (gap_facts h l x key at r (Some p) e g).gap.is_put).begun))
 stands_directly h l x key at r p a e g i y z s (of_scan from to at' pairs d f k) u v = absurd (omega (arith, u, v, (times h l p (gap_facts h l x key at r (Some p) e g).gap.is_put).begun))
-stands_directly h l x key at r p a e g i y z s (of_refused call at' reply' f k) u v = absurd (omega (arith, u, v, (times h l p (gap_facts h l x key at r (Some p) e g).gap.is_put).begun))
+stands_directly h l x key at r p a e g i y z s (of_pin at' d f k) u v = absurd (omega (arith, u, v, (times h l p (gap_facts h l x key at r (Some p) e g).gap.is_put).begun))
+stands_directly h l x key at r p a e g i y z s (of_first call at' reply' f k) u v = absurd (omega (arith, u, v, (times h l p (gap_facts h l x key at r (Some p) e g).gap.is_put).begun))

@@ -3,7 +3,7 @@ use Rattle.std.proofs.Common.{◌≡◌, ◌<◌, ◌++◌, ◌∷◌, [], List,
 use Rattle.std.proofs.lemmas.Bool.{and_from, lt-ltb}
 use Rattle.kw_words.specs.declared.sizes.TheConstants.{KEY_END, VALUE_END}
 use Rattle.kw_model.specs.declared.call.Call.{Call}
-use Rattle.kw_model.specs.declared.call.Call.TheVariants.{Put, Del, Get, Scan}
+use Rattle.kw_model.specs.declared.call.Call.TheVariants.{Put, Del, Get, Scan, Pin, ScanAt, Unpin}
 use Rattle.kw_world.specs.declared.event.Event.{Event}
 use Rattle.kw_world.specs.declared.activity.Activity.{Activity}
 use Rattle.kw_world.specs.declared.event.Choice.{Choice}
@@ -97,6 +97,9 @@ in_range (Put key value) h = and_from (nat_lt key KEY_END) _ (lt-ltb key KEY_END
 in_range (Del key) h = lt-ltb key KEY_END h
 in_range (Get key) h = lt-ltb key KEY_END h
 in_range (Scan from upto) h = and_from (nat_lt from KEY_END) _ (lt-ltb from KEY_END h.0) (lt-ltb upto KEY_END h.1)
+in_range Pin h = absurd h
+in_range (ScanAt from upto) h = absurd h
+in_range Unpin h = absurd h
 
 begins : (choice : Choice) (l : Local) → CanBegin choice l → may_begin l.activity choice ≡ true
 begins choice l h = which l.activity choice h

@@ -1,15 +1,14 @@
 -- A call has one rank.
 use Rattle.std.proofs.Common.{ℕ, ◌≡◌, ◌+◌, ◌<◌, ◌≤◌, ◌⊎◌, inl, inr, List, Option, Some, None, arith, sym, ◌∙◌, ap, subst, refl}
 use Rattle.std.proofs.lemmas.Option.{same_Some}
-use Rattle.kw_core.specs.History.{History, attempt, called, Call, Put, Del, Get, Scan, Reply, Value, Absent, Pairs, NoRows, Spent, Stopped}
-use Rattle.kw_core.specs.declared.history.End.{End}
+use Rattle.kw_core.specs.History.{History, attempt, called, Call, Put, Del, Get, Scan, Pin, ScanAt, Unpin, Reply, Done, Value, Absent, Pairs, NoRows, Spent, Stopped}
 use Rattle.kw_core.specs.declared.history.Drawn.{Drawn}
 use Rattle.kw_core.specs.HistoryLaws.{StandsBefore, HistoryLaws, EndsWith, Answers}
-use Rattle.kw_order.specs.Order.{IsPoint, IsGap, IsFirstGap, Rank, HasRank, of_put, behind, at_first, of_scan, of_refused, IsRefused, put_rank}
+use Rattle.kw_order.specs.Order.{IsPoint, IsGap, IsFirstGap, Rank, HasRank, of_put, behind, at_first, of_scan, of_pin, of_first, StandsFirst, put_rank}
 use Rattle.kw_order.proofs.PutPoints.{point_unique}
 use Rattle.kw_order.proofs.Keys.{StandsAtMost, before_cases, same_add}
-use Rattle.kw_order.proofs.Calls.{get_no_put, scan_no_put}
-use Rattle.kw_order.proofs.Separate.{same_get, get_not_refused}
+use Rattle.kw_order.proofs.Calls.{get_no_put, scan_no_put, pin_no_put, snapshot_no_put, unpin_no_put}
+use Rattle.kw_order.proofs.Separate.{same_get, get_not_first, first_moved}
 
 -- of two first gaps neither is before the other
 pub first_gap_unique : (h : History) → HistoryLaws h → (key f : ℕ) (g g' : Option ℕ) → IsFirstGap h key f g → IsFirstGap h key f g' → g ≡ g'
@@ -29,16 +28,19 @@ gap_unique h l x key (Value v) g g' a b = a ∙ sym b
 gap_unique h l x key Absent g g' a b = first_gap_unique h l key (called h x).first g g' a b
 gap_unique h l x key _ g g' a b = absurd a
 
--- a refused call has no put
-pub refused_no_put : (h : History) → HistoryLaws h → (x p at : ℕ) (c : Call) (r : Reply) → EndsWith h x c at r → IsRefused r → (called h x).put ≡ Some p → ⊥
-refused_no_put h l x p at c r e i w = which c r e.0 i (subst (λ q. Answers q (called h x).put r) e.0 (l.ends x _ e.1).1)
+-- a call that stands at its first event has no put
+pub first_no_put : (h : History) → HistoryLaws h → (x p at : ℕ) (c : Call) (r : Reply) → EndsWith h x c at r → StandsFirst c r → (called h x).put ≡ Some p → ⊥
+first_no_put h l x p at c r e i w = which c r e.0 i (subst (λ q. Answers q (called h x).put r) e.0 (l.ends x _ e.1).1)
   where
     none : (called h x).put ≡ None → ⊥
     none n = let y : None ≡ Some p = sym n ∙ w in cc
 
-    which : (c : Call) (r : Reply) → (called h x).call ≡ c → IsRefused r → Answers c (called h x).put r → ⊥
+    which : (c : Call) (r : Reply) → (called h x).call ≡ c → StandsFirst c r → Answers c (called h x).put r → ⊥
     which (Get k) r f i a = get_no_put h l x p k f w
     which (Scan from to) r f i a = scan_no_put h l x p from to f w
+    which Pin r f i a = pin_no_put h l x p f w
+    which (ScanAt from to) r f i a = snapshot_no_put h l x p from to f w
+    which Unpin r f i a = unpin_no_put h l x p f w
     which (Put k v) NoRows f i a = none a
     which (Put k v) Spent f i a = none a
     which (Del k) NoRows f i a = none a
@@ -56,7 +58,8 @@ put_unique h l x p a s e i (of_put q b f j) =
 put_unique h l x p a s e i (behind key at reply q b f g j y) = absurd (get_no_put h l x p key f.0 e)
 put_unique h l x p a s e i (at_first key at reply o f g y) = absurd (get_no_put h l x p key f.0 e)
 put_unique h l x p a s e i (of_scan from to at pairs d f g) = absurd (scan_no_put h l x p from to f.0 e)
-put_unique h l x p a s e i (of_refused c at reply f g) = absurd (refused_no_put h l x p at c reply f g e)
+put_unique h l x p a s e i (of_pin at d f g) = absurd (pin_no_put h l x p f.0 e)
+put_unique h l x p a s e i (of_first c at reply f g) = absurd (first_no_put h l x p at c reply f g e)
 
 -- the rank of a get of this gap
 data GetRank (h : History) (x : ℕ) (g : Option ℕ) : Rank → Type 0 where
@@ -75,8 +78,8 @@ get_rank h l x key at reply g s e i (at_first key' at' reply' o f k y) =
     let n = gap_unique h l x key reply g o i (subst (λ u. IsGap h x u reply o) t.0 (subst (λ u. IsGap h x key' u o) t.2 k)) in
     is_first (λ p a w j. y p a (sym n ∙ w) j)
 get_rank h l x key at reply g s e i (of_scan from to at' pairs d f k) = let c : Get key ≡ Scan from to = sym e.0 ∙ f.0 in absurd (cc)
-get_rank h l x key at reply g s e i (of_refused c at' reply' f k) =
-    let t = same_Some _ _ (sym f.1 ∙ e.1) in absurd (get_not_refused h l x key at reply e (subst IsRefused (ap (λ (q : End). q.reply) t) k))
+get_rank h l x key at reply g s e i (of_pin at' d f k) = let c : Get key ≡ Pin = sym e.0 ∙ f.0 in absurd (cc)
+get_rank h l x key at reply g s e i (of_first c at' reply' f k) = absurd (get_not_first h l x key at reply e (first_moved h x at' at c (Get key) reply' reply f e k))
 
 -- and there is one
 get_unique : (h : History) (x : ℕ) (g : Option ℕ) (r s : Rank) → GetRank h x g r → GetRank h x g s → r ≡ s
@@ -95,19 +98,28 @@ scan_unique h l x from to at pairs d s e w (of_put q b f j) = absurd (scan_no_pu
 scan_unique h l x from to at pairs d s e w (behind key at' reply q b f g j y) = let c : Get key ≡ Scan from to = sym f.0 ∙ e.0 in absurd (cc)
 scan_unique h l x from to at pairs d s e w (at_first key at' reply o f g y) = let c : Get key ≡ Scan from to = sym f.0 ∙ e.0 in absurd (cc)
 scan_unique h l x from to at pairs d s e w (of_scan from' to' at' pairs' d' f g) = let t : d.at ≡ d'.at = ap (λ (q : Drawn). q.at) (same_Some d d' (sym w ∙ g)) in cc
-scan_unique h l x from to at pairs d s e w (of_refused c at' reply f g) =
-    let t = same_Some _ _ (sym f.1 ∙ e.1) in absurd (subst IsRefused (ap (λ (q : End). q.reply) t) g)
+scan_unique h l x from to at pairs d s e w (of_pin at' d' f g) = let c : Pin ≡ Scan from to = sym f.0 ∙ e.0 in absurd (cc)
+scan_unique h l x from to at pairs d s e w (of_first c at' reply f g) = absurd (first_moved h x at' at c (Scan from to) reply (Pairs pairs) f e g)
 
--- the rank of a refused call
-refused_unique : (h : History) → HistoryLaws h → (x at : ℕ) (c : Call) (r : Reply) (s : Rank) → EndsWith h x c at r → IsRefused r → HasRank h x s →
+-- the rank of a pin
+pin_unique : (h : History) → HistoryLaws h → (x at : ℕ) (d : Drawn) (s : Rank) → EndsWith h x Pin at Done → (called h x).draw ≡ Some d → HasRank h x s →
+    ◌≡◌ {A = Rank} (record { at = d.at; add = 0; tail = (called h x).first + 1 }) s
+pin_unique h l x at d s e w (of_put q b f j) = absurd (pin_no_put h l x q e.0 f)
+pin_unique h l x at d s e w (behind key at' reply q b f g j y) = let c : Get key ≡ Pin = sym f.0 ∙ e.0 in absurd (cc)
+pin_unique h l x at d s e w (at_first key at' reply o f g y) = let c : Get key ≡ Pin = sym f.0 ∙ e.0 in absurd (cc)
+pin_unique h l x at d s e w (of_scan from to at' pairs d' f g) = let c : Scan from to ≡ Pin = sym f.0 ∙ e.0 in absurd (cc)
+pin_unique h l x at d s e w (of_pin at' d' f g) = let t : d.at ≡ d'.at = ap (λ (q : Drawn). q.at) (same_Some d d' (sym w ∙ g)) in cc
+pin_unique h l x at d s e w (of_first c at' reply f g) = absurd (first_moved h x at' at c Pin reply Done f e g)
+
+-- the rank of a call that stands at its first event
+first_unique : (h : History) → HistoryLaws h → (x at : ℕ) (c : Call) (r : Reply) (s : Rank) → EndsWith h x c at r → StandsFirst c r → HasRank h x s →
     ◌≡◌ {A = Rank} (record { at = (called h x).first; add = 0; tail = (called h x).first + 1 }) s
-refused_unique h l x at c r s e w (of_put q b f j) = absurd (refused_no_put h l x q at c r e w f)
-refused_unique h l x at c r s e w (behind key at' reply q b f g j y) =
-    let t = same_Some _ _ (sym e.1 ∙ f.1) in absurd (get_not_refused h l x key at' reply f (subst IsRefused (ap (λ (q : End). q.reply) t) w))
-refused_unique h l x at c r s e w (at_first key at' reply o f g y) = refl
-refused_unique h l x at c r s e w (of_scan from to at' pairs d f g) =
-    let t = same_Some _ _ (sym e.1 ∙ f.1) in absurd (subst IsRefused (ap (λ (q : End). q.reply) t) w)
-refused_unique h l x at c r s e w (of_refused c' at' reply f g) = refl
+first_unique h l x at c r s e w (of_put q b f j) = absurd (first_no_put h l x q at c r e w f)
+first_unique h l x at c r s e w (behind key at' reply q b f g j y) = absurd (get_not_first h l x key at' reply f (first_moved h x at at' c (Get key) r reply e f w))
+first_unique h l x at c r s e w (at_first key at' reply o f g y) = refl
+first_unique h l x at c r s e w (of_scan from to at' pairs d f g) = absurd (first_moved h x at at' c (Scan from to) r (Pairs pairs) e f w)
+first_unique h l x at c r s e w (of_pin at' d f g) = absurd (first_moved h x at at' c Pin r Done e f w)
+first_unique h l x at c r s e w (of_first c' at' reply f g) = refl
 
 -- each call has one rank
 pub rank_unique : (h : History) → HistoryLaws h → (x : ℕ) (r s : Rank) → HasRank h x r → HasRank h x s → r ≡ s
@@ -115,4 +127,5 @@ rank_unique h l x r s (of_put p a e i) k = put_unique h l x p a s e i k
 rank_unique h l x r s (behind key at reply p a e g i y) k = get_unique h x (Some p) r s (is_behind p a refl i y) (get_rank h l x key at reply (Some p) s e g k)
 rank_unique h l x r s (at_first key at reply o e g y) k = get_unique h x o r s (is_first y) (get_rank h l x key at reply o s e g k)
 rank_unique h l x r s (of_scan from to at pairs d e g) k = scan_unique h l x from to at pairs d s e g k
-rank_unique h l x r s (of_refused c at reply e i) k = refused_unique h l x at c reply s e i k
+rank_unique h l x r s (of_pin at d e g) k = pin_unique h l x at d s e g k
+rank_unique h l x r s (of_first c at reply e i) k = first_unique h l x at c reply s e i k

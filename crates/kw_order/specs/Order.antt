@@ -1,6 +1,6 @@
 -- The order of the calls of a history.
 use Rattle.std.specs.Prelude.{ℕ, ◌≡◌, ◌≢◌, ◌+◌, ◌<◌, ◌≤◌, ◌⊎◌, Option, Some, None, List, slice_get}
-use Rattle.kw_core.specs.History.{History, Call, Put, Del, Get, Scan, Reply, Value, Absent, Pairs, NoRows, Spent, Stopped, attempt, called}
+use Rattle.kw_core.specs.History.{History, Call, Put, Del, Get, Scan, Pin, ScanAt, Unpin, Reply, Done, Value, Absent, Pairs, NoRows, Spent, Stopped, Held, NotPinned, attempt, called}
 use Rattle.kw_core.specs.declared.history.Drawn.{Drawn}
 use Rattle.kw_core.specs.declared.history.End.{End}
 pub use Rattle.kw_order.specs.declared.rank.Rank.{Rank}
@@ -53,12 +53,18 @@ IsGap h x key _ o = ⊥
 abbrev pub Below : Rank → Rank → Type 0
 Below r s = (r.at < s.at) ⊎ ((r.at ≡ s.at) × (r.add < s.add)) ⊎ ((r.at ≡ s.at) × (r.add ≡ s.add) × (r.tail < s.tail))
 
--- a refused call
-abbrev pub IsRefused : Reply → Type 0
-IsRefused NoRows = Unit {0}
-IsRefused Spent = Unit {0}
-IsRefused Stopped = Unit {0}
-IsRefused _ = ⊥
+-- a call with this reply takes effect at its first event: it was refused, or goes by what its seat
+-- held by then
+abbrev pub StandsFirst : Call → Reply → Type 0
+StandsFirst call NoRows = Unit {0}
+StandsFirst call Spent = Unit {0}
+StandsFirst call Stopped = Unit {0}
+StandsFirst Pin Held = Unit {0}
+StandsFirst (ScanAt from to) (Pairs pairs) = Unit {0}
+StandsFirst (ScanAt from to) NotPinned = Unit {0}
+StandsFirst Unpin Done = Unit {0}
+StandsFirst Unpin NotPinned = Unit {0}
+StandsFirst _ _ = ⊥
 
 -- the place of a call
 pub data HasRank (h : History) (x : ℕ) : Rank → Type 0 where
@@ -69,7 +75,8 @@ pub data HasRank (h : History) (x : ℕ) : Rank → Type 0 where
       HasRank h x (record { at = (called h x).first; add = 0; tail = (called h x).first + 1 })
   of_scan : (from to at : ℕ) (pairs : List (ℕ × ℕ)) (d : Drawn) → EndsWith h x (Scan from to) at (Pairs pairs) → (called h x).draw ≡ Some d →
       HasRank h x (record { at = d.at; add = 0; tail = (called h x).first + 1 })
-  of_refused : (call : Call) (at : ℕ) (reply : Reply) → EndsWith h x call at reply → IsRefused reply → HasRank h x (record { at = (called h x).first; add = 0; tail = (called h x).first + 1 })
+  of_pin : (at : ℕ) (d : Drawn) → EndsWith h x Pin at Done → (called h x).draw ≡ Some d → HasRank h x (record { at = d.at; add = 0; tail = (called h x).first + 1 })
+  of_first : (call : Call) (at : ℕ) (reply : Reply) → EndsWith h x call at reply → StandsFirst call reply → HasRank h x (record { at = (called h x).first; add = 0; tail = (called h x).first + 1 })
 
 -- the rank of the call that made the put q, whose point is b
 abbrev pub put_rank : History → ℕ → ℕ → Rank
@@ -120,6 +127,9 @@ written (Put k v) = Some v
 written (Del k) = None
 written (Get k) = None
 written (Scan from to) = None
+written Pin = None
+written (ScanAt from to) = None
+written Unpin = None
 
 -- what a call, if any, writes
 abbrev pub written_by : History → Option ℕ → Option ℕ

@@ -1,7 +1,8 @@
 -- The points of the calls in their order, as the code gives them.
 use Rattle.std.specs.Prelude.{ℕ, ◌≡◌, ◌+◌, ◌<◌, ◌≤◌, ◌⊎◌, Option, Some, None, List, map, All, length, get_or}
 use Rattle.std.specs.List.{AllZip}
-use Rattle.kw_core.specs.History.{History, attempt, called}
+use Rattle.kw_core.specs.History.{History, Call, Scan, Pin, Reply, Done, Pairs, attempt, called}
+use Rattle.kw_core.specs.declared.history.Drawn.{Drawn}
 use Rattle.kw_order.specs.declared.points.CallName.{CallName}
 use Rattle.kw_order.specs.declared.points.Point.{Point}
 use Rattle.kw_order.specs.declared.rank.RankedCall.{RankedCall}
@@ -42,6 +43,18 @@ pub record AreRanked (h : History) (ranked : List RankedCall) : Type 0 where
 -- the rank of a call that stands at its first event
 abbrev pub rank_at : ℕ → Rank
 rank_at f = record { at = f; add = 0; tail = f + 1 }
+
+-- the draw at which a call stands that ended with this reply, if it stands at its draw: a scan that
+-- gave pairs, and a pin that was accepted
+abbrev pub drawn_by : Call → Reply → Option Drawn → Option Drawn
+drawn_by (Scan from to) (Pairs pairs) draw = draw
+drawn_by Pin Done draw = draw
+drawn_by _ _ draw = None
+
+-- the rank of a call that began at f and stands at this draw, if any
+abbrev pub rank_at_draw : ℕ → Option Drawn → Rank
+rank_at_draw f None = rank_at f
+rank_at_draw f (Some d) = record { at = d.at; add = 0; tail = f + 1 }
 
 -- the rank of a get that began at f and stands behind this put, if any
 abbrev pub IsRankBehind : History → ℕ → Option ℕ → Rank → Type 0

@@ -2,7 +2,9 @@
 //!
 //! Nothing runs here: the function's clauses are the statement. They stand on the laws of histories
 //! alone, and say nothing of how events come about.
-ghost use Rattle.std.specs.Prelude.{List, ℕ, ◌≡◌, ◌<◌, true, Some, length, slice_get};
+ghost use Rattle.std.specs.Prelude.{List, [], ℕ, ◌≡◌, ◌<◌, true, false, Some, Contains, length, map, slice_get};
+ghost use Rattle.kw_model.specs.Legal.{IsLegal};
+ghost use Rattle.kw_model.specs.LegalFor.{is_of_snapshots};
 ghost use Rattle.kw_world.specs.declared.event.Event.{Event};
 ghost use Rattle.kw_world.specs.declared.opening.Opening.{Opening};
 ghost use Rattle.kw_world.specs.Opening.{IsOpening};
@@ -13,12 +15,13 @@ ghost use Rattle.kw_core.specs.Run.{history};
 ghost use Rattle.kw_laws.specs.SeatCalls.{CallSeen, calls_seen, seen};
 ghost use Rattle.kw_core.specs.HistoryLaws.{HistoryLaws};
 ghost use Rattle.kw_order.specs.Order.{IsOrder};
-ghost use Rattle.kw_order.specs.Legal.{IsLegalOrder};
+ghost use Rattle.kw_order.specs.Legal.{IsLegalOrder, call_of, reply_of};
 ghost use Rattle.kw_order.specs.OrderLaws.{OrderLaws};
 ghost use Rattle.kw_order.specs.SeatOrder.{IsTurn, AllEnded};
 
 /// A history that keeps its laws has one order, and it is legal: the calls, asked one after the
-/// other in this order of the empty map of one thread, have the replies that they had. The order
+/// other in this order of the empty map of one thread, each for its seat, have the replies that
+/// they had. Where no call is of snapshots the map alone says so, whatever the seats. The order
 /// keeps precedence, each call stands at a point inside itself, and each get and scan answers what
 /// the updates before it wrote.
 pub fn order_laws()
@@ -28,6 +31,9 @@ pub fn order_laws()
     ensures laws { (h : History) → HistoryLaws h → (xs : List ℕ) → IsOrder h xs → OrderLaws h xs }
     ensures legal { (h : History) → HistoryLaws h → (xs : List ℕ) → IsOrder h xs →
         IsLegalOrder h xs }
+    ensures alone { (h : History) (xs : List ℕ) → IsLegalOrder h xs → ((x : ℕ) → Contains xs x →
+        is_of_snapshots (call_of h x) ≡ false) → IsLegal [] (map (call_of h) xs)
+        (map (reply_of h) xs) }
 {}
 
 /// The numbers that the order has are those of the record, and each is a seat's k-th call for just

@@ -6,11 +6,11 @@ ghost use Rattle.kw_core.specs.History.{called};
 ghost use Rattle.kw_core.specs.HistoryLaws.{HistoryLaws, IsPut, EndsWith};
 ghost use Rattle.kw_order.specs.Order.{HasRank, IsPlaced};
 ghost use Rattle.kw_order.specs.Puts.{IsTable};
-ghost use Rattle.kw_order.specs.Points.{ArePoints, AreNames, AreRanked, IsRankBehind, rank_at};
+ghost use Rattle.kw_order.specs.Points.{ArePoints, AreNames, AreRanked, IsRankBehind, drawn_by, rank_at, rank_at_draw};
 
 use crate::puts::PutTable;
 use crate::rank::{Rank, RankedCall};
-use kw_core::history::{CallLog, History};
+use kw_core::history::{CallLog, Drawn, History};
 use kw_model::call::{Call, Reply};
 use kw_model::memory::Memory;
 use std::alloc::Global;
@@ -130,15 +130,33 @@ fn rank_of_ended(history: &History, table: &PutTable, place: usize, reply: &Repl
             }
             _ => rank_at_first(call.first),
         },
-        Reply::Pairs(_) => match call.draw {
-            Some(draw) => Rank {
-                at: draw.at,
-                add: 0,
-                tail: call.first + 1,
-            },
-            None => rank_at_first(call.first),
+        _ => rank_drawn(call.first, draw_of(call, reply)),
+    }
+}
+
+/// Where a call takes effect that stands at its draw: a scan that gave pairs, and a pin that was
+/// accepted.
+fn draw_of(call: &CallLog, reply: &Reply) -> Option<Drawn>
+    ensures { result ≡ drawn_by call.now.call reply.now call.now.draw }
+{
+    match (call.call, reply) {
+        (Call::Scan(..), Reply::Pairs(_)) | (Call::Pin, Reply::Done) => call.draw,
+        _ => None,
+    }
+}
+
+/// The rank of a call that stands at this draw, if any, and else at its first event.
+fn rank_drawn(first: u64, draw: Option<Drawn>) -> Rank
+    requires { first < u64.MAX }
+    ensures { result ≡ rank_at_draw first draw }
+{
+    match draw {
+        Some(draw) => Rank {
+            at: draw.at,
+            add: 0,
+            tail: first + 1,
         },
-        _ => rank_at_first(call.first),
+        None => rank_at_first(first),
     }
 }
 

@@ -178,9 +178,9 @@ pub fn points(alloc: Global, trace: &Trace) -> Result<Vec<Point>, Memory>
 /// The names of the calls that ended, and of those whose put or delete was stamped, in their order.
 ///
 /// There is one such order. It is legal: the calls, asked one after the other in it of the empty
-/// map of one thread, have the replies that they had. It keeps precedence, each call stands at a
-/// point inside itself, and a scan gives for each key of its range what the last put with a version
-/// at most its own wrote. No event that comes later changes that.
+/// map of one thread, each for its seat, have the replies that they had. It keeps precedence, each
+/// call stands at a point inside itself, and a scan gives for each key of its range what the last
+/// put with a version at most its own wrote. No event that comes later changes that.
 pub fn order(alloc: Global, trace: &Trace) -> Result<Vec<CallName>, Memory>
     ensures names { IfOk result (λ names. AreNames (history_of trace.now) names.items) }
     ensures one { (xs ys : List ℕ) → IsOrder (history_of trace.now) xs →

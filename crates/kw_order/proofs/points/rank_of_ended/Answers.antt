@@ -1,6 +1,6 @@
-use Rattle.std.proofs.Common.{arith, ap, sym, ◌∙◌, Some, None, ◌≡◌}
+use Rattle.std.proofs.Common.{arith, ap, sym, ◌∙◌}
 use Rattle.kw_core.specs.declared.history.CallLog.{CallLog}
-use Rattle.kw_order.proofs.CallRanks.{read_called, first_within, value_answered, value_rank, absent_is_get, absent_serves, absent_rank, pairs_drawn, pairs_rank, other_rank}
+use Rattle.kw_order.proofs.CallRanks.{read_called, first_within, value_answered, value_rank, absent_is_get, absent_serves, absent_rank, other_rank}
 use Rattle.kw_order.proofs.points.rank_of_ended.Goals as goal
 
 pub prove-unreachable-requires : goal.prove-unreachable-requires
@@ -40,21 +40,8 @@ returns-in_default-call c =
     let get = absent_is_get c.args.history.now c.requires.laws c.args.place ended.0 ended.1 c.requires.no_put in
     absurd (c.in_default-call.not-Get get.0 (ap (λ (q : CallLog). q.call) read ∙ get.1))
 
-pub returns-in-Some : goal.returns-in-Some
-returns-in-Some c =
-    let read = read_called c.args.history.now c.calls.result.now c.args.place c.index-calls-place.result c.calls.ensures c.index-calls-place.is c.requires.within in
-    let ended = rw c.in-Pairs.is at c.requires.ended in
-    rw read (pairs_rank c.args.history.now c.requires.laws c.args.place ended.0 c.in-Pairs.field-0 c.in-Some.draw ended.1 c.requires.no_put (sym (ap (λ (q : CallLog). q.draw) read) ∙ c.in-Some.is))
-
-pub returns-in-None : goal.returns-in-None
-returns-in-None c =
-    let read = read_called c.args.history.now c.calls.result.now c.args.place c.index-calls-place.result c.calls.ensures c.index-calls-place.is c.requires.within in
-    let ended = rw c.in-Pairs.is at c.requires.ended in
-    let drawn = pairs_drawn c.args.history.now c.requires.laws c.args.place ended.0 c.in-Pairs.field-0 ended.1 c.requires.no_put in
-    let never : None ≡ Some drawn.0 = sym c.in-None.is ∙ ap (λ (q : CallLog). q.draw) read ∙ drawn.1 in absurd (cc)
-
 pub returns-in_default : goal.returns-in_default
 returns-in_default c =
     let read = read_called c.args.history.now c.calls.result.now c.args.place c.index-calls-place.result c.calls.ensures c.index-calls-place.is c.requires.within in
-    rw (c.rank_at_first-in_default.ensures, read)
-    (other_rank c.args.history.now c.requires.laws c.args.place c.requires.ended.0 c.args.reply.now c.requires.ended.1 c.requires.no_put c.in_default.not-Value c.in_default.not-Absent c.in_default.not-Pairs)
+    rw (c.rank_drawn.ensures, c.draw_of.ensures, read)
+    (other_rank c.args.history.now c.requires.laws c.args.place c.requires.ended.0 c.args.reply.now c.requires.ended.1 c.requires.no_put c.in_default.not-Value c.in_default.not-Absent)
