@@ -213,6 +213,8 @@ plain_is text plain.Empty e = (tt, e)
 plain_is text plain.NoRows e = (tt, e)
 plain_is text plain.Spent e = (tt, e)
 plain_is text plain.Stopped e = (tt, e)
+plain_is text plain.Held e = (tt, e)
+plain_is text plain.NotPinned e = (tt, e)
 
 pub no_such_reply : (text : List ℕ) (most : ℕ) → most + 1 ≡ 2 ^ 63 → ((p : Plain) → text ≢ plain_text p) → ((n : ℕ) → 0 ≤ n → n ≤ most → text ≢ decimal n) → ((ps : List (ℕ × ℕ)) → 0 < length ps → AllByRecursion IsPair ps → text ≢ pairs_text ps) → (r : Reply) → FitsReply r → text ≢ reply_text r
 no_such_reply text most m words value pairs reply.Done h e = words plain.Done e
@@ -223,6 +225,8 @@ no_such_reply text most m words value pairs (reply.Pairs (p ∷ ps)) h e = pairs
 no_such_reply text most m words value pairs reply.NoRows h e = words plain.NoRows e
 no_such_reply text most m words value pairs reply.Spent h e = words plain.Spent e
 no_such_reply text most m words value pairs reply.Stopped h e = words plain.Stopped e
+no_such_reply text most m words value pairs reply.Held h e = words plain.Held e
+no_such_reply text most m words value pairs reply.NotPinned h e = words plain.NotPinned e
 
 -- a line of no kind
 pub no_line : (line : List ℕ) → ((d : DoneCall) → IsDone d → line ≢ done_text d) → ((o : OpenCall) → IsOpen o → words line ≢ open_words o) → ((ns : List Name) → AllByRecursion IsName ns → line ≢ order_text ns) → IsNoLine line

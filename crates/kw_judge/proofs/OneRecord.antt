@@ -10,7 +10,7 @@ use Rattle.kw_line.specs.declared.words.TheConstants.{SPACE}
 use Rattle.kw_line.specs.declared.print.TheConstants.{EQUALS}
 use Rattle.kw_line.specs.Answered.{pair_text, pairs_text}
 use Rattle.kw_line.specs.Cut.{words, lines}
-use Rattle.kw_line.specs.Line.{FitsCall, arguments}
+use Rattle.kw_line.specs.Line.{arguments}
 use Rattle.kw_line.proofs.Parts.{HasNo, words_one, words_cut}
 use Rattle.kw_model.specs.declared.call.Call.{Call}
 use Rattle.kw_model.specs.declared.call.Call.TheVariants as call
@@ -25,7 +25,7 @@ use Rattle.kw_judge.specs.declared.record.Name.{Name}
 use Rattle.kw_judge.specs.declared.record.DoneCall.{DoneCall}
 use Rattle.kw_judge.specs.declared.record.OpenCall.{OpenCall}
 use Rattle.kw_line.specs.declared.error.LineError.{LineError}
-use Rattle.kw_judge.specs.Record.{RecordView, IsRecord, IsRecordText, IsName, IsPair, FitsReply, IsDone, IsOpen, IsBadAfter, IsFirstBad, record_lines}
+use Rattle.kw_judge.specs.Record.{RecordView, IsRecord, IsRecordText, IsRecordCall, IsName, IsPair, FitsReply, IsDone, IsOpen, IsBadAfter, IsFirstBad, record_lines}
 use Rattle.kw_judge.specs.Written.{plain_text, plain_reply, head_words}
 use Rattle.kw_judge.specs.Texts.{call_verb_of, call_verb_word, call_words, reply_text, name_text, done_head, done_text, open_text, order_text}
 use Rattle.kw_judge.proofs.Marks.{no_mark, no_mark_decimal}
@@ -42,6 +42,9 @@ made call_verb.Put (k ∷ v ∷ []) = Some (call.Put k v)
 made call_verb.Del (k ∷ []) = Some (call.Del k)
 made call_verb.Get (k ∷ []) = Some (call.Get k)
 made call_verb.Scan (a ∷ b ∷ []) = Some (call.Scan a b)
+made call_verb.Pin [] = Some call.Pin
+made call_verb.ScanAt (a ∷ b ∷ []) = Some (call.ScanAt a b)
+made call_verb.Unpin [] = Some call.Unpin
 made _ _ = None
 
 made-call : (c : Call) → made (call_verb_of c) (arguments c) ≡ Some c
@@ -49,12 +52,18 @@ made-call (call.Put k v) = refl
 made-call (call.Del k) = refl
 made-call (call.Get k) = refl
 made-call (call.Scan a b) = refl
+made-call call.Pin = refl
+made-call (call.ScanAt a b) = refl
+made-call call.Unpin = refl
 
-fits_arguments : (c : Call) → FitsCall c → AllByRecursion (λ n. n < 2 ^ 64) (arguments c)
+fits_arguments : (c : Call) → IsRecordCall c → AllByRecursion (λ n. n < 2 ^ 64) (arguments c)
 fits_arguments (call.Put k v) h = (omega (arith, h.0), (omega (arith, h.1), tt))
 fits_arguments (call.Del k) h = (omega (arith, h), tt)
 fits_arguments (call.Get k) h = (omega (arith, h), tt)
 fits_arguments (call.Scan a b) h = (omega (arith, h.0), (omega (arith, h.1), tt))
+fits_arguments call.Pin h = tt
+fits_arguments (call.ScanAt a b) h = (omega (arith, h.0), (omega (arith, h.1), tt))
+fits_arguments call.Unpin h = tt
 
 decimals_injective : (ms ns : List ℕ) → AllByRecursion (λ n. n < 2 ^ 64) ms → AllByRecursion (λ n. n < 2 ^ 64) ns → map decimal ms ≡ map decimal ns → ms ≡ ns
 decimals_injective [] [] h j e = refl
@@ -70,7 +79,7 @@ decimals_injective (m ∷ ms) (n ∷ ns) h j e =
 same_call : (c d : Call) → call_verb_of c ≡ call_verb_of d → arguments c ≡ arguments d → c ≡ d
 same_call c d u v = let s : Some c ≡ Some d = sym (made-call c) ∙ (ap (λ w. made w (arguments c)) u ∙ (ap (made (call_verb_of d)) v ∙ made-call d)) in cc
 
-call_injective : (c d : Call) → FitsCall c → FitsCall d → call_words c ≡ call_words d → c ≡ d
+call_injective : (c d : Call) → IsRecordCall c → IsRecordCall d → call_words c ≡ call_words d → c ≡ d
 call_injective c d h j e =
     let x : call_verb_word (call_verb_of c) ∷ map decimal (arguments c) ≡ call_verb_word (call_verb_of d) ∷ map decimal (arguments d) = e in
     let word : call_verb_word (call_verb_of c) ≡ call_verb_word (call_verb_of d) = cc in
@@ -80,7 +89,7 @@ call_injective c d h j e =
 -- Replies: some are words, and the others are numbers with other marks between them.
 
 abbrev plain_named : List ℕ → Option Plain
-plain_named w = cond (bytes_eq w (codes "ok")) (Some plain.Done) (cond (bytes_eq w (codes "none")) (Some plain.Absent) (cond (bytes_eq w (codes "empty")) (Some plain.Empty) (cond (bytes_eq w (codes "no rows")) (Some plain.NoRows) (cond (bytes_eq w (codes "spent")) (Some plain.Spent) (cond (bytes_eq w (codes "stopped")) (Some plain.Stopped) None)))))
+plain_named w = cond (bytes_eq w (codes "ok")) (Some plain.Done) (cond (bytes_eq w (codes "none")) (Some plain.Absent) (cond (bytes_eq w (codes "empty")) (Some plain.Empty) (cond (bytes_eq w (codes "no rows")) (Some plain.NoRows) (cond (bytes_eq w (codes "spent")) (Some plain.Spent) (cond (bytes_eq w (codes "stopped")) (Some plain.Stopped) (cond (bytes_eq w (codes "held")) (Some plain.Held) (cond (bytes_eq w (codes "not pinned")) (Some plain.NotPinned) None)))))))
 
 plain_named-text : (p : Plain) → plain_named (plain_text p) ≡ Some p
 plain_named-text plain.Done = refl
@@ -89,6 +98,8 @@ plain_named-text plain.Empty = refl
 plain_named-text plain.NoRows = refl
 plain_named-text plain.Spent = refl
 plain_named-text plain.Stopped = refl
+plain_named-text plain.Held = refl
+plain_named-text plain.NotPinned = refl
 
 plain_injective : (p q : Plain) → plain_text p ≡ plain_text q → p ≡ q
 plain_injective p q e = let s : Some p ≡ Some q = sym (plain_named-text p) ∙ (ap plain_named e ∙ plain_named-text q) in cc
@@ -101,6 +112,8 @@ letter plain.Empty = (omega arith, omega arith)
 letter plain.NoRows = (omega arith, omega arith)
 letter plain.Spent = (omega arith, omega arith)
 letter plain.Stopped = (omega arith, omega arith)
+letter plain.Held = (omega arith, omega arith)
+letter plain.NotPinned = (omega arith, omega arith)
 
 not_plain : (p : Plain) (text : List ℕ) → ((mark : ℕ) → 97 ≤ mark → HasNo mark text) → plain_text p ≢ text
 not_plain p text h e =
@@ -155,6 +168,8 @@ form_of (reply.Pairs (p ∷ ps)) h = pairs p ps h
 form_of reply.NoRows h = word plain.NoRows
 form_of reply.Spent h = word plain.Spent
 form_of reply.Stopped h = word plain.Stopped
+form_of reply.Held h = word plain.Held
+form_of reply.NotPinned h = word plain.NotPinned
 
 plain_reply-text : (p : Plain) → reply_text (plain_reply p) ≡ plain_text p
 plain_reply-text plain.Done = refl
@@ -163,6 +178,8 @@ plain_reply-text plain.Empty = refl
 plain_reply-text plain.NoRows = refl
 plain_reply-text plain.Spent = refl
 plain_reply-text plain.Stopped = refl
+plain_reply-text plain.Held = refl
+plain_reply-text plain.NotPinned = refl
 
 by_forms : (r s : Reply) → Form r → Form s → reply_text r ≡ reply_text s → r ≡ s
 by_forms r s (word p) (word q) e = ap plain_reply (plain_injective p q (sym (plain_reply-text p) ∙ (e ∙ plain_reply-text q)))

@@ -29,6 +29,9 @@ no_feed_verb call_verb.Put = no_mark 10 (call_verb_word call_verb.Put) refl
 no_feed_verb call_verb.Del = no_mark 10 (call_verb_word call_verb.Del) refl
 no_feed_verb call_verb.Get = no_mark 10 (call_verb_word call_verb.Get) refl
 no_feed_verb call_verb.Scan = no_mark 10 (call_verb_word call_verb.Scan) refl
+no_feed_verb call_verb.Pin = no_mark 10 (call_verb_word call_verb.Pin) refl
+no_feed_verb call_verb.ScanAt = no_mark 10 (call_verb_word call_verb.ScanAt) refl
+no_feed_verb call_verb.Unpin = no_mark 10 (call_verb_word call_verb.Unpin) refl
 
 feed_is_mark : IsMark 10
 feed_is_mark = record { no_digit = λ a b. omega arith; no_letter = no_feed_verb }
@@ -49,6 +52,8 @@ no_feed_reply (reply.Pairs (p ∷ ps)) h = no_mark_join LINE_FEED (pair_text p) 
 no_feed_reply reply.NoRows h = no_mark LINE_FEED (codes "no rows") refl
 no_feed_reply reply.Spent h = no_mark LINE_FEED (codes "spent") refl
 no_feed_reply reply.Stopped h = no_mark LINE_FEED (codes "stopped") refl
+no_feed_reply reply.Held h = no_mark LINE_FEED (codes "held") refl
+no_feed_reply reply.NotPinned h = no_mark LINE_FEED (codes "not pinned") refl
 
 no_feed_done : (d : DoneCall) → IsDone d → HasNo LINE_FEED (done_text d)
 unfolding done_text done_head

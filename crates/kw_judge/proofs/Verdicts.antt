@@ -3,7 +3,6 @@ use Rattle.std.proofs.Common.{ℕ, Result, Ok, Err, IfOk, ◌↔◌, zero, suc, 
 use Rattle.std.specs.List.{AllByRecursion}
 use Rattle.std.proofs.lemmas.Bool.{cases_lt}
 use Rattle.std.proofs.lemmas.Option.{slice_get-get_or, slice_get_within, get_or_from_slice_get}
-use Rattle.kw_model.specs.Legal.{IsRight}
 use Rattle.kw_judge.specs.declared.record.Name.{Name}
 use Rattle.kw_judge.specs.declared.record.DoneCall.{DoneCall}
 use Rattle.kw_judge.specs.declared.record.OpenCall.{OpenCall}
@@ -12,7 +11,7 @@ use Rattle.kw_judge.specs.declared.verdict.Verdict.TheVariants.{Yes, Twice, Unkn
 use Rattle.kw_judge.specs.Record.{RecordView, IsRecord, IsDone, IsOpen, IsName, Once, names_of}
 use Rattle.kw_judge.specs.Good.{Recorded, calls_in_order, EndedBefore, IsGood}
 use Rattle.kw_judge.specs.Index.{AreNames}
-use Rattle.kw_judge.specs.Verdict.{IsFirst, AllHold, IsNew, StoodBefore, IsTwice, IsUnknown, IsMissing, InTime, IsFirstAfter, IsLate, map_before, IsWrong, AllOnce, AllKnown, NoneMissing, AllInTime, IsVerdict}
+use Rattle.kw_judge.specs.Verdict.{IsFirst, AllHold, IsNew, StoodBefore, IsTwice, IsUnknown, IsMissing, InTime, IsFirstAfter, IsLate, IsRightAt, IsWrong, AllOnce, AllKnown, NoneMissing, AllInTime, IsVerdict}
 use Rattle.kw_judge.proofs.Firsts.{one_first, one_place, not_all}
 use Rattle.kw_judge.proofs.Rights.{legal_from_right, right_from_legal}
 
@@ -40,7 +39,7 @@ has_place ns n k e = (k, slice_get_within ns k n e, get_or_from_slice_get ns k n
 
 -- each reply is that of the map
 abbrev pub AllRight : RecordView → Type 0
-AllRight r = AllHold (λ i (c : Recorded). IsRight (map_before (calls_in_order r) i) c.call c.reply) (calls_in_order r)
+AllRight r = AllHold (IsRightAt (calls_in_order r)) (calls_in_order r)
 
 -- a record of which nothing is wrong is good
 pub good : (r : RecordView) → AllOnce r → AllKnown r → NoneMissing r → AllInTime r → AllRight r → IsGood r
@@ -99,7 +98,7 @@ not_late : (r : RecordView) (m n : Name) → AllInTime r → IsLate r m n → �
 not_late r m n all (x, y, e, g, f) = not_all (InTime (calls_in_order r)) (λ i c. InTime (calls_in_order r) i c → ⊥) (calls_in_order r) x (λ k c w h q. q h) all (late_first (calls_in_order r) x y f)
 
 not_wrong : (r : RecordView) (n : Name) → AllRight r → IsWrong r n → ⊥
-not_wrong r n all (x, e, f) = not_all (λ i (c : Recorded). IsRight (map_before (calls_in_order r) i) c.call c.reply) (λ i (c : Recorded). IsRight (map_before (calls_in_order r) i) c.call c.reply → ⊥) (calls_in_order r) x (λ k c w h q. q h) all f
+not_wrong r n all (x, e, f) = not_all (IsRightAt (calls_in_order r)) (λ i (c : Recorded). IsRightAt (calls_in_order r) i c → ⊥) (calls_in_order r) x (λ k c w h q. q h) all f
 
 -- And it is wrong at one place.
 
@@ -129,7 +128,7 @@ one_late r a b c d (x, y, e, f, h) (v, w, g, k, l) =
     late_parts a b c d (sym e ∙ (ap (λ (q : Recorded). q.name) first ∙ g)) (sym f ∙ (ap (λ (q : Recorded). q.name) second ∙ k))
 
 one_wrong : (r : RecordView) (m n : Name) → IsWrong r m → IsWrong r n → m ≡ n
-one_wrong r m n (x, e, f) (y, g, h) = sym e ∙ (ap (λ (q : Recorded). q.name) (one_first (λ i (c : Recorded). IsRight (map_before (calls_in_order r) i) c.call c.reply) (λ i (c : Recorded). IsRight (map_before (calls_in_order r) i) c.call c.reply → ⊥) (calls_in_order r) x y (λ k c w yes no. no yes) f h) ∙ g)
+one_wrong r m n (x, e, f) (y, g, h) = sym e ∙ (ap (λ (q : Recorded). q.name) (one_first (IsRightAt (calls_in_order r)) (λ i (c : Recorded). IsRightAt (calls_in_order r) i c → ⊥) (calls_in_order r) x y (λ k c w yes no. no yes) f h) ∙ g)
 
 -- a record has one verdict
 pub one_verdict : (r : RecordView) (v w : Verdict) → IsVerdict r v → IsVerdict r w → v ≡ w

@@ -1,7 +1,8 @@
 -- Which records are good: said of the three lists of a record alone.
-use Rattle.std.specs.Prelude.{ℕ, ◌≡◌, ◌<◌, ◌==◌, ◌&&◌, Bool, Option, Some, None, unwrap_or, List, [], ◌++◌, map, Contains, slice_get}
+use Rattle.std.specs.Prelude.{ℕ, ◌≡◌, ◌<◌, ◌==◌, ◌&&◌, Bool, Option, Some, None, unwrap_or, List, ◌++◌, map, Contains, slice_get}
 use Rattle.std.specs.List.{find}
-use Rattle.kw_model.specs.Legal.{IsLegal}
+use Rattle.kw_model.specs.Snapshots.{empty}
+use Rattle.kw_model.specs.LegalFor.{IsLegalFor}
 use Rattle.kw_model.specs.declared.call.Call.{Call}
 use Rattle.kw_model.specs.declared.call.Call.TheVariants.{Get}
 use Rattle.kw_model.specs.declared.call.Reply.{Reply}
@@ -49,12 +50,22 @@ calls_in_order r = map (call_named r) r.order
 abbrev pub EndedBefore : Recorded → Recorded → Type 0
 EndedBefore a b = (end : ℕ) × (a.last ≡ Some end) × (end < b.first)
 
+-- the seats, the calls and the replies of calls
+abbrev pub seats : List Recorded → List ℕ
+seats cs = map (λ (c : Recorded). c.name.seat) cs
+
+abbrev pub calls : List Recorded → List Call
+calls cs = map (λ (c : Recorded). c.call) cs
+
+abbrev pub replies : List Recorded → List Reply
+replies cs = map (λ (c : Recorded). c.reply) cs
+
 -- the order has the name of each line once and no other; no call stands behind one that began only
--- after it had ended; and the calls, asked in this order of the empty map of one thread, have their
--- replies
+-- after it had ended; and the calls, asked in this order of the empty map of one thread, each for
+-- the seat of its name, have their replies
 pub record IsGood (r : RecordView) : Type 0 where
   pub once : Once r.order
   pub known : (name : Name) → Contains r.order name → Contains (names_of r) name
   pub every : (name : Name) → Contains (names_of r) name → Contains r.order name
   pub precedes : (i j : ℕ) (a b : Recorded) → slice_get (calls_in_order r) i ≡ Some a → slice_get (calls_in_order r) j ≡ Some b → j < i → EndedBefore a b → ⊥
-  pub legal : IsLegal [] (map (λ (c : Recorded). c.call) (calls_in_order r)) (map (λ (c : Recorded). c.reply) (calls_in_order r))
+  pub legal : IsLegalFor empty (seats (calls_in_order r)) (calls (calls_in_order r)) (replies (calls_in_order r))

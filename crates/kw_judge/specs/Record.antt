@@ -7,7 +7,6 @@ use Rattle.kw_model.specs.declared.call.Reply.{Reply}
 use Rattle.kw_model.specs.declared.call.Reply.TheVariants as reply
 use Rattle.kw_line.specs.declared.words.TheConstants.{LINE_FEED}
 use Rattle.kw_line.specs.Cut.{lines}
-use Rattle.kw_line.specs.Line.{FitsCall}
 use Rattle.kw_judge.specs.declared.record.Name.{Name}
 use Rattle.kw_judge.specs.declared.record.DoneCall.{DoneCall}
 use Rattle.kw_judge.specs.declared.record.OpenCall.{OpenCall}
@@ -40,19 +39,32 @@ IsUpdate (call.Put k v) = Unit {0}
 IsUpdate (call.Del k) = Unit {0}
 IsUpdate (call.Get k) = ⊥
 IsUpdate (call.Scan a b) = ⊥
+IsUpdate call.Pin = ⊥
+IsUpdate (call.ScanAt a b) = ⊥
+IsUpdate call.Unpin = ⊥
+
+-- a call that a record may have: its keys have 32 bits, and its value has 63
+abbrev pub IsRecordCall : Call → Type 0
+IsRecordCall (call.Put k v) = (k < 2 ^ 32) × (v < 2 ^ 63)
+IsRecordCall (call.Del k) = k < 2 ^ 32
+IsRecordCall (call.Get k) = k < 2 ^ 32
+IsRecordCall (call.Scan a b) = (a < 2 ^ 32) × (b < 2 ^ 32)
+IsRecordCall call.Pin = Unit {0}
+IsRecordCall (call.ScanAt a b) = (a < 2 ^ 32) × (b < 2 ^ 32)
+IsRecordCall call.Unpin = Unit {0}
 
 pub record IsDone (d : DoneCall) : Type 0 where
   pub name : IsName d.name
   pub rising : d.first ≤ d.last
   pub last : d.last ≤ MOST_POSITION
-  pub call : FitsCall d.call
+  pub call : IsRecordCall d.call
   pub reply : FitsReply d.reply
 
 pub record IsOpen (o : OpenCall) : Type 0 where
   pub name : IsName o.name
   pub first : o.first ≤ MOST_POSITION
   pub update : IsUpdate o.call
-  pub call : FitsCall o.call
+  pub call : IsRecordCall o.call
 
 -- no two places have the same
 abbrev pub Once : {X : Type 0} → List X → Type 0

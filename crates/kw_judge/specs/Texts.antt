@@ -21,12 +21,18 @@ call_verb_of (call.Put k v) = call_verb.Put
 call_verb_of (call.Del k) = call_verb.Del
 call_verb_of (call.Get k) = call_verb.Get
 call_verb_of (call.Scan a b) = call_verb.Scan
+call_verb_of call.Pin = call_verb.Pin
+call_verb_of (call.ScanAt a b) = call_verb.ScanAt
+call_verb_of call.Unpin = call_verb.Unpin
 
 abbrev pub call_verb_word : CallVerb → List ℕ
 call_verb_word call_verb.Put = codes "put"
 call_verb_word call_verb.Del = codes "del"
 call_verb_word call_verb.Get = codes "get"
 call_verb_word call_verb.Scan = codes "scan"
+call_verb_word call_verb.Pin = codes "pin"
+call_verb_word call_verb.ScanAt = codes "scan_at"
+call_verb_word call_verb.Unpin = codes "unpin"
 
 -- the word that a call begins with
 abbrev pub call_word : Call → List ℕ
@@ -49,6 +55,8 @@ reply_text (reply.Pairs ps) = pairs_text ps
 reply_text reply.NoRows = codes "no rows"
 reply_text reply.Spent = codes "spent"
 reply_text reply.Stopped = codes "stopped"
+reply_text reply.Held = codes "held"
+reply_text reply.NotPinned = codes "not pinned"
 
 -- the name of a call: its seat, and its number among the calls of the seat, from 1 on
 abbrev pub name_text : Name → List ℕ

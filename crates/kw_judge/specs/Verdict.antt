@@ -1,13 +1,13 @@
 -- What each verdict means: which of five things is wrong first, and where.
-use Rattle.std.specs.Prelude.{ℕ, ◌≡◌, ◌<◌, Some, List, [], ◌∷◌, ◌++◌, map, take, codes, Contains, slice_get}
-use Rattle.kw_model.specs.Map.{Pairs}
-use Rattle.kw_model.specs.Legal.{IsRight, went_all}
+use Rattle.std.specs.Prelude.{ℕ, ◌≡◌, ◌<◌, Some, List, ◌∷◌, ◌++◌, take, codes, Contains, slice_get}
+use Rattle.kw_model.specs.Snapshots.{State, empty}
+use Rattle.kw_model.specs.LegalFor.{IsRightFor, state_went_all}
 use Rattle.kw_line.specs.declared.words.TheConstants.{SPACE}
 use Rattle.kw_judge.specs.declared.record.Name.{Name}
 use Rattle.kw_judge.specs.declared.verdict.Verdict.{Verdict}
 use Rattle.kw_judge.specs.declared.verdict.Verdict.TheVariants as verdict
 use Rattle.kw_judge.specs.Record.{RecordView, names_of}
-use Rattle.kw_judge.specs.Good.{Recorded, calls_in_order, EndedBefore, IsGood}
+use Rattle.kw_judge.specs.Good.{Recorded, calls_in_order, seats, calls, replies, EndedBefore, IsGood}
 use Rattle.kw_judge.specs.Texts.{name_text}
 
 -- x is the first of a list that fails: those before it hold
@@ -53,13 +53,17 @@ IsFirstAfter cs b i a = IsFirst (λ j c. EndedBefore a c → ⊥) (λ j c. (j < 
 abbrev pub IsLate : RecordView → Name → Name → Type 0
 IsLate r a b = (x y : Recorded) × (x.name ≡ a) × (y.name ≡ b) × IsFirst (InTime (calls_in_order r)) (IsFirstAfter (calls_in_order r) y) (calls_in_order r) x
 
--- the map before this place of the order
-abbrev pub map_before : List Recorded → ℕ → Pairs
-map_before cs i = went_all [] (map (λ (c : Recorded). c.call) (take i cs)) (map (λ (c : Recorded). c.reply) (take i cs))
+-- the map and its snapshots before this place of the order
+abbrev pub state_before : List Recorded → ℕ → State
+state_before cs i = state_went_all empty (seats (take i cs)) (calls (take i cs)) (replies (take i cs))
+
+-- the reply is that of the map there, asked for the seat of the call
+abbrev pub IsRightAt : List Recorded → ℕ → Recorded → Type 0
+IsRightAt cs i c = IsRightFor (state_before cs i) c.name.seat c.call c.reply
 
 -- the first call whose reply is not that of the map
 abbrev pub IsWrong : RecordView → Name → Type 0
-IsWrong r name = (x : Recorded) × (x.name ≡ name) × IsFirst (λ i c. IsRight (map_before (calls_in_order r) i) c.call c.reply) (λ i c. IsRight (map_before (calls_in_order r) i) c.call c.reply → ⊥) (calls_in_order r) x
+IsWrong r name = (x : Recorded) × (x.name ≡ name) × IsFirst (IsRightAt (calls_in_order r)) (λ i c. IsRightAt (calls_in_order r) i c → ⊥) (calls_in_order r) x
 
 -- no name stands twice; each one is known; none is missing; and no call stands behind one that
 -- began after it had ended

@@ -2,7 +2,6 @@
 use Rattle.std.specs.Prelude.{ℕ, List}
 use Rattle.std.specs.List.{AllByRecursion}
 use Rattle.std.specs.Prelude.{[], ◌∷◌, ◌≢◌, ◌≤◌, codes, decimal}
-use Rattle.kw_line.specs.Line.{FitsCall}
 use Rattle.kw_judge.specs.declared.written.Entry.{Entry}
 use Rattle.kw_judge.specs.declared.written.Entry.TheVariants.{Done, Open, Order}
 use Rattle.kw_judge.specs.declared.written.Head.{Head}
@@ -14,7 +13,7 @@ use Rattle.kw_judge.specs.declared.record.Name.{Name}
 use Rattle.kw_judge.specs.declared.record.DoneCall.{DoneCall}
 use Rattle.kw_judge.specs.declared.record.TheConstants.{MOST_POSITION}
 use Rattle.kw_judge.specs.declared.record.OpenCall.{OpenCall}
-use Rattle.kw_judge.specs.Record.{IsName, IsDone, IsOpen}
+use Rattle.kw_judge.specs.Record.{IsName, IsRecordCall, IsDone, IsOpen}
 use Rattle.kw_judge.specs.Texts.{done_text, open_text, order_text, name_text, call_words}
 
 -- what is written in a line, its numbers in range
@@ -34,7 +33,7 @@ pub record IsHead (h : Head) : Type 0 where
   pub name : IsName h.name
   pub rising : h.first ≤ h.last
   pub last : h.last ≤ MOST_POSITION
-  pub call : FitsCall h.call
+  pub call : IsRecordCall h.call
 
 -- its words
 abbrev pub head_words : Head → List (List ℕ)
@@ -52,6 +51,8 @@ plain_text plain.Empty = codes "empty"
 plain_text plain.NoRows = codes "no rows"
 plain_text plain.Spent = codes "spent"
 plain_text plain.Stopped = codes "stopped"
+plain_text plain.Held = codes "held"
+plain_text plain.NotPinned = codes "not pinned"
 
 abbrev pub plain_reply : Plain → Reply
 plain_reply plain.Done = reply.Done
@@ -60,6 +61,8 @@ plain_reply plain.Empty = reply.Pairs []
 plain_reply plain.NoRows = reply.NoRows
 plain_reply plain.Spent = reply.Spent
 plain_reply plain.Stopped = reply.Stopped
+plain_reply plain.Held = reply.Held
+plain_reply plain.NotPinned = reply.NotPinned
 
 -- the line is the text of nothing that may be written in one
 pub record IsNoLine (line : List ℕ) : Type 0 where

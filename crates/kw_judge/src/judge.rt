@@ -5,18 +5,19 @@
 //! so all of it takes time that is linear but for the look-ups and the calls of the map.
 ghost use Rattle.std.specs.Prelude.{◌≡◌, ◌↔◌, ◌<◌, ◌≤◌, IsTrue, IfOk, OnOk, MatchOption, MatchResult, Contains, length, map};
 ghost use Rattle.kw_judge.specs.declared.record.DoneCall.{DoneCall as AnyDone};
-ghost use Rattle.kw_model.specs.Legal.{IsRight, may_refuse, went};
+ghost use Rattle.kw_model.specs.LegalFor.{IsRightFor, state_went};
 ghost use Rattle.kw_judge.specs.declared.verdict.Verdict.{Verdict as AnyVerdict};
 ghost use Rattle.kw_judge.specs.Record.{names_of};
 ghost use Rattle.kw_judge.specs.Good.{Recorded, calls_of, calls_in_order, EndedBefore};
 ghost use Rattle.kw_judge.specs.Index.{AreNames, ArePlaces, StandInOrder, call_at};
 ghost use Rattle.kw_judge.specs.Line.{recorded};
-ghost use Rattle.kw_judge.specs.Verdict.{IsFirst, AllHold, InTime, map_before, IsVerdict, IsLate, IsWrong, AllInTime};
+ghost use Rattle.kw_judge.specs.Verdict.{IsFirst, AllHold, InTime, IsRightAt, IsVerdict, IsLate, IsWrong, AllInTime};
 
 use crate::index::Index;
 use crate::record::{DoneCall, Name, OpenCall, Record};
 use crate::verdict::Verdict;
-use kw_model::call::{Call, Reply};
+use kw_model::call::Reply;
+use kw_model::legal::is_right;
 use kw_model::map_state::MapState;
 use kw_model::memory::Memory;
 use std::alloc::Global;
@@ -108,17 +109,17 @@ impl<'a> Line<'a> {
         }
     }
 
-    /// Whether the map gives the call this reply, or the call may be refused by it; one that was
-    /// not answered counts as done.
+    /// Whether the map gives the seat of the call this reply, or the call may be refused by it; one
+    /// that was not answered counts as done.
     fn is_right(&self, map: &mut MapState) -> Result<bool, Memory>
-        ensures right { IfOk result (λ right. IsTrue right ↔ IsRight map.old
+        ensures right { IfOk result (λ right. IsTrue right ↔ IsRightFor map.old
+            (recorded self.now).name.seat (recorded self.now).call (recorded self.now).reply) }
+        ensures went { OnOk result (map.new ≡ state_went map.old (recorded self.now).name.seat
             (recorded self.now).call (recorded self.now).reply) }
-        ensures went { OnOk result (map.new ≡ went map.old (recorded self.now).call
-            (recorded self.now).reply) }
     {
         match self {
-            Line::Done(line) => is_right(map, &line.call, &line.reply),
-            Line::Open(line) => is_right(map, &line.call, &Reply::Done),
+            Line::Done(line) => is_right(map, line.name.seat, &line.call, &line.reply),
+            Line::Open(line) => is_right(map, line.name.seat, &line.call, &Reply::Done),
         }
     }
 }
@@ -214,7 +215,7 @@ fn first_after(written: &Record, places: &[usize], end: u64) -> Option<Name>
 fn first_wrong(alloc: Global, written: &Record, places: &[usize]) -> Result<Option<Name>, Memory>
     requires { StandInOrder written.now places.now }
     ensures { IfOk result (λ answer. MatchOption answer
-        (AllHold (λ i c. IsRight (map_before (calls_in_order written.now) i) c.call c.reply) (calls_in_order written.now))
+        (AllHold (IsRightAt (calls_in_order written.now)) (calls_in_order written.now))
         (IsWrong written.now)) }
 {
     let mut map = MapState::new(alloc);
@@ -225,27 +226,4 @@ fn first_wrong(alloc: Global, written: &Record, places: &[usize]) -> Result<Opti
         }
     }
     Ok(None)
-}
-
-/// Whether the map gives this reply to the call, or the call may be refused by it. The map is asked
-/// unless the call was refused, and is then the map after the call.
-fn is_right(map: &mut MapState, call: &Call, reply: &Reply) -> Result<bool, Memory>
-    ensures right { IfOk result (λ right. IsTrue right ↔ IsRight map.old call.now reply.now) }
-    ensures went { OnOk result (map.new ≡ went map.old call.now reply.now) }
-{
-    if may_refuse(call, reply) {
-        return Ok(true);
-    }
-    Ok(map.apply(call)? == *reply)
-}
-
-/// Whether the reply is a refusal that this call may have.
-fn may_refuse(call: &Call, reply: &Reply) -> bool
-    ensures { result ≡ may_refuse call.now reply.now }
-{
-    match (call, reply) {
-        (Call::Put(..) | Call::Del(_), Reply::NoRows | Reply::Spent) => true,
-        (Call::Scan(..), Reply::Spent | Reply::Stopped) => true,
-        _ => false,
-    }
 }

@@ -5,6 +5,8 @@
 ghost use Rattle.std.specs.Prelude.{◌≡◌, ◌≢◌, ◌++◌, ℕ, List, map, decimal, MatchOption};
 ghost use Rattle.kw_model.specs.declared.call.Call.{Call as AnyCall};
 ghost use Rattle.kw_line.specs.Line.{FitsCall, arguments};
+ghost use Rattle.kw_model.specs.LegalFor.{is_of_snapshots};
+ghost use Rattle.kw_judge.specs.Record.{IsRecordCall};
 ghost use Rattle.kw_judge.specs.declared.parse.CallVerb.{CallVerb as AnyCallVerb};
 ghost use Rattle.kw_judge.specs.Texts.{call_words, call_verb_of, call_verb_word};
 
@@ -22,13 +24,37 @@ pub enum CallVerb {
     Get,
     /// `scan`, before the least and the greatest key of a range.
     Scan,
+    /// `pin`.
+    Pin,
+    /// `scan_at`, before the least and the greatest key of a range.
+    ScanAt,
+    /// `unpin`.
+    Unpin,
 }
 
-/// The call whose words are the next ones, or none.
+/// The call whose words are the next ones, or none. It is of no snapshot.
 pub fn call(words: &mut Words) -> Option<Call>
     ensures { MatchOption result
         ((call : AnyCall) (left : List (List ℕ)) → FitsCall call → words.old ≢ call_words call ++ left)
         (λ call. FitsCall call × (words.old ≡ call_words call ++ words.new)) }
+{
+    let call = record_call(words)?;
+    (!is_of_snapshots(&call)).then_some(call)
+}
+
+/// Whether the call is of snapshots.
+fn is_of_snapshots(call: &Call) -> bool
+    ensures { result ≡ is_of_snapshots call.now }
+{
+    matches!(call, Call::Pin | Call::ScanAt(..) | Call::Unpin)
+}
+
+/// The call of a record whose words are the next ones, or none.
+pub fn record_call(words: &mut Words) -> Option<Call>
+    ensures { MatchOption result
+        ((call : AnyCall) (left : List (List ℕ)) → IsRecordCall call
+        → words.old ≢ call_words call ++ left)
+        (λ call. IsRecordCall call × (words.old ≡ call_words call ++ words.new)) }
 {
     let verb = call_verb_named(words.next()?)?;
     call_of(verb, words)
@@ -48,6 +74,12 @@ fn call_verb_named(word: &[u8]) -> Option<CallVerb>
         Some(CallVerb::Get)
     } else if is_same(word, b"scan") {
         Some(CallVerb::Scan)
+    } else if is_same(word, b"pin") {
+        Some(CallVerb::Pin)
+    } else if is_same(word, b"scan_at") {
+        Some(CallVerb::ScanAt)
+    } else if is_same(word, b"unpin") {
+        Some(CallVerb::Unpin)
     } else {
         None
     }
@@ -56,9 +88,9 @@ fn call_verb_named(word: &[u8]) -> Option<CallVerb>
 /// The call that does this and whose numbers are the next words, or none.
 fn call_of(verb: CallVerb, words: &mut Words) -> Option<Call>
     ensures { MatchOption result
-        ((call : AnyCall) (left : List (List ℕ)) → call_verb_of call ≡ verb → FitsCall call
+        ((call : AnyCall) (left : List (List ℕ)) → call_verb_of call ≡ verb → IsRecordCall call
         → words.old ≢ map decimal (arguments call) ++ left)
-        (λ call. (call_verb_of call ≡ verb) × FitsCall call
+        (λ call. (call_verb_of call ≡ verb) × IsRecordCall call
         × (words.old ≡ map decimal (arguments call) ++ words.new)) }
 {
     match verb {
@@ -72,5 +104,11 @@ fn call_of(verb: CallVerb, words: &mut Words) -> Option<Call>
             let from = words.key()?;
             Some(Call::Scan(from, words.key()?))
         }
+        CallVerb::Pin => Some(Call::Pin),
+        CallVerb::ScanAt => {
+            let from = words.key()?;
+            Some(Call::ScanAt(from, words.key()?))
+        }
+        CallVerb::Unpin => Some(Call::Unpin),
     }
 }

@@ -37,6 +37,9 @@ fn call_word(call: &Call) -> &'static [u8]
         Call::Del(_) => b"del",
         Call::Get(_) => b"get",
         Call::Scan(..) => b"scan",
+        Call::Pin => b"pin",
+        Call::ScanAt(..) => b"scan_at",
+        Call::Unpin => b"unpin",
     }
 }
 
@@ -53,6 +56,8 @@ pub fn push_reply(out: &mut Vec<u8>, reply: &Reply) -> Result<(), Memory>
         Reply::NoRows => Ok(out.extend_from_slice(b"no rows")?),
         Reply::Spent => Ok(out.extend_from_slice(b"spent")?),
         Reply::Stopped => Ok(out.extend_from_slice(b"stopped")?),
+        Reply::Held => Ok(out.extend_from_slice(b"held")?),
+        Reply::NotPinned => Ok(out.extend_from_slice(b"not pinned")?),
     }
 }
 

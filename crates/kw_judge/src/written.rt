@@ -18,7 +18,7 @@ ghost use Rattle.kw_judge.specs.Record.{IsName, IsPair, FitsReply, IsDone, IsOpe
 ghost use Rattle.kw_judge.specs.Texts.{name_text, reply_text, done_text, open_text, order_text};
 ghost use Rattle.kw_judge.specs.Written.{IsWritten, IsNoLine, written_text, IsHead, head_words, open_words, plain_text, plain_reply};
 
-use crate::parse::call;
+use crate::parse::record_call;
 use crate::print::{COLON, DOT};
 use crate::record::{DoneCall, MOST_NUMBER, Name, OpenCall, RECORD_SEATS};
 use kw_line::number;
@@ -64,6 +64,10 @@ enum Plain {
     Spent,
     /// `stopped`.
     Stopped,
+    /// `held`.
+    Held,
+    /// `not pinned`.
+    NotPinned,
 }
 
 /// What is written in the line, or none where it is no line of a record.
@@ -120,7 +124,7 @@ fn done_head(bytes: &[u8]) -> Option<Head>
     let mut words = Words::new(bytes);
     let (name, first) = name_and_first(&mut words, b"done")?;
     let last = words.value()?;
-    let call = call(&mut words)?;
+    let call = record_call(&mut words)?;
     (words.is_empty() && first <= last).then_some(Head {
         name,
         first,
@@ -137,7 +141,7 @@ fn open_call(line: &[u8]) -> Option<OpenCall>
 {
     let mut words = Words::new(line);
     let (name, first) = name_and_first(&mut words, b"open")?;
-    let call = call(&mut words)?;
+    let call = record_call(&mut words)?;
     (words.is_empty() && is_update(&call)).then_some(OpenCall { name, first, call })
 }
 
@@ -240,6 +244,10 @@ fn plain_named(text: &[u8]) -> Option<Plain>
         Some(Plain::Spent)
     } else if is_same(text, b"stopped") {
         Some(Plain::Stopped)
+    } else if is_same(text, b"held") {
+        Some(Plain::Held)
+    } else if is_same(text, b"not pinned") {
+        Some(Plain::NotPinned)
     } else {
         None
     }
@@ -256,6 +264,8 @@ fn plain_reply(alloc: Global, plain: Plain) -> Reply
         Plain::NoRows => Reply::NoRows,
         Plain::Spent => Reply::Spent,
         Plain::Stopped => Reply::Stopped,
+        Plain::Held => Reply::Held,
+        Plain::NotPinned => Reply::NotPinned,
     }
 }
 

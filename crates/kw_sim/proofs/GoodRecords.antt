@@ -4,13 +4,14 @@ use Rattle.std.specs.Option.{option_map}
 use Rattle.std.proofs.lemmas.Option.{same_Some, slice_get-map, slice_get-get_or, slice_get_within, get_or_from_slice_get}
 use Rattle.kw_model.specs.declared.call.Call.{Call}
 use Rattle.kw_model.specs.declared.call.Reply.{Reply}
-use Rattle.kw_model.specs.Legal.{IsLegal}
+use Rattle.kw_model.specs.Snapshots.{empty}
+use Rattle.kw_model.specs.LegalFor.{IsLegalFor}
 use Rattle.kw_core.specs.History.{History, called}
 use Rattle.kw_core.specs.declared.history.End.{End}
 use Rattle.kw_core.specs.HistoryLaws.{HistoryLaws}
 use Rattle.kw_order.specs.Order.{IsOrder, IsPlaced}
 use Rattle.kw_order.specs.OrderLaws.{OrderLaws}
-use Rattle.kw_order.specs.Legal.{IsLegalOrder, reply_or_done, call_of, reply_of}
+use Rattle.kw_order.specs.Legal.{IsLegalOrder, reply_or_done, seat_of, call_of, reply_of}
 use Rattle.kw_order.proofs.SeatOrders.{placed_within}
 use Rattle.kw_judge.specs.declared.record.Name.{Name}
 use Rattle.kw_judge.specs.Record.{RecordView, Once, names_of}
@@ -118,8 +119,11 @@ module _ (h : History) (laws : HistoryLaws h) (L : List ℕ) (once : Once L) (pl
             let first : (called h y.0).first ≡ b.first = ap (λ (c : Recorded). c.first) y.2 in
             omega (arith, l, order.precedes x.0 y.0 i j q.0 x.1 y.1 q.1 (omega (arith, q.2, before, first)))
 
-        right : IsLegal [] (map (λ (c : Recorded). c.call) (calls_in_order r)) (map (λ (c : Recorded). c.reply) (calls_in_order r))
+        right : IsLegalFor empty (map (λ (c : Recorded). c.name.seat) (calls_in_order r)) (map (λ (c : Recorded). c.call) (calls_in_order r)) (map (λ (c : Recorded). c.reply) (calls_in_order r))
         right =
+            let who : map (seat_of h) xs ≡ map (λ (c : Recorded). c.name.seat) (calls_in_order r) = sym (ap (map (λ (c : Recorded). c.name.seat)) in_order ∙ map_twice (λ (c : Recorded). c.name.seat) (recorded_at h) xs) in
             let asked : map (call_of h) xs ≡ map (λ (c : Recorded). c.call) (calls_in_order r) = sym (ap (map (λ (c : Recorded). c.call)) in_order ∙ map_twice (λ (c : Recorded). c.call) (recorded_at h) xs) in
             let told : map (reply_of h) xs ≡ map (λ (c : Recorded). c.reply) (calls_in_order r) = sym (ap (map (λ (c : Recorded). c.reply)) in_order ∙ map_twice (λ (c : Recorded). c.reply) (recorded_at h) xs) in
-            subst (λ (cs : List Call). IsLegal [] cs (map (λ (c : Recorded). c.reply) (calls_in_order r))) asked (subst (λ (rs : List Reply). IsLegal [] (map (call_of h) xs) rs) told legal)
+            let by_replies : IsLegalFor empty (map (seat_of h) xs) (map (call_of h) xs) (map (λ (c : Recorded). c.reply) (calls_in_order r)) = subst (λ (rs : List Reply). IsLegalFor empty (map (seat_of h) xs) (map (call_of h) xs) rs) told legal in
+            let by_calls : IsLegalFor empty (map (seat_of h) xs) (map (λ (c : Recorded). c.call) (calls_in_order r)) (map (λ (c : Recorded). c.reply) (calls_in_order r)) = subst (λ (cs : List Call). IsLegalFor empty (map (seat_of h) xs) cs (map (λ (c : Recorded). c.reply) (calls_in_order r))) asked by_replies in
+            subst (λ (seats : List ℕ). IsLegalFor empty seats (map (λ (c : Recorded). c.call) (calls_in_order r)) (map (λ (c : Recorded). c.reply) (calls_in_order r))) who by_calls

@@ -1,7 +1,7 @@
 -- Which events a simulator may make.
 use Rattle.std.proofs.Common.{◌≡◌, ◌<◌, Some, length, slice_get, arith}
 use Rattle.kw_model.specs.declared.call.Call.{Call}
-use Rattle.kw_model.specs.declared.call.Call.TheVariants.{Put, Del, Get, Scan}
+use Rattle.kw_model.specs.declared.call.Call.TheVariants.{Put, Del, Get, Scan, Pin, ScanAt, Unpin}
 use Rattle.kw_line.specs.Line.{FitsCall}
 use Rattle.kw_world.specs.declared.activity.Activity.{Activity}
 use Rattle.kw_world.specs.declared.activity.Activity.TheVariants as Activity
@@ -22,6 +22,9 @@ in_range (Put key value) h = (omega (arith, h.0), omega (arith, h.1))
 in_range (Del key) h = omega (arith, h)
 in_range (Get key) h = omega (arith, h)
 in_range (Scan from upto) h = (omega (arith, h.0), omega (arith, h.1))
+in_range Pin h = absurd h
+in_range (ScanAt from upto) h = absurd h
+in_range Unpin h = absurd h
 
 -- an event whose numbers are in range can be made, as long as there are few enough
 pub can_step : (t : TraceView) (e : Event) → FitsChoice e.choice → length t.events < MOST_CALLS → CanStep (world_of t) e

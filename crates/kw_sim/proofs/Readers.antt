@@ -10,7 +10,7 @@ use Rattle.std.proofs.lemmas.Str.Ascii.{IsAscii-from_all}
 use Rattle.std.proofs.lemmas.Fmt.{decimal_injective}
 use Rattle.std.proofs.lemmas.Bool.{cases_lt, le-leb, lt-leb, lt-ltb, le-ltb, ltb-true, and_parts}
 use Rattle.kw_words.specs.declared.kind.Kind.{Kind}
-use Rattle.kw_words.specs.declared.kind.Kind.TheVariants.{LoadEpoch, StorePass, ClearPass, LoadCount, AddCount, StoreKey, StoreValue, Announce, LoadClock, Stamp, StoreVersion, ClearPend, LoadPend, LoadKey, LoadValue, LoadVersion, HelpStamp, StoreWaiting, Draw, Settle, ClearScan, LoadHead, LoadLink, LoadLeast, LoadState, Engage, FreezeCount, FreezePend, LoadScan, HelpDraw, HelpSettle, TakeRow, StoreInfant, Replace, Normalise, GiveBack, Number, StoreRetired, LoadPass, Reclaim, MarkLink, LoadNextCount, Decide, EngageNext, LoadAfter, StoreAfter, Insert}
+use Rattle.kw_words.specs.declared.kind.Kind.TheVariants.{LoadEpoch, StorePass, ClearPass, LoadCount, AddCount, StoreKey, StoreValue, Announce, LoadClock, Stamp, StoreVersion, ClearPend, LoadPend, LoadKey, LoadValue, LoadVersion, HelpStamp, StoreWaiting, Draw, Settle, ClearScan, LoadHead, LoadLink, LoadLeast, LoadState, Engage, FreezeCount, FreezePend, LoadScan, HelpDraw, HelpSettle, TakeRow, StoreInfant, Replace, Normalise, GiveBack, Number, StoreRetired, LoadPass, Reclaim, MarkLink, LoadNextCount, Decide, EngageNext, LoadAfter, StoreAfter, Insert, StorePin, LoadPin, ClearPin}
 use Rattle.kw_words.specs.Kind.{name_of}
 use Rattle.kw_sim.specs.declared.command.Command.{Command}
 use Rattle.kw_sim.specs.declared.command.Command.TheVariants as command
@@ -82,6 +82,9 @@ name_is_ascii EngageNext = refl
 name_is_ascii LoadAfter = refl
 name_is_ascii StoreAfter = refl
 name_is_ascii Insert = refl
+name_is_ascii StorePin = refl
+name_is_ascii LoadPin = refl
+name_is_ascii ClearPin = refl
 
 ascii_in : (bytes : List ℕ) → list_all (λ b. ltb b 128) bytes ≡ true → AllByRecursion (λ b. b < 128) bytes
 ascii_in [] e = tt

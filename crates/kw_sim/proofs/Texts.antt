@@ -7,7 +7,7 @@ use Rattle.std.specs.List.{join_with_byte, AllByRecursion, list_all}
 use Rattle.std.proofs.lemmas.List.{append-nil}
 use Rattle.std.proofs.lemmas.Bool.{false≢true}
 use Rattle.kw_words.specs.declared.kind.Kind.{Kind}
-use Rattle.kw_words.specs.declared.kind.Kind.TheVariants.{LoadEpoch, StorePass, ClearPass, LoadCount, AddCount, StoreKey, StoreValue, Announce, LoadClock, Stamp, StoreVersion, ClearPend, LoadPend, LoadKey, LoadValue, LoadVersion, HelpStamp, StoreWaiting, Draw, Settle, ClearScan, LoadHead, LoadLink, LoadLeast, LoadState, Engage, FreezeCount, FreezePend, LoadScan, HelpDraw, HelpSettle, TakeRow, StoreInfant, Replace, Normalise, GiveBack, Number, StoreRetired, LoadPass, Reclaim, MarkLink, LoadNextCount, Decide, EngageNext, LoadAfter, StoreAfter, Insert}
+use Rattle.kw_words.specs.declared.kind.Kind.TheVariants.{LoadEpoch, StorePass, ClearPass, LoadCount, AddCount, StoreKey, StoreValue, Announce, LoadClock, Stamp, StoreVersion, ClearPend, LoadPend, LoadKey, LoadValue, LoadVersion, HelpStamp, StoreWaiting, Draw, Settle, ClearScan, LoadHead, LoadLink, LoadLeast, LoadState, Engage, FreezeCount, FreezePend, LoadScan, HelpDraw, HelpSettle, TakeRow, StoreInfant, Replace, Normalise, GiveBack, Number, StoreRetired, LoadPass, Reclaim, MarkLink, LoadNextCount, Decide, EngageNext, LoadAfter, StoreAfter, Insert, StorePin, LoadPin, ClearPin}
 use Rattle.kw_words.specs.declared.sizes.TheConstants.{SEATS}
 use Rattle.kw_words.specs.Kind.{name_of}
 use Rattle.kw_line.specs.declared.words.TheConstants.{SPACE}
@@ -15,7 +15,7 @@ use Rattle.kw_line.specs.Cut.{words}
 use Rattle.kw_line.proofs.Parts.{HasNo}
 use Rattle.kw_line.proofs.Texts.{no_space_decimal, words_join, join_words}
 use Rattle.kw_judge.proofs.Marks.{no_mark}
-use Rattle.kw_judge.proofs.Calls.{space_is_mark, no_mark_call, call_left}
+use Rattle.kw_judge.proofs.Calls.{space_is_mark, no_mark_call, call_left, record_call_from_fits}
 use Rattle.kw_sim.specs.declared.command.Command.{Command}
 use Rattle.kw_sim.specs.declared.command.Command.TheVariants as command
 use Rattle.kw_sim.specs.declared.parse.Verb.{Verb}
@@ -80,9 +80,12 @@ no_space_kind EngageNext = refl
 no_space_kind LoadAfter = refl
 no_space_kind StoreAfter = refl
 no_space_kind Insert = refl
+no_space_kind StorePin = refl
+no_space_kind LoadPin = refl
+no_space_kind ClearPin = refl
 
 no_space_rest : (rows : ℕ) (c : Command) → rows < 2 ^ 32 → HasRange rows c → AllByRecursion (HasNo SPACE) (rest_words c)
-no_space_rest rows (command.Call s c) r h = no_mark_call SPACE c space_is_mark h
+no_space_rest rows (command.Call s c) r h = no_mark_call SPACE c space_is_mark (record_call_from_fits c h)
 no_space_rest rows (command.Puts s n k v) r h = (no_space_decimal n (omega (arith, h.0.1)), (no_space_decimal k (omega (arith, h.1.0)), (no_space_decimal v (omega (arith, h.1.1)), tt)))
 no_space_rest rows (command.Go s n) r h = (no_space_decimal n (omega (arith, h.1)), tt)
 no_space_rest rows (command.Until s k) r h = (no_mark SPACE (name_of k) (no_space_kind k), tt)

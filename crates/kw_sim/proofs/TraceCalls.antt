@@ -5,7 +5,7 @@ use Rattle.std.proofs.lemmas.List.{take-append-drop, take_all, take_more, length
 use Rattle.std.proofs.lemmas.Option.{same_Some, slice_get_within, slice_get-get_or, get_or_from_slice_get}
 use Rattle.std.proofs.Math.Seq.{drop-cons}
 use Rattle.kw_model.specs.declared.call.Call.{Call}
-use Rattle.kw_model.specs.declared.call.Call.TheVariants.{Put, Del, Get, Scan}
+use Rattle.kw_model.specs.declared.call.Call.TheVariants.{Put, Del, Get, Scan, Pin, ScanAt, Unpin}
 use Rattle.kw_line.specs.Line.{FitsCall}
 use Rattle.kw_world.specs.declared.activity.Activity.{Activity}
 use Rattle.kw_world.specs.declared.activity.Activity.TheVariants as Activity
@@ -46,6 +46,9 @@ fits_from (Put k v) h = (omega (arith, h.0), omega (arith, h.1))
 fits_from (Del k) h = omega (arith, h)
 fits_from (Get k) h = omega (arith, h)
 fits_from (Scan a b) h = (omega (arith, h.0), omega (arith, h.1))
+fits_from Pin h = absurd h
+fits_from (ScanAt a b) h = absurd h
+fits_from Unpin h = absurd h
 
 -- Calls that are counted.
 

@@ -5,9 +5,9 @@ use Rattle.std.specs.List.{AllByRecursion}
 use Rattle.std.proofs.lemmas.Option.{same_Some}
 use Rattle.kw_model.specs.Map.{value_of}
 use Rattle.kw_model.specs.declared.call.Call.{Call}
-use Rattle.kw_model.specs.declared.call.Call.TheVariants.{Put, Del, Get, Scan}
+use Rattle.kw_model.specs.declared.call.Call.TheVariants.{Put, Del, Get, Scan, Pin, ScanAt, Unpin}
 use Rattle.kw_model.specs.declared.call.Reply.{Reply}
-use Rattle.kw_model.specs.declared.call.Reply.TheVariants.{Done, Value, Absent, Pairs, NoRows, Spent, Stopped}
+use Rattle.kw_model.specs.declared.call.Reply.TheVariants.{Done, Value, Absent, Pairs, NoRows, Spent, Stopped, Held, NotPinned}
 use Rattle.kw_line.specs.Line.{FitsCall}
 use Rattle.kw_core.specs.History.{History, attempt, called}
 use Rattle.kw_core.specs.declared.history.End.{End}
@@ -27,6 +27,9 @@ module _ (h : History) (laws : HistoryLaws h) (fits : (x : ℕ) → x < length h
       at (Del k) f m = let z : None ≡ Some v = sym m.1 ∙ e in absurd (cc)
       at (Get k) f m = absurd m
       at (Scan a b) f m = absurd m
+      at Pin f m = absurd f
+      at (ScanAt a b) f m = absurd f
+      at Unpin f m = absurd f
 
   -- what a gap shows is in range
   shown_fits : (key : ℕ) (o : Option ℕ) (v : ℕ) → IsGapOf h key o → shows h o ≡ Some v → v < 2 ^ 63
@@ -57,6 +60,8 @@ module _ (h : History) (laws : HistoryLaws h) (fits : (x : ℕ) → x < length h
       at (Put k v) is f NoRows same a = tt
       at (Put k v) is f Spent same a = tt
       at (Put k v) is f Stopped same a = tt
+      at (Put k v) is f Held same a = absurd a
+      at (Put k v) is f NotPinned same a = absurd a
       at (Del k) is f Done same a = tt
       at (Del k) is f (Value w) same a = absurd a
       at (Del k) is f Absent same a = tt
@@ -64,6 +69,8 @@ module _ (h : History) (laws : HistoryLaws h) (fits : (x : ℕ) → x < length h
       at (Del k) is f NoRows same a = tt
       at (Del k) is f Spent same a = tt
       at (Del k) is f Stopped same a = tt
+      at (Del k) is f Held same a = absurd a
+      at (Del k) is f NotPinned same a = absurd a
       at (Get k) is f Done same a = tt
       at (Get k) is f (Value w) same a =
           let g = laws.got x k e.at (Value w) (is, ended ∙ ap (λ r. Some (record { at = e.at; reply = r })) same) in
@@ -73,6 +80,8 @@ module _ (h : History) (laws : HistoryLaws h) (fits : (x : ℕ) → x < length h
       at (Get k) is f NoRows same a = tt
       at (Get k) is f Spent same a = tt
       at (Get k) is f Stopped same a = tt
+      at (Get k) is f Held same a = absurd a
+      at (Get k) is f NotPinned same a = absurd a
       at (Scan i j) is f Done same a = tt
       at (Scan i j) is f (Value w) same a = absurd a
       at (Scan i j) is f Absent same a = tt
@@ -82,3 +91,8 @@ module _ (h : History) (laws : HistoryLaws h) (fits : (x : ℕ) → x < length h
       at (Scan i j) is f NoRows same a = tt
       at (Scan i j) is f Spent same a = tt
       at (Scan i j) is f Stopped same a = tt
+      at (Scan i j) is f Held same a = absurd a
+      at (Scan i j) is f NotPinned same a = absurd a
+      at Pin is f r same a = absurd f
+      at (ScanAt i j) is f r same a = absurd f
+      at Unpin is f r same a = absurd f

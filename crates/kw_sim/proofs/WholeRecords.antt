@@ -13,7 +13,7 @@ use Rattle.kw_core.specs.Events.{is_valid}
 use Rattle.kw_core.specs.History.{History, attempt, called}
 use Rattle.kw_core.specs.HistoryLaws.{HistoryLaws, Makes}
 use Rattle.kw_model.specs.declared.call.Call.{Call}
-use Rattle.kw_model.specs.declared.call.Call.TheVariants.{Put, Del, Get, Scan}
+use Rattle.kw_model.specs.declared.call.Call.TheVariants.{Put, Del, Get, Scan, Pin, ScanAt, Unpin}
 use Rattle.kw_model.specs.declared.call.Reply.{Reply}
 use Rattle.kw_core.specs.declared.history.CallLog.{CallLog}
 use Rattle.kw_core.specs.declared.history.End.{End}
@@ -32,6 +32,7 @@ use Rattle.kw_judge.specs.declared.record.TheConstants.{RECORD_SEATS, MOST_POSIT
 use Rattle.kw_judge.specs.Record.{RecordView, IsRecord, IsRecordText, IsName, IsDone, IsOpen, IsUpdate, Once, record_text}
 use Rattle.kw_judge.specs.Good.{Recorded, answered, unanswered}
 use Rattle.kw_judge.specs.Texts.{done_text, open_text, order_text}
+use Rattle.kw_judge.proofs.Calls.{record_call_from_fits}
 use Rattle.kw_judge.proofs.RecordTexts.{text_is_record}
 use Rattle.kw_sim.specs.declared.recording.LinePlace.{LinePlace}
 use Rattle.kw_sim.specs.declared.recording.Section.TheVariants.{Done, Open}
@@ -352,7 +353,7 @@ module _ (t : TraceView) (opening : IsOpening product t.opening) (ok : is_valid 
           name = name_fits p.0.call placed_here;
           rising = omega (arith, (laws.ends p.0.call _ end).0);
           last = omega (arith, facts.end_within product t.opening t.events opening ok p.0.call _ l end, short);
-          call = fits p.0.call l;
+          call = record_call_from_fits (called h p.0.call).call (fits p.0.call l);
           reply = reply_fits h laws fits p.0.call _ l end;
         })
 
@@ -369,7 +370,7 @@ module _ (t : TraceView) (opening : IsOpening product t.opening) (ok : is_valid 
           name = name_fits p.0.call placed_here;
           first = omega (arith, facts.first_within product t.opening t.events opening ok p.0.call l, short);
           update = update (called h p.0.call).call (attempt h w.put).key (attempt h w.put).value (subst (λ x. Makes (called h x).call (attempt h w.put).key (attempt h w.put).value) put.1 made);
-          call = fits p.0.call l;
+          call = record_call_from_fits (called h p.0.call).call (fits p.0.call l);
         })
       where
         update : (c : Call) (key : ℕ) (value : Option ℕ) → Makes c key value → IsUpdate c
@@ -377,6 +378,9 @@ module _ (t : TraceView) (opening : IsOpening product t.opening) (ok : is_valid 
         update (Del k) key value m = tt
         update (Get k) key value m = m
         update (Scan a b) key value m = m
+        update Pin key value m = absurd m
+        update (ScanAt a b) key value m = absurd m
+        update Unpin key value m = absurd m
 
     module _ (names_are : List CallName) (are : AreNames h names_are) (one : (xs : List ℕ) → IsOrder h xs → xs ≡ are.order) (order_laws : OrderLaws h are.order) (legal : IsLegalOrder h are.order) where
       abbrev written : RecordView

@@ -19,5 +19,5 @@ returns c =
     let read = c.in_ok-name.ensures {u = tt} in
     let last = c.in_ok-last.ensures {u = tt} in
     let called = c.in_ok-call.ensures {u = tt} in
-    rw c.then_some.ensures (head_read _ c.name_and_first.new.words c.value.new.self c.call.new.words c.in_ok-name.name c.in_ok-name.first c.in_ok-last.last c.in_ok-call.call c.if-is_empty.then_some c.is_empty.result (sym c.new-words.ensures ∙ read.2) last.1 called.1 read.0 read.1 (omega (arith, last.0)) called.0 c.is_empty.ensures
+    rw c.then_some.ensures (head_read _ c.name_and_first.new.words c.value.new.self c.record_call.new.words c.in_ok-name.name c.in_ok-name.first c.in_ok-last.last c.in_ok-call.call c.if-is_empty.then_some c.is_empty.result (sym c.new-words.ensures ∙ read.2) last.1 called.1 read.0 read.1 (omega (arith, last.0)) called.0 c.is_empty.ensures
     (elim c.if-is_empty.branch [ then-is_empty w ↦ inl (w.if-is_empty.true, w.then_some-is) | else-is_empty w ↦ inr (w.if-is_empty.false, w.then_some-is ∙ w.if-is_empty.false) ]))
