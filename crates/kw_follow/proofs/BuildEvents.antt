@@ -6,6 +6,7 @@ use Rattle.kw_words.specs.declared.layout.Name.{Name}
 use Rattle.kw_words.specs.declared.pend.Pend.{Pend}
 use Rattle.kw_words.specs.declared.pend.Pend.TheVariants.{Idle, Pending, Stamped, Frozen}
 use Rattle.kw_words.specs.declared.sizes.TheConstants.{SEATS}
+use Rattle.kw_cells.specs.declared.limits.TheConstants.{MOST_NEEDED}
 use Rattle.kw_words.specs.Pend.{IsPend}
 use Rattle.kw_cells.specs.Kept.{AreRising, kept_of}
 use Rattle.kw_cells.proofs.KeptOf.{kept_of-rising}
@@ -50,13 +51,13 @@ module _ (s : Shared) (p : Pass) (l : Local) (f : Follows s p l) where
       let room : length l.rebalance.marks ≤ entries_before product l.rebalance + i = subst (λ a. length l.rebalance.marks ≤ group_marks_by product a l.rebalance) is (follows_room s p l f).rebalance.marks in
       omega (arith, below, room, entries_few product l.rebalance)
 
-  pub needed_room : (i : ℕ) → l.activity ≡ Activity.Rebalance (Rebalance.Freeze (Freeze.Scan i)) → length l.rebalance.needed < SEATS
+  pub needed_room : (i : ℕ) → l.activity ≡ Activity.Rebalance (Rebalance.Freeze (Freeze.Scan i)) → length l.rebalance.needed < MOST_NEEDED
   needed_room i is =
       let below : i < SEATS = named_below (Activity.Rebalance (Rebalance.Freeze (Freeze.Scan i))) is in
       let room : length l.rebalance.needed ≤ i = subst (λ a. length l.rebalance.needed ≤ needed_by product a) is (follows_room s p l f).rebalance.needed in
       omega (arith, below, room)
 
-  pub needed_few : (a : Activity) → l.activity ≡ a → needed_by product a ≡ SEATS → length l.rebalance.needed ≤ SEATS
+  pub needed_few : (a : Activity) → l.activity ≡ a → needed_by product a ≡ MOST_NEEDED → length l.rebalance.needed ≤ MOST_NEEDED
   needed_few a is most = subst (λ n. length l.rebalance.needed ≤ n) most (subst (λ b. length l.rebalance.needed ≤ needed_by product b) is (follows_room s p l f).rebalance.needed)
 
   -- the kept cells rise where a row is written

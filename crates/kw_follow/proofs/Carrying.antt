@@ -16,7 +16,7 @@ use Rattle.kw_words.specs.Plain.{built_of_word, key_of_word, version_of_word, ce
 use Rattle.kw_words.specs.Scan.{scan_of}
 use Rattle.kw_words.specs.State.{state_of}
 use Rattle.kw_model.specs.declared.call.Call.{Call}
-use Rattle.kw_model.specs.declared.call.Call.TheVariants.{Put, Del, Get, Scan}
+use Rattle.kw_model.specs.declared.call.Call.TheVariants.{Put, Del, Get, Scan, Pin, ScanAt, Unpin}
 use Rattle.kw_world.specs.declared.answer.Answer.{Answer}
 use Rattle.kw_world.specs.declared.activity.Activity.{Activity}
 use Rattle.kw_world.specs.declared.activity.draw.Draw.TheVariants as Draw
@@ -38,12 +38,12 @@ use Rattle.kw_world.specs.declared.activity.rebalance.write.Write.TheVariants as
 use Rattle.kw_world.specs.declared.event.Choice.{Choice}
 use Rattle.kw_world.specs.declared.event.Choice.TheVariants.{Begin, Go, Guess, Stop}
 use Rattle.kw_world.specs.declared.local.Local.{Local}
-use Rattle.kw_world.specs.Calls.{first_key, is_in_range, is_range_empty, is_scan}
+use Rattle.kw_world.specs.Calls.{first_key, is_in_range, is_range_empty, is_pin, is_scan}
 use Rattle.kw_world.specs.Transition.{row_linked, leave}
 use Rattle.kw_world.specs.ListTransitions.{cell_guess, first_operation, insert_from, insert_started, insert_tried, is_newer}
 use Rattle.kw_world.specs.PutTransitions.{cleared, has_room, stamp_seen, tidies_row}
 use Rattle.kw_world.specs.ReadTransitions.{to_look, look_seen, help_seen, remembering}
-use Rattle.kw_world.specs.ScanTransitions.{entered, answer_or_stopped, settled, version_settled}
+use Rattle.kw_world.specs.ScanTransitions.{entered, pin_entered, scan_at_entered, unpin_entered, answer_or_stopped, settled, version_settled}
 use Rattle.kw_world.specs.WalkTransitions.{arrive, guess_seen, is_stop, is_stopped, link_reached, start_transition, walk_least, walk_transition}
 use Rattle.kw_world.specs.SeekTransitions.{seek_first_transition}
 use Rattle.kw_world.specs.LeftTransitions.{left_transition}
@@ -57,15 +57,30 @@ use Rattle.kw_follow.proofs.CarryingRebalance.{rebalance_carries}
 module _ (c : Choice) where
   -- How a call begins.
 
+  pin_enters : (p : Option ℕ) (l : Local) → Carries c l.pairs (pin_entered p l) (pin_entered p (carried l))
+  pin_enters None l = record { local = refl; done = refl; held = λ g. refl }
+  pin_enters (Some version) l = record { local = refl; done = refl; held = λ g. refl }
+
+  scan_at_enters : (p : Option ℕ) (l : Local) → Carries c l.pairs (scan_at_entered p l) (scan_at_entered p (carried l))
+  scan_at_enters None l = record { local = refl; done = refl; held = λ g. refl }
+  scan_at_enters (Some version) l = either c (is_range_empty l.call) l.pairs _ _ _ _ (record { local = refl; done = refl; held = λ g. refl }) (record { local = refl; done = refl; held = λ g. refl })
+
+  unpin_enters : (p : Option ℕ) (l : Local) → Carries c l.pairs (unpin_entered p l) (unpin_entered p (carried l))
+  unpin_enters None l = record { local = refl; done = refl; held = λ g. refl }
+  unpin_enters (Some version) l = record { local = refl; done = refl; held = λ g. refl }
+
   enters : (call : Option Call) (l : Local) → Carries c l.pairs (entered call l) (entered call (carried l))
   enters (Some (Put key value)) l = record { local = refl; done = refl; held = λ g. refl }
   enters (Some (Del key)) l = record { local = refl; done = refl; held = λ g. refl }
   enters (Some (Get key)) l = record { local = refl; done = refl; held = λ g. refl }
   enters (Some (Scan from upto)) l = record { local = refl; done = refl; held = λ g. refl }
+  enters (Some Pin) l = pin_enters l.pin l
+  enters (Some (ScanAt from upto)) l = scan_at_enters l.pin l
+  enters (Some Unpin) l = unpin_enters l.pin l
   enters None l = record { local = refl; done = refl; held = λ g. refl }
 
   settles : (version : ℕ) (l : Local) → Carries c l.pairs (settled version l) (settled version (carried l))
-  settles version l = either c (is_range_empty l.call) l.pairs _ _ _ _ (record { local = refl; done = refl; held = λ g. refl }) (record { local = refl; done = refl; held = λ g. refl })
+  settles version l = either c (is_pin l.call) l.pairs _ _ _ _ (record { local = refl; done = refl; held = λ g. refl }) (either c (is_range_empty l.call) l.pairs _ _ _ _ (record { local = refl; done = refl; held = λ g. refl }) (record { local = refl; done = refl; held = λ g. refl }))
 
   -- The walk.
 
@@ -89,6 +104,9 @@ module _ (c : Choice) where
   arrives (Some (Del key)) l = record { local = refl; done = refl; held = λ g. refl }
   arrives (Some (Get key)) l = record { local = refl; done = refl; held = λ g. refl }
   arrives (Some (Scan from upto)) l = record { local = refl; done = refl; held = λ g. refl }
+  arrives (Some Pin) l = record { local = refl; done = refl; held = λ g. refl }
+  arrives (Some (ScanAt from upto)) l = record { local = refl; done = refl; held = λ g. refl }
+  arrives (Some Unpin) l = record { local = refl; done = refl; held = λ g. refl }
   arrives None l = record { local = refl; done = refl; held = λ g. refl }
 
   links : (r : Option ℕ) (l : Local) → Carries c l.pairs (link_reached r l) (link_reached r (carried l))
@@ -192,6 +210,7 @@ carries z (Activity.Draw Draw.Clock) s c l rows told u = either c (nat_le SPENT 
 carries z (Activity.Draw Draw.Wait) s c l rows told u = record { local = refl; done = refl; held = λ g. refl }
 carries z (Activity.Draw Draw.Version) s c l rows told u = record { local = refl; done = refl; held = λ g. refl }
 carries z (Activity.Draw Draw.Settle) s c l rows told u = settles c (version_settled (scan_of told) l.drawn) l
+carries z (Activity.Draw Draw.Pin) s c l rows told u = record { local = refl; done = refl; held = λ g. refl }
 carries z (Activity.Walk Walk.Start) s c l rows told u = starts c c l rows told
 carries z (Activity.Walk Walk.First) s c l rows told u = record { local = refl; done = refl; held = λ g. refl }
 carries z (Activity.Walk Walk.GuessedLeast) s c l rows told u = either c (nat_le (key_of_word told) l.want) l.pairs _ _ _ _ (record { local = refl; done = refl; held = λ g. refl }) (record { local = refl; done = refl; held = λ g. refl })
@@ -203,6 +222,7 @@ carries z (Activity.Look Look.Clock) s c l rows told u = record { local = refl; 
 carries z (Activity.Look Look.Help) s c l rows told u = helps c z (pend_of told) l
 carries z (Activity.Read _) s c l rows told u = absurd u
 carries z (Activity.EndScan answer) s c l rows told u = clears c answer l
+carries z Activity.ClearPin s c l rows told u = record { local = refl; done = refl; held = λ g. refl }
 carries z (Activity.Put Put.Count) s c l rows told u = either c (has_room z (count_of told)) l.pairs _ _ _ _ (record { local = refl; done = refl; held = λ g. refl }) (record { local = refl; done = refl; held = λ g. refl })
 carries z (Activity.Put Put.Add) s c l rows told u = either c (has_room z (count_of told)) l.pairs _ _ _ _ (record { local = refl; done = refl; held = λ g. refl }) (record { local = refl; done = refl; held = λ g. refl })
 carries z (Activity.Put Put.Announce) s c l rows told u = either c (told == pend_word pend.Idle) l.pairs _ _ _ _ (record { local = refl; done = refl; held = λ g. refl }) (record { local = refl; done = refl; held = λ g. refl })

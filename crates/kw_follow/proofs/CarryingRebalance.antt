@@ -41,7 +41,7 @@ use Rattle.kw_world.specs.EngageTransitions.{claiming, counted, decided, engaged
 use Rattle.kw_world.specs.ClaimTransitions.{claimed, next_counted}
 use Rattle.kw_world.specs.LeftTransitions.{first_left, left_transition, link_left}
 use Rattle.kw_world.specs.GroupPlaces.{place_in_group}
-use Rattle.kw_world.specs.FreezeTransitions.{row_frozen, to_freeze_look, marking, freeze_seen, entry_tried, to_scan_look, needing, scan_seen, scan_helped}
+use Rattle.kw_world.specs.FreezeTransitions.{row_frozen, to_freeze_look, marking, freeze_seen, entry_tried, to_scan_look, needing, scan_seen, scan_helped, to_pin_look, pin_seen}
 use Rattle.kw_world.specs.TakeTransitions.{left_of, row_gathered, take_reached, keeping}
 use Rattle.kw_world.specs.SeekTransitions.{given_back, give_back, gave_back, has_more, to_seek, to_pass, seek_seen, pass_seen, seeking, seek_first_transition, with_row, take_row}
 use Rattle.kw_world.specs.WriteTransitions.{infant_cells, row_written, to_write_after, to_write_cell, to_write_entry}
@@ -156,6 +156,15 @@ module _ (c : Choice) where
       own false = scan_looks z (i + 1) l
   helped_carries z i (Some (scan.Drawn version)) l = scan_looks z (i + 1) (needing version l)
   helped_carries z i None l = scan_looks z (i + 1) l
+
+  pin_looks : (z : Sizes) (i : ℕ) (l : Local) → Carries c l.pairs (to_pin_look z i l) (to_pin_look z i (carried l))
+  pin_looks z i l = either c (nat_lt i z.seats) l.pairs _ _ _ _ (record { local = refl; done = refl; held = λ g. refl }) (record { local = refl; done = refl; held = λ g. refl })
+
+  pin_seen_carries : (z : Sizes) (i : ℕ) (w : Option ScanWord) (l : Local) → Carries c l.pairs (pin_seen z i w l) (pin_seen z i w (carried l))
+  pin_seen_carries z i (Some scan.Quiet) l = pin_looks z (i + 1) l
+  pin_seen_carries z i (Some (scan.Waiting clock)) l = pin_looks z (i + 1) l
+  pin_seen_carries z i (Some (scan.Drawn version)) l = pin_looks z (i + 1) (needing version l)
+  pin_seen_carries z i None l = pin_looks z (i + 1) l
 
   row_gathered_carries : (z : Sizes) (ahead : Option ℕ) (l : Local) → Carries c l.pairs (row_gathered z ahead l) (row_gathered z ahead (carried l))
   row_gathered_carries z (Some r) l = record { local = refl; done = refl; held = λ g. refl }
@@ -282,6 +291,7 @@ module _ (c : Choice) where
   rebalance_carries z (Activity.Rebalance (Rebalance.Freeze (Freeze.Scan i))) s l rows told u = scan_seen_carries z i (scan_of told) l
   rebalance_carries z (Activity.Rebalance (Rebalance.Freeze (Freeze.Draw i))) s l rows told u = record { local = refl; done = refl; held = λ g. refl }
   rebalance_carries z (Activity.Rebalance (Rebalance.Freeze (Freeze.Settle i))) s l rows told u = helped_carries z i (scan_of told) l
+  rebalance_carries z (Activity.Rebalance (Rebalance.Freeze (Freeze.Pin i))) s l rows told u = pin_seen_carries z i (scan_of told) l
   rebalance_carries z (Activity.Rebalance (Rebalance.Gather Gather.Link)) s l rows told u = take_carries z (cell_of_link_word told) l
   rebalance_carries z (Activity.Rebalance (Rebalance.Gather Gather.LeftOverValue)) s l rows told u = left_of_carries z (least_mark l.rebalance.marks) (keeping z (value_of_word told) l)
   rebalance_carries z (Activity.Rebalance (Rebalance.Gather _)) s l rows told u = record { local = refl; done = refl; held = λ g. refl }

@@ -1,5 +1,5 @@
 -- How a call begins and ends, and how a scan is over: what follows for the seat and for code.
-use Rattle.std.proofs.Common.{ℕ, ◌≡◌, ◌+◌, Bool, true, false, Some, [], nat_lt, if◌then◌else◌, refl, sym, ◌∙◌, ap}
+use Rattle.std.proofs.Common.{ℕ, ◌≡◌, ◌+◌, Bool, true, false, Some, None, [], nat_lt, if◌then◌else◌, refl, sym, ◌∙◌, ap}
 use Rattle.kw_model.specs.declared.call.Call.{Call}
 use Rattle.kw_world.specs.declared.answer.Answer.{Answer}
 use Rattle.kw_world.specs.Answers.{reply_of}
@@ -10,7 +10,7 @@ use Rattle.kw_world.specs.declared.event.Choice.TheVariants.{Begin, Go, Guess, S
 use Rattle.kw_world.specs.declared.event.StepDone.{StepDone}
 use Rattle.kw_world.specs.declared.event.StepDone.TheVariants.{Ended}
 use Rattle.kw_world.specs.declared.local.Local.{Local}
-use Rattle.kw_world.specs.Local.{resting}
+use Rattle.kw_world.specs.Local.{resting, at_rest}
 use Rattle.kw_world.specs.Transition.{Outcome, outcome}
 use Rattle.kw_world.specs.ScanTransitions.{answer_or_stopped}
 use Rattle.kw_world.specs.WalkTransitions.{offered}
@@ -23,7 +23,8 @@ use Rattle.kw_table.specs.Passes.{view, Makes}
 use Rattle.kw_table.specs.Views.{local_in}
 use Rattle.kw_follow.specs.Following.{Follows, activity_in, carried, held}
 use Rattle.kw_follow.proofs.OneEvent.{Went, seat_goes, follows_from, same_activity}
-use Rattle.kw_follow.proofs.Resting.{idle_rests}
+use Rattle.kw_shape.proofs.Worlds.{rests_unpinned}
+use Rattle.kw_follow.proofs.Resting.{idle_rests, holds_none}
 use Rattle.kw_world.proofs.Transitions.{transition_of-next}
 
 -- The end of a scan.
@@ -55,7 +56,7 @@ module _ {s : Shared} {p q : Pass} {c : Choice} {l after : Local} {done : StepDo
 
 -- The end of a call.
 
-left : (rows : ℕ) (l : Local) (told : ℕ) (answer : Answer) → l.activity ≡ Activity.Leave answer → next_of product rows Go l told ≡ outcome (resting l.number) (Ended (reply_of answer l.pairs))
+left : (rows : ℕ) (l : Local) (told : ℕ) (answer : Answer) → l.activity ≡ Activity.Leave answer → next_of product rows Go l told ≡ outcome (at_rest l) (Ended (reply_of answer l.pairs))
 unfolding transition_of
 left rows l told answer is = ap (λ a. (transition product a 0 Go l).next rows told) is
 
@@ -74,9 +75,13 @@ module _ {s : Shared} {p q : Pass} {l after : Local} {done : StepDone} {told : �
 pub ends : (l after : Local) (done : StepDone) (told rows : ℕ) (answer : Answer) → l.activity ≡ Activity.Leave answer → outcome after done ≡ next_of product rows Go l told → done ≡ Ended (reply_of answer l.pairs)
 ends l after done told rows answer is goes = ap (λ (x : Outcome). x.done) (goes ∙ left rows l told answer is)
 
--- a local that has left is at rest, but for the number of its calls
-pub end_rests : (l after : Local) (done : StepDone) (told rows : ℕ) (answer : Answer) → l.activity ≡ Activity.Leave answer → outcome after done ≡ next_of product rows Go l told → record after { number = 0 } ≡ resting 0
-end_rests l after done told rows answer is goes = ap (λ (x : Outcome). record x.local { number = 0 }) (goes ∙ left rows l told answer is)
+-- a local that follows a pass holds no pin
+unpinned : (s : Shared) (p : Pass) (l : Local) → Follows s p l → l.pin ≡ None
+unpinned s p l f = ap (λ (k : Local). k.pin) f.carries ∙ holds_none p
+
+-- so one that has left is at rest, but for the number of its calls
+pub end_rests : (s : Shared) (p : Pass) (l after : Local) (done : StepDone) (told rows : ℕ) (answer : Answer) → Follows s p l → l.activity ≡ Activity.Leave answer → outcome after done ≡ next_of product rows Go l told → record after { number = 0 } ≡ resting 0
+end_rests s p l after done told rows answer f is goes = ap (λ (x : Outcome). record x.local { number = 0 }) (goes ∙ left rows l told answer is) ∙ ap (λ (k : Local). record k { number = 0 }) (rests_unpinned l (unpinned s p l f))
 
 -- The begin of a call.
 

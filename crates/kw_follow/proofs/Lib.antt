@@ -22,3 +22,5 @@ pub mod RowWriting
 pub mod RowGathering
 pub mod SeekEvents
 pub mod EngageEvents
+pub mod AskEvents
+mod Alone

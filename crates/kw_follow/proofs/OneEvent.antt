@@ -62,6 +62,7 @@ carried_in_range : (z : Sizes) (l : Local) → IsLocal z l → IsLocal z (carrie
 carried_in_range z l k = record {
   activity = k.activity;
   call = k.call;
+  pin = k.pin;
   epoch = k.epoch;
   want = k.want;
   lower = k.lower;

@@ -6,7 +6,7 @@ use Rattle.kw_words.specs.declared.kind.Kind.TheVariants as kind
 use Rattle.kw_words.specs.Plain.{cell_of_link_word}
 use Rattle.kw_words.specs.declared.layout.Name.{Name}
 use Rattle.kw_model.specs.declared.call.Call.{Call}
-use Rattle.kw_model.specs.declared.call.Call.TheVariants.{Put, Del, Get, Scan}
+use Rattle.kw_model.specs.declared.call.Call.TheVariants.{Put, Del, Get, Scan, Pin, ScanAt, Unpin}
 use Rattle.kw_world.specs.declared.activity.Activity.{Activity}
 use Rattle.kw_world.specs.declared.activity.insert.Insert.TheVariants as Insert
 use Rattle.kw_world.specs.declared.activity.read.Read.TheVariants as Read
@@ -155,6 +155,9 @@ read_by (Some (Put key value)) l other = refl
 read_by (Some (Del key)) l other = refl
 read_by (Some (Get key)) l other = refl
 read_by (Some (Scan from upto)) l other = let x : true ≡ false = other in absurd (cc)
+read_by (Some Pin) l other = refl
+read_by (Some (ScanAt from upto)) l other = refl
+read_by (Some Unpin) l other = refl
 read_by None l other = refl
 
 pub answered_on : (l m : Local) (key : ℕ) → is_scan l.call ≡ false → key ≡ first_key l.call → CarriesOn (get_answered key) l m → CarriesOn (λ k. row_read k.call k) l m

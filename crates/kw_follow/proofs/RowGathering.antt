@@ -1,9 +1,9 @@
 -- The events that gather a row of a group along its list, by a cursor: what follows from each.
-use Rattle.std.proofs.Common.{◌≡◌, ◌∙◌, ℕ, ◌≤◌, Bool, true, false, Option, Some, None, unwrap_or, nat_lt, if◌then◌else◌, List, refl, sym, ap, subst, length}
+use Rattle.std.proofs.Common.{arith, ◌≡◌, ◌∙◌, ◌+◌, ℕ, ◌≤◌, Bool, true, false, Option, Some, None, unwrap_or, nat_lt, if◌then◌else◌, List, refl, sym, ap, subst, length}
 use Rattle.kw_words.specs.Plain.{cell_of_link_word, key_of_word, value_of_word, version_of_word}
-use Rattle.kw_words.specs.declared.sizes.TheConstants.{CELLS, SEATS}
+use Rattle.kw_words.specs.declared.sizes.TheConstants.{CELLS}
 use Rattle.kw_cells.specs.declared.cell.Cell.{Cell}
-use Rattle.kw_cells.specs.declared.limits.TheConstants.{MOST_GATHERED}
+use Rattle.kw_cells.specs.declared.limits.TheConstants.{MOST_GATHERED, MOST_NEEDED}
 use Rattle.kw_cells.specs.InOrder.{with_cell}
 use Rattle.kw_world.specs.declared.activity.Activity.{Activity}
 use Rattle.kw_world.specs.declared.activity.rebalance.Rebalance.TheVariants as Rebalance
@@ -14,15 +14,17 @@ use Rattle.kw_world.specs.declared.local.Local.{Local}
 use Rattle.kw_world.specs.declared.marks.Mark.{Mark}
 use Rattle.kw_world.specs.Marks.{least_mark}
 use Rattle.kw_world.specs.Sizes.{product}
-use Rattle.kw_world.specs.GroupPlaces.{place_in_group}
+use Rattle.kw_world.specs.declared.rebalance.Rebalancing.{Rebalancing}
+use Rattle.kw_world.specs.GroupPlaces.{base, is_second, place_in_group}
 use Rattle.kw_world.specs.TakeTransitions.{keeping, leaving_over, left_of, row_gathered, take_reached}
 use Rattle.kw_world.specs.Transition.{Outcome, outcome, to}
 use Rattle.kw_table.specs.declared.pass.Pass.{Pass}
 use Rattle.kw_table.specs.declared.shared.Shared.{Shared}
 use Rattle.kw_table.specs.Passes.{Makes}
 use Rattle.kw_follow.specs.declared.cursor.Cursor.{Cursor}
-use Rattle.kw_follow.specs.BuildsOn.{forgetting_mark, group_cell, past_list, taking_at}
-use Rattle.kw_follow.specs.Cursors.{past, reached, with_cursor}
+use Rattle.kw_follow.specs.declared.row_gathering.Hand.{Hand}
+use Rattle.kw_follow.specs.BuildsOn.{IsHand, forgetting_mark, group_cell, past_list, taking_at}
+use Rattle.kw_follow.specs.Cursors.{cell_at, past, reached, with_cursor}
 use Rattle.kw_follow.specs.Following.{Follows}
 use Rattle.kw_follow.specs.Reaching.{Advances}
 use Rattle.kw_follow.proofs.BuildEvents.{needed_few}
@@ -38,7 +40,7 @@ with_gathered cells l = record l { rebalance = record l.rebalance { gathered = c
 pub record HasPlace (l : Local) : Type 0 where
   pub walked : l.walked ≤ CELLS
   pub gathered : length l.rebalance.gathered ≤ MOST_GATHERED
-  pub needed : length l.rebalance.needed ≤ SEATS
+  pub needed : length l.rebalance.needed ≤ MOST_NEEDED
 
 module _ {s : Shared} {p : Pass} (l : Local) (w : Cursor) (f : Follows s p (taking_at Gather.Link w l)) where
   pub has_place : HasPlace (taking_at Gather.Link w l)
@@ -78,6 +80,18 @@ module _ {s : Shared} {p q : Pass} {told : ℕ} (l : Local) (w : Cursor) where
   value_told x cells is kept f makes =
       advances_by (Activity.Rebalance (Rebalance.Gather Gather.Value)) (taking_at Gather.Value w l) (taking_at Gather.Link x (with_gathered cells l)) f refl tt makes
       (ap (λ (y : Cursor). taking_at Gather.Link y (with_gathered cells l)) is ∙ ap (λ (cs : List Cell). taking_at Gather.Link (past w) (with_gathered cs l)) kept)
+
+-- the places of the row at hand begin at one of the first of two rows
+base_by : (b : Bool) → (if b then product.cells else 0) ≤ CELLS
+base_by true = omega arith
+base_by false = omega arith
+
+pub base_few : (b : Rebalancing) → base product b ≤ CELLS
+base_few b = base_by (is_second b)
+
+-- the cell at hand has its place in the group by where those of its row begin
+pub in_hand : {cell : Cell} {h : Hand} (l : Local) (w : Cursor) (value : Option ℕ) → IsHand h l.rebalance → cell ≡ record (cell_at w value) { place = h.base + w.place } → cell ≡ group_cell w value l
+in_hand l w value hand is = is ∙ ap (λ n. record (cell_at w value) { place = n + w.place }) hand.base
 
 -- the cell at hand is the one that is gathered
 pub cell_kept : {cells : List Cell} {cell : Cell} {value : Option ℕ} (l : Local) (w : Cursor) → cell ≡ group_cell w value l → cells ≡ (if nat_lt (length l.rebalance.gathered) MOST_GATHERED then with_cell cell l.rebalance.gathered else l.rebalance.gathered) → cells ≡ (keeping product value (taking_at Gather.Value w l)).rebalance.gathered

@@ -4,14 +4,15 @@ use Rattle.std.proofs.lemmas.Bool.Decides.{nat_tests}
 use Rattle.kw_words.specs.declared.state.State.{State}
 use Rattle.kw_words.specs.declared.state.State.TheVariants.{Free, Infant, Normal, Leader, Follower, Retired}
 use Rattle.kw_words.specs.State.{state_of}
-use Rattle.kw_words.specs.declared.sizes.TheConstants.{MOST_SEATS}
+use Rattle.kw_words.specs.declared.sizes.TheConstants.{MOST_SEATS, SEATS}
 use Rattle.kw_world.specs.declared.activity.Activity.{Activity}
 use Rattle.kw_world.specs.declared.activity.rebalance.Rebalance.TheVariants as Rebalance
-use Rattle.kw_world.specs.declared.activity.rebalance.seek.Seek.{Seek}
+use Rattle.kw_world.specs.declared.activity.rebalance.seek.Seek.TheVariants as Seek
 use Rattle.kw_world.specs.declared.event.Choice.TheVariants.{Go}
 use Rattle.kw_world.specs.declared.local.Local.{Local}
 use Rattle.kw_world.specs.declared.rebalance.Afterwards.TheVariants.{Refuse}
-use Rattle.kw_world.specs.SeekTransitions.{give_back, seek_seen, to_seek}
+use Rattle.kw_world.specs.SeekTransitions.{give_back, seek_seen, to_pass, to_seek}
+use Rattle.kw_world.specs.Sizes.{product}
 use Rattle.kw_world.specs.Transition.{Outcome, to}
 use Rattle.kw_table.specs.declared.pass.Pass.{Pass}
 use Rattle.kw_table.specs.declared.shared.Shared.{Shared}
@@ -56,3 +57,9 @@ begins_search {s} {p} x l is at f =
 -- the number of a pass's seat has a state of an infant
 pub seat_fits : (p : Pass) (n : ℕ) → n ≡ (view p).number → n < MOST_SEATS
 seat_fits p n is = omega (arith, is, seat_within p, p.known.opens.few_seats)
+
+-- the pass of the next seat is asked for, where there is one
+pub pass_next : (i : ℕ) (l : Local) → i < SEATS → to_pass product i l ≡ to (Activity.Rebalance (Rebalance.Seek (Seek.Pass i))) l
+pass_next i l below =
+    let is : nat_lt i product.seats ≡ true = grind (arith, nat_tests) in
+    ap (λ (b : Bool). if b then to (Activity.Rebalance (Rebalance.Seek (Seek.Pass i))) l else to (Activity.Rebalance (Rebalance.Seek Seek.Reclaim)) l) is

@@ -47,7 +47,7 @@ use Rattle.kw_world.specs.EngageTransitions.{again, claiming, counted, decided, 
 use Rattle.kw_world.specs.ClaimTransitions.{claimed, next_counted, to_mark_next}
 use Rattle.kw_world.specs.LeftTransitions.{first_left, left_transition, link_left, to_leader}
 use Rattle.kw_world.specs.GroupPlaces.{at_first_row, place_in_group}
-use Rattle.kw_world.specs.FreezeTransitions.{row_frozen, to_freeze_look, marking, freeze_seen, entry_tried, to_scan_look, needing, scan_seen, scan_helped}
+use Rattle.kw_world.specs.FreezeTransitions.{row_frozen, to_freeze_look, marking, freeze_seen, entry_tried, to_scan_look, needing, scan_seen, scan_helped, to_pin_look, pin_seen}
 use Rattle.kw_world.specs.TakeTransitions.{to_take, leaving_over, left_of, row_gathered, take_reached, keeping}
 use Rattle.kw_world.specs.SeekTransitions.{given_back, give_back, gave_back, at_infant, has_more, row_behind, to_seek, to_pass, seek_seen, pass_seen, seeking, seek_first_transition, with_row, take_row}
 use Rattle.kw_world.specs.WriteTransitions.{infant_cells, row_written, to_write_after, to_write_cell, to_write_entry}
@@ -196,6 +196,15 @@ helped_tidies z i (Some (scan.Waiting clock)) l = scan_looks_then z (i + 1) (if 
 helped_tidies z i (Some (scan.Drawn version)) l = scan_looks_then z (i + 1) (needing version l) refl
 helped_tidies z i None l = scan_looks_then z (i + 1) l refl
 
+pin_looks_then : {n : Bool} (z : Sizes) (i : ℕ) (l : Local) → l.tidies ≡ n → (to_pin_look z i l).local.tidies ≡ n
+pin_looks_then z i l e = either (nat_lt i z.seats) (to (Activity.Rebalance (Rebalance.Freeze (Freeze.Pin i))) l) (to_take l) (e) (e)
+
+pin_seen_tidies : (z : Sizes) (i : ℕ) (w : Option ScanWord) (l : Local) → (pin_seen z i w l).local.tidies ≡ l.tidies
+pin_seen_tidies z i (Some scan.Quiet) l = pin_looks_then z (i + 1) l refl
+pin_seen_tidies z i (Some (scan.Waiting clock)) l = pin_looks_then z (i + 1) l refl
+pin_seen_tidies z i (Some (scan.Drawn version)) l = pin_looks_then z (i + 1) (needing version l) refl
+pin_seen_tidies z i None l = pin_looks_then z (i + 1) l refl
+
 row_gathered_tidies : (z : Sizes) (ahead : Option ℕ) (l : Local) → (row_gathered z ahead l).local.tidies ≡ l.tidies
 row_gathered_tidies z (Some r) l = refl
 row_gathered_tidies z None l = refl
@@ -343,6 +352,7 @@ keeps z (Activity.Rebalance (Rebalance.Freeze (Freeze.Entry i))) s choice l rows
 keeps z (Activity.Rebalance (Rebalance.Freeze (Freeze.Scan i))) s choice l rows told u = scan_seen_tidies z i (scan_of told) l
 keeps z (Activity.Rebalance (Rebalance.Freeze (Freeze.Draw i))) s choice l rows told u = refl
 keeps z (Activity.Rebalance (Rebalance.Freeze (Freeze.Settle i))) s choice l rows told u = helped_tidies z i (scan_of told) l
+keeps z (Activity.Rebalance (Rebalance.Freeze (Freeze.Pin i))) s choice l rows told u = pin_seen_tidies z i (scan_of told) l
 keeps z (Activity.Rebalance (Rebalance.Gather Gather.Link)) s choice l rows told u = take_tidies z (cell_of_link_word told) l
 keeps z (Activity.Rebalance (Rebalance.Gather Gather.LeftOverValue)) s choice l rows told u = left_of_tidies z (least_mark l.rebalance.marks) (keeping z (value_of_word told) l)
 keeps z (Activity.Rebalance (Rebalance.Gather _)) s choice l rows told u = refl

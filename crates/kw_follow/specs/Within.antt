@@ -2,6 +2,7 @@
 -- that it remembers or at an entry, and a call on its walk.
 use Rattle.std.specs.Prelude.{ℕ}
 use Rattle.kw_world.specs.declared.activity.Activity.{Activity}
+use Rattle.kw_world.specs.declared.activity.draw.Draw.TheVariants as Draw
 use Rattle.kw_world.specs.declared.activity.insert.Insert.TheVariants as Insert
 use Rattle.kw_world.specs.declared.activity.look.Look.TheVariants as Look
 use Rattle.kw_world.specs.declared.activity.read.Read.TheVariants as Read
@@ -24,6 +25,7 @@ IsWithinCall _ = Unit {0}
 
 -- a scan gets its version
 abbrev pub IsDrawing : Activity → Type 0
+IsDrawing (Activity.Draw Draw.Pin) = ⊥
 IsDrawing (Activity.Draw _) = Unit {0}
 IsDrawing _ = ⊥
 

@@ -1,12 +1,12 @@
 //! The events of a rebalance.
 //!
-//! Those by which the full row gets its leader (`engaging`), that freeze the row at hand and gather
-//! the cells that were not reached in its list (`gathering`), that take a free row (`seeking`), and
-//! that link the new rows in place of the group (`replacing`) have a step of their own each. What
-//! most rebalances do not need, as taking the next row along, going left to a leader, or giving
-//! rows back, is put together in `going`; the cells in the list are gathered as `row_gathering`
-//! says, rows are asked for their state as `seeking` does, and new ones written as `row_writing`
-//! does.
+//! Those by which the full row gets its leader (`engaging`), that gather the cells that were not
+//! reached in the list of the row at hand (`gathering`), that take a free row (`seeking`), and that
+//! link the new rows in place of the group (`replacing`) have a step of their own each. What most
+//! rebalances do not need, as taking the next row along, going left to a leader, or giving rows
+//! back, is put together in `going`; the seats are asked as `asking` does, the cells in the list
+//! gathered as `row_gathering` says, rows asked for their state as `seeking` does, and new ones
+//! written as `row_writing` does.
 ghost use Rattle.std.specs.Prelude.{◌<◌};
 ghost use Rattle.kw_follow.specs.Following.{Follows};
 ghost use Rattle.kw_follow.specs.Moving.{Moves, WentOn};
@@ -15,10 +15,10 @@ ghost use Rattle.kw_follow.specs.Within.{IsWithinCall};
 use crate::engaging::{
     ask_clock, ask_epoch, ask_state, decide_count, freeze_row_count, lead_row, mark_row_link,
 };
-use crate::gathering::{freeze_entry, load_left_key, load_left_value, look_at_entry, look_at_scan};
+use crate::gathering::{load_left_key, load_left_value};
 use crate::going::{event, go};
 use crate::replacing::{link_new_rows, load_least_before, load_link_before, load_state_before};
-use crate::seeking::{free_row, load_first_state, look_at_pass, take_free_row};
+use crate::seeking::{free_row, load_first_state, take_free_row};
 use kw_table::{Pass, Shared};
 use kw_world::activity::Activity;
 use kw_world::activity::rebalance::Rebalance;
@@ -52,23 +52,11 @@ fn build_event(shared: &Shared, pass: &mut Pass, local: &mut Local) -> StepDone
         Activity::Rebalance(Rebalance::Freeze(Freeze::Count)) => freeze_row_count(
             shared, pass, local,
         ),
-        Activity::Rebalance(Rebalance::Freeze(Freeze::Look(entry))) => look_at_entry(
-            shared, pass, local, entry,
-        ),
-        Activity::Rebalance(Rebalance::Freeze(Freeze::Entry(entry))) => freeze_entry(
-            shared, pass, local, entry,
-        ),
-        Activity::Rebalance(Rebalance::Freeze(Freeze::Scan(seat))) => look_at_scan(
-            shared, pass, local, seat,
-        ),
         Activity::Rebalance(Rebalance::Gather(Gather::LeftOverKey)) => load_left_key(
             shared, pass, local,
         ),
         Activity::Rebalance(Rebalance::Gather(Gather::LeftOverValue)) => load_left_value(
             shared, pass, local,
-        ),
-        Activity::Rebalance(Rebalance::Seek(Seek::Pass(seat))) => look_at_pass(
-            shared, pass, local, seat,
         ),
         Activity::Rebalance(Rebalance::Seek(Seek::Reclaim)) => free_row(shared, pass, local),
         Activity::Rebalance(Rebalance::Seek(Seek::Take)) => take_free_row(shared, pass, local),

@@ -6,13 +6,14 @@
 //! what the seat knows nothing changes in between but which of these words is the next one. So the
 //! row and its cells are looked up once, and the seat's local stays as it was until all is written:
 //! `at_entry` and `at_cell` say which local the pass follows meanwhile.
-ghost use Rattle.std.specs.Prelude.{◌≡◌, ◌<◌, length, slice_get, All, Some};
+ghost use Rattle.std.specs.Prelude.{◌≡◌, ◌<◌, ◌≤◌, IsTrue, length, slice_get, All, Some};
 ghost use Rattle.kw_cells.specs.Kept.{AreRising};
 ghost use Rattle.kw_words.specs.declared.sizes.TheConstants.{CELLS};
 ghost use Rattle.kw_world.specs.Sane.{IsCopy, IsLocal};
 ghost use Rattle.kw_world.specs.Sizes.{product};
-ghost use Rattle.kw_world.specs.WriteTransitions.{infant_cells};
-ghost use Rattle.kw_follow.specs.BuildsOn.{at_cell, at_entry, past_row, writing};
+ghost use Rattle.kw_words.specs.Plain.{cell_link_word};
+ghost use Rattle.kw_world.specs.WriteTransitions.{infant_cells, listed_after};
+ghost use Rattle.kw_follow.specs.BuildsOn.{StandAlone, at_cell, at_entry, past_row, writing};
 ghost use Rattle.kw_follow.specs.Following.{Follows};
 ghost use Rattle.kw_follow.specs.Reaching.{Advances};
 
@@ -25,7 +26,7 @@ use kw_step_rebal::resume_write::to_write_cell;
 use kw_table::{Pass, Shared, store_infant};
 use kw_words::layout::Name;
 use kw_words::pend::Pend;
-use kw_words::plain::{pack_key, pack_value, pack_version};
+use kw_words::plain::{pack_cell_link, pack_key, pack_value, pack_version};
 use kw_words::sizes::{CELL_COUNT, SEAT_COUNT};
 use kw_world::activity::Activity;
 use kw_world::activity::rebalance::Rebalance;
@@ -96,13 +97,46 @@ fn write_cells(shared: &Shared, pass: &mut Pass, local: &Local)
         let key = pack_key(cell.key);
         let value = pack_value(cell.value);
         let version = pack_version(Some(cell.version));
-        let behind = rising_after_word(local, place);
+        let behind = word_behind(local, cells, place);
         store_infant(shared, pass, Name::Key(row, place), key);
         store_infant(shared, pass, Name::Value(row, place), value);
         store_infant(shared, pass, Name::Version(row, place), version);
         store_infant(shared, pass, Name::After(row, place), behind);
         place += 1;
     }
+}
+
+// The word of the link after the cell at a place of the row. Most keys have one cell, and where
+// that is so of the key here and of the next one, the link leads to the next place.
+#[inline(always)]
+fn word_behind(local: &Local, cells: &[Cell], place: u32) -> u64
+    requires ranges { IsLocal product local.now }
+    requires rising { AreRising local.now.rebalance.kept }
+    requires cells { cells.now ≡ infant_cells local.now }
+    requires few { length cells.now ≤ CELLS }
+    requires within { place < length cells.now }
+    ensures { result ≡ cell_link_word (listed_after (infant_cells local.now) place) }
+{
+    if stand_alone(cells, place as usize) {
+        pack_cell_link(Some(place + 1))
+    } else {
+        rising_after_word(local, place)
+    }
+}
+
+// Whether there is a cell behind the one at this place, and each of both is the only one of its
+// key.
+#[inline(always)]
+fn stand_alone(cells: &[Cell], place: usize) -> bool
+    requires { place < length cells.now }
+    ensures { IsTrue result → StandAlone cells.now place }
+{
+    let key = cells[place].key;
+    if place > 0 && cells[place - 1].key == key || place + 1 >= cells.len() {
+        return false;
+    }
+    let next = cells[place + 1].key;
+    next != key && (place + 2 >= cells.len() || cells[place + 2].key != next)
 }
 
 // The cell at a place of the row, which has one there.

@@ -6,21 +6,25 @@
 //! that is free or was retired, or to the last one. `with_search` says which local the two stand
 //! for. What is asked of a row that is not gone by has steps of its own, as in `gathering`;
 //! `building` asks for them.
-ghost use Rattle.std.specs.Prelude.{◌≡◌, ◌<◌};
+ghost use Rattle.std.specs.Prelude.{ℕ, ◌≡◌, ◌+◌, ◌<◌, false};
 ghost use Rattle.kw_world.specs.Sane.{HasRoom, IsLocal};
 ghost use Rattle.kw_world.specs.Sizes.{product};
 ghost use Rattle.kw_world.specs.Step.{next_of};
 ghost use Rattle.kw_world.specs.Transition.{outcome};
 ghost use Rattle.kw_table.specs.Passes.{Makes};
+ghost use Rattle.kw_words.specs.Plain.{pass_of_word};
 ghost use Rattle.kw_words.specs.State.{state_of};
+ghost use Rattle.kw_world.specs.SeekTransitions.{pass_seen, to_pass};
 ghost use Rattle.kw_follow.specs.Following.{Follows};
 ghost use Rattle.kw_follow.specs.Moving.{FollowsAt, Moves};
 ghost use Rattle.kw_follow.specs.Searches.{behind, is_in_use, seeking_at, with_search};
 
 use crate::engaging::rebalance_on;
-use kw_step_rebal::resume::rebalance_resume;
+use kw_step_rebal::resume::{rebalance_resume, to};
 use kw_table::{Pass, Shared, load_pass, load_state, reclaim, take_row};
 use kw_words::layout::Name;
+use kw_words::plain::unpack_pass;
+use kw_words::sizes::SEAT_COUNT;
 use kw_words::state::State;
 use kw_world::activity::Activity;
 use kw_world::activity::rebalance::Rebalance;
@@ -131,7 +135,25 @@ pub(crate) fn look_at_pass(
     ensures { Moves shared.now pass.old local.old Choice.Go pass.new local.new result }
 {
     let told = load_pass(shared, pass, Name::Pass(seat));
+    if seat + 1 < SEAT_COUNT && !may_hold(local, told) {
+        return to(
+            local,
+            Activity::Rebalance(Rebalance::Seek(Seek::Pass(seat + 1))),
+        );
+    }
     rebalance_on(shared, local, Choice::Go, told)
+}
+
+// Whether a pass with this word may have come to the row at hand before that was retired.
+#[inline(always)]
+fn may_hold(local: &Local, found: u64) -> bool
+    ensures { result ≡ false → (rows i : ℕ) → pass_seen product i rows (pass_of_word found)
+        local.now ≡ to_pass product (i + 1) local.now }
+{
+    match unpack_pass(found) {
+        Some(epoch) => epoch <= local.rebalance.number,
+        None => false,
+    }
 }
 
 // Exchanges the retired row at hand, to which no pass can come any more, for a free one.

@@ -1,6 +1,7 @@
 -- A rebalance that gathers the full row, seeks free ones or writes a new one goes on by each
 -- stretch of such events.
-use Rattle.std.proofs.Common.{◌≡◌, ℕ, false, ◌∙◌, ap, refl, subst, sym}
+use Rattle.std.proofs.Common.{◌≡◌, ℕ, true, false, ◌∙◌, ap, refl, subst, sym}
+use Rattle.std.proofs.lemmas.Bool.{false≢true}
 use Rattle.kw_world.specs.declared.activity.Activity.{Activity}
 use Rattle.kw_world.specs.declared.activity.rebalance.Rebalance.TheVariants as Rebalance
 use Rattle.kw_world.specs.declared.activity.rebalance.replace.Replace.TheVariants as Replace
@@ -15,14 +16,16 @@ use Rattle.kw_table.specs.declared.pass.Pass.{Pass}
 use Rattle.kw_table.specs.declared.shared.Shared.{Shared}
 use Rattle.kw_table.specs.Passes.{view, Makes}
 use Rattle.kw_follow.specs.declared.seeking.Search.{Search}
-use Rattle.kw_follow.specs.BuildsOn.{IsBuildingOn}
+use Rattle.kw_follow.specs.BuildsOn.{IsBuildingOn, asks_seat}
 use Rattle.kw_follow.specs.Moving.{WentOn}
 use Rattle.kw_follow.specs.Searches.{seeking_at}
 use Rattle.kw_follow.specs.Reaching.{Advances}
+use Rattle.kw_follow.proofs.AskEvents.{asks_balances}
 use Rattle.kw_follow.proofs.Moving.{moves, went_on}
 use Rattle.kw_follow.proofs.OwnEvents.{goes_trans}
 use Rattle.kw_follow.proofs.Reaching.{advances_on, advances_trans}
-use Rattle.kw_live_rebal.specs.Standing.{GoesOn, HasSeenCause, Rebalances}
+use Rattle.kw_follow.proofs.Untidied.{balancing_works}
+use Rattle.kw_live_rebal.specs.Standing.{GoesOn, HasSeenCause, Rebalances, ends_rebuild}
 use Rattle.kw_live_rebal.proofs.Sightings.{search_on}
 use Rattle.kw_live_rebal.proofs.Stages.{keeps_seen, work_on}
 
@@ -81,4 +84,29 @@ module _ {s : Shared} {p q r : Pass} {told : ℕ} (x : Search) (l k m : Local) (
         saw = λ undone.
             let put : l.tidies ≡ false = sym row_tidies ∙ undone in
             keeps_seen s o q r (seeking_at x l) m Go (view q).opening.rows w.told v.goes w.goes w.saw w.line refl put (v.saw put) refl;
+      }
+
+-- One event more that asks a seat.
+
+-- a seat that asks another one is not at the end
+asks_on : (a : Activity) → asks_seat a ≡ true → ends_rebuild a ≡ false
+asks_on (Activity.Rebalance (Rebalance.Replace _)) e = absurd (false≢true e)
+asks_on (Activity.Rebalance _) e = refl
+asks_on _ e = absurd (false≢true e)
+
+module _ {s : Shared} {q r : Pass} {l m : Local} (asks : asks_seat l.activity ≡ true) (w : WentOn s q l Go r m) where
+  pub asked_tidies : m.tidies ≡ l.tidies
+  asked_tidies = work_on l m Go (view q).opening.rows w.told w.line (balancing_works l.activity (asks_balances l.activity asks))
+
+  pub asked_goes_on : {p : Pass} {k : Local} → GoesOn s p k q l → GoesOn s p k r m
+  asked_goes_on before o u =
+      let v : Rebalances s o q l = before o u in
+      record {
+        goes = goes_trans _ _ _ _ v.goes w.goes;
+        follows = w.follows;
+        calls = w.calls ∙ v.calls;
+        held = w.held refl ∙ v.held;
+        saw = λ undone.
+            let put : l.tidies ≡ false = sym asked_tidies ∙ undone in
+            keeps_seen s o q r l m Go (view q).opening.rows w.told v.goes w.goes w.saw w.line refl put (v.saw put) (asks_on l.activity asks);
       }

@@ -45,7 +45,7 @@ use Rattle.kw_world.specs.LeftTransitions.{first_left, least_left, left_transiti
 use Rattle.kw_world.specs.Local.{without_rebalance, without_rows}
 use Rattle.kw_world.specs.declared.answer.Answer.TheVariants.{Done, NoRows, Spent}
 use Rattle.kw_world.specs.GroupPlaces.{place_in_group}
-use Rattle.kw_world.specs.FreezeTransitions.{entry_tried, freeze_seen, marking, needing, row_frozen, scan_helped, scan_seen, to_freeze_look, to_scan_look}
+use Rattle.kw_world.specs.FreezeTransitions.{entry_tried, freeze_seen, marking, needing, row_frozen, scan_helped, scan_seen, to_freeze_look, to_scan_look, to_pin_look, pin_seen}
 use Rattle.kw_world.specs.Marks.{least_mark}
 use Rattle.kw_world.specs.Operation.{told_by}
 use Rattle.kw_world.specs.ReplaceTransitions.{before_transition, first_before, guess_before, link_before, replaced, row_before, row_replaced}
@@ -311,6 +311,15 @@ module _ (s : Shared) (o p q : Pass) (l m : Local) (c : Choice) (rows told : ℕ
   scans i (Some (Drawn version)) = scans_on (i + 1) (needing version l)
   scans i None = scans_on (i + 1) l
 
+  pins_on : (i : ℕ) (k : Local) → Then (to_pin_look product i k)
+  pins_on i k = both (nat_lt i product.seats) _ _ (λ e. record { saw = tt }) (λ e. record { saw = tt })
+
+  pins : (i : ℕ) (x : Option ScanWord) → Then (pin_seen product i x l)
+  pins i (Some Quiet) = pins_on (i + 1) l
+  pins i (Some (Waiting clock)) = pins_on (i + 1) l
+  pins i (Some (Drawn version)) = pins_on (i + 1) (needing version l)
+  pins i None = pins_on (i + 1) l
+
   helps : (i : ℕ) (x : Option ScanWord) → Then (scan_helped product i x l)
   helps i (Some Quiet) = scans_on (i + 1) l
   helps i (Some (Waiting clock)) = scans_on (i + 1) (if clock == l.rebalance.waiting then needing l.rebalance.drawn l else l)
@@ -486,6 +495,7 @@ module _ (s : Shared) (o p q : Pass) (l m : Local) (c : Choice) (rows told : ℕ
   event_at (Activity.Rebalance (Rebalance.Freeze (Freeze.Scan i))) is h u = so _ (next_is (Activity.Rebalance (Rebalance.Freeze (Freeze.Scan i))) is) (scans i (scan_of told))
   event_at (Activity.Rebalance (Rebalance.Freeze (Freeze.Draw i))) is h u = so _ (next_is (Activity.Rebalance (Rebalance.Freeze (Freeze.Draw i))) is) record { saw = tt }
   event_at (Activity.Rebalance (Rebalance.Freeze (Freeze.Settle i))) is h u = so _ (next_is (Activity.Rebalance (Rebalance.Freeze (Freeze.Settle i))) is) (helps i (scan_of told))
+  event_at (Activity.Rebalance (Rebalance.Freeze (Freeze.Pin i))) is h u = so _ (next_is (Activity.Rebalance (Rebalance.Freeze (Freeze.Pin i))) is) (pins i (scan_of told))
   event_at (Activity.Rebalance (Rebalance.Gather Gather.Link)) is h u = so _ (next_is (Activity.Rebalance (Rebalance.Gather Gather.Link)) is) (takes_cell (cell_of_link_word told))
   event_at (Activity.Rebalance (Rebalance.Gather Gather.Key)) is h u = so _ (next_is (Activity.Rebalance (Rebalance.Gather Gather.Key)) is) record { saw = tt }
   event_at (Activity.Rebalance (Rebalance.Gather Gather.Version)) is h u = so _ (next_is (Activity.Rebalance (Rebalance.Gather Gather.Version)) is) record { saw = tt }

@@ -18,8 +18,8 @@ ghost use Rattle.kw_live_rebal.specs.Standing.{HasSeenCause, ends_rebuild};
 
 use crate::guessing::guess;
 use crate::publishing::tell_index;
-use crate::stretches::{gather_row, seek_row, write_new_row};
-use kw_follow::{go, go_build, go_build_guess, go_finish};
+use crate::stretches::{ask_seats, gather_row, seek_row, write_new_row};
+use kw_follow::{asks_seat, go, go_build, go_build_guess, go_finish};
 use kw_index::hints::Hints;
 use kw_index::index::Index;
 use kw_table::{Pass, Shared};
@@ -113,7 +113,9 @@ pub(crate) fn rebuild<R: Wait>(
         if ends_rebuild(&local.activity) {
             return;
         }
-        if begins_gathering(&local.activity) {
+        if asks_seat(&local.activity) {
+            ask_seats(rt, shared, pass, local);
+        } else if begins_gathering(&local.activity) {
             gather_row(rt, shared, pass, local);
         } else if begins_row(&local.activity) {
             write_new_row(shared, pass, local);

@@ -1,18 +1,21 @@
-//! The stretches of a rebalance in which many events alike follow each other: it gathers the cells
-//! of the row at hand, asks row after row for its state, and writes the words of a new row.
+//! The stretches of a rebalance in which many events alike follow each other: it asks the seats,
+//! gathers the cells of the row at hand, asks row after row for its state, and writes the words of
+//! a new row.
 //!
 //! A split makes some hundreds of such events, and a search may ask each row of the table. Between
 //! two of a stretch nothing is asked but which of its events is the next one, and what changes with
 //! them is at hand, which is what makes a rebalance fast; `rebalancing` asks what else is to be
 //! done before and after.
-ghost use Rattle.std.specs.Prelude.{◌≡◌};
-ghost use Rattle.kw_follow.specs.BuildsOn.{past_row};
+ghost use Rattle.std.specs.Prelude.{◌≡◌, false};
+ghost use Rattle.kw_follow.specs.BuildsOn.{asks_seat, past_row};
 ghost use Rattle.kw_follow.specs.Following.{Follows};
 ghost use Rattle.kw_follow.specs.Reaching.{Advances};
 ghost use Rattle.kw_live_rebal.specs.Standing.{GoesOn};
 ghost use Rattle.kw_live_rebal.specs.Stretches.{HasLeftList, HasLeftSearch};
 
-use kw_follow::{Cursor, Search, gather_cell, is_in_use, reach_next, write_row};
+use kw_follow::{
+    Cursor, Hand, Search, asks_seat, gather_cell, go_ask, is_in_use, reach_next, write_row,
+};
 use kw_table::{Pass, Shared};
 use kw_world::activity::Activity;
 use kw_world::activity::rebalance::Rebalance;
@@ -21,6 +24,24 @@ use kw_world::activity::rebalance::seek::Seek;
 use kw_world::activity::rebalance::write::Write;
 use kw_world::local::Local;
 use std::sync::Wait;
+
+/// Asks one seat after the other, for its entry, its scan or its pass, on to what comes after that.
+/// Takes no memory.
+pub(crate) fn ask_seats<R: Wait>(rt: &R, shared: &Shared, pass: &mut Pass, local: &mut Local)
+    requires { Follows shared.now pass.old local.old }
+    ensures on { Advances shared.now pass.old pass.new local.new }
+    ensures tidies { local.new.tidies ≡ local.old.tidies }
+    ensures over { asks_seat local.new.activity ≡ false }
+    ensures goes_on { GoesOn shared.now pass.old local.old pass.new local.new }
+{
+    for _ in rt.forever() {
+        if !asks_seat(&local.activity) {
+            return;
+        }
+        go_ask(shared, pass, local);
+    }
+    unreachable!()
+}
 
 /// Goes along the list of the row at hand and gathers its cells, from the first link on to the end,
 /// and on to what comes after it. Takes no memory.
@@ -33,11 +54,12 @@ pub(crate) fn gather_row<R: Wait>(rt: &R, shared: &Shared, pass: &mut Pass, loca
     ensures goes_on { GoesOn shared.now pass.old local.old pass.new local.new }
 {
     let mut cursor = Cursor::of(local);
+    let hand = Hand::of(local);
     for _ in rt.forever() {
-        let Some(saw) = reach_next(shared, pass, local, cursor) else {
+        let Some(saw) = reach_next(shared, pass, local, cursor, hand) else {
             return;
         };
-        cursor = gather_cell(shared, pass, local, saw);
+        cursor = gather_cell(shared, pass, local, saw, hand);
     }
     unreachable!()
 }

@@ -141,29 +141,54 @@ impl Shared {
             }
     }
 
-    // Whether the row's list shows no more keys than this that have a value. It is by rising key,
-    // and of each key by falling version: the first cell of a key tells whether it has one.
+    // Whether the row's list shows no more keys than this that have a value. Keys that come and go
+    // mostly go at the list's start, so its end is asked first: there such a row shows enough.
     fn has_at_most(&self, row: u32, most: u32) -> bool
         requires { row < self.now.opening.rows }
     {
-        let mut link = self.peek(Name::First(row));
-        let mut last = None;
+        !self.ends_with_more(row, most)
+            && !self.shows_more(row, self.peek(Name::First(row)), None, most)
+    }
+
+    // Whether the end of the row's list shows more keys than this that have a value: what stands
+    // behind one of the last cells with which the row was built.
+    fn ends_with_more(&self, row: u32, most: u32) -> bool
+        requires { row < self.now.opening.rows }
+    {
+        let built = unpack_built(self.peek(Name::Least(row)));
+        match built.checked_sub(most.saturating_add(1).saturating_mul(2)) {
+            Some(cell) if cell < CELL_COUNT => {
+                let key = unpack_key(self.peek(Name::Key(row, cell)));
+                self.shows_more(row, self.peek(Name::After(row, cell)), Some(key), most)
+            }
+            _ => false,
+        }
+    }
+
+    // Whether the row's list shows, from this link on, more keys than this that have a value,
+    // beside the key of the cell before the link. It is by rising key, and of each key by falling
+    // version: the first cell of a key tells whether it has one.
+    fn shows_more(&self, row: u32, from: u64, before: Option<u32>, most: u32) -> bool
+        requires { row < self.now.opening.rows }
+    {
+        let mut link = from;
+        let mut last = before;
         let mut keys: u32 = 0;
         for _ in 0..CELL_COUNT {
             let Some(cell) = given_cell(link) else {
-                return true;
+                return false;
             };
             let key = unpack_key(self.peek(Name::Key(row, cell)));
             if last != Some(key) && unpack_value(self.peek(Name::Value(row, cell))).is_some() {
                 if keys == most {
-                    return false;
+                    return true;
                 }
                 keys = keys.saturating_add(1);
             }
             last = Some(key);
             link = self.peek(Name::After(row, cell));
         }
-        true
+        false
     }
 }
 

@@ -8,7 +8,7 @@ pub returns-clause-idle : goal.returns-clause-idle
 returns-clause-idle c = end_idles (went_in c.requires.follows c.clear_epoch-done.ensures) c.requires.leaving.0 c.requires.leaving.1
 
 pub returns-clause-rests : goal.returns-clause-rests
-returns-clause-rests c = end_rests _ _ _ _ _ c.requires.leaving.0 c.requires.leaving.1 c.clear_epoch-done.ensures.line
+returns-clause-rests c = end_rests _ _ _ _ _ _ _ c.requires.leaving.0 c.requires.follows c.requires.leaving.1 c.clear_epoch-done.ensures.line
 
 pub returns-clause-closes : goal.returns-clause-closes
 returns-clause-closes c = λ answer is.

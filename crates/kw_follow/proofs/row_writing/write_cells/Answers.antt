@@ -15,11 +15,17 @@ infant_cells-cells-requires c = c.requires.ranges
 pub loop-place-init : goal.loop-place-init
 loop-place-init c = record { within = omega arith; on = advances_none c.requires.follows }
 
-pub rising_after_word-behind-requires-clause-ranges : goal.rising_after_word-behind-requires-clause-ranges
-rising_after_word-behind-requires-clause-ranges c = c.requires.ranges
+pub word_behind-behind-requires-clause-ranges : goal.word_behind-behind-requires-clause-ranges
+word_behind-behind-requires-clause-ranges c = c.requires.ranges
 
-pub rising_after_word-behind-requires-clause-rising : goal.rising_after_word-behind-requires-clause-rising
-rising_after_word-behind-requires-clause-rising c = c.requires.rising
+pub word_behind-behind-requires-clause-rising : goal.word_behind-behind-requires-clause-rising
+word_behind-behind-requires-clause-rising c = c.requires.rising
+
+pub word_behind-behind-requires-clause-cells : goal.word_behind-behind-requires-clause-cells
+word_behind-behind-requires-clause-cells c = c.infant_cells-cells.ensures.cells
+
+pub word_behind-behind-requires-clause-few : goal.word_behind-behind-requires-clause-few
+word_behind-behind-requires-clause-few c = c.infant_cells-cells.ensures.few
 
 pub store_infant-requires : goal.store_infant-requires
 store_infant-requires c =
@@ -53,7 +59,7 @@ store_infant-requires-in-loop-place-3 c =
     let keyed = key_written c.args.local.now c.loop-place.place next c.store_infant.ensures in
     let valued = value_written c.args.local.now c.loop-place.place keyed c.store_infant-in-loop-place.ensures in
     asks_word c.args.local.now (Write.After c.loop-place.place) (version_written c.args.local.now c.loop-place.place within valued c.store_infant-in-loop-place-2.ensures).follows (ap (λ row. After row c.loop-place.place) c.infant-row.ensures)
-    c.rising_after_word-behind.ensures refl
+    c.word_behind-behind.ensures refl
 
 pub overflow_add-place : goal.overflow_add-place
 overflow_add-place c = omega (arith, c.infant_cells-cells.ensures.few)

@@ -12,20 +12,28 @@ loop-init g c = record {
   can_next = search rules;
   is_finite = search rules;
   on = advances_none (begins_gathering _ _ c.of-cursor.ensures c.requires.activity c.requires.follows);
+  hand = c.of-hand.ensures;
   tidies = refl;
 }
 
-pub reach_next-requires : goal.reach_next-requires
-reach_next-requires g c = c.loop.invariant.on.follows
+pub reach_next-requires-clause-hand : goal.reach_next-requires-clause-hand
+reach_next-requires-clause-hand g c = c.loop.invariant.hand
 
-pub gather_cell-cursor-requires : goal.gather_cell-cursor-requires
-gather_cell-cursor-requires g c = c.in-Some-reach_next.ensures.saw.follows
+pub reach_next-requires-clause-follows : goal.reach_next-requires-clause-follows
+reach_next-requires-clause-follows g c = c.loop.invariant.on.follows
+
+pub gather_cell-cursor-requires-clause-hand : goal.gather_cell-cursor-requires-clause-hand
+gather_cell-cursor-requires-clause-hand g c = c.in-Some-reach_next.ensures.hand
+
+pub gather_cell-cursor-requires-clause-follows : goal.gather_cell-cursor-requires-clause-follows
+gather_cell-cursor-requires-clause-follows g c = c.in-Some-reach_next.ensures.saw.follows
 
 pub loop-preserved : goal.loop-preserved
 loop-preserved g c = record {
   can_next = search rules;
   is_finite = search rules;
   on = advances_trans c.loop.invariant.on (advances_trans c.in-Some-reach_next.ensures.saw c.gather_cell-cursor.ensures.on);
+  hand = c.gather_cell-cursor.ensures.hand;
   tidies = c.gather_cell-cursor.ensures.tidies ∙ (c.in-Some-reach_next.ensures.tidies ∙ c.loop.invariant.tidies);
 }
 
