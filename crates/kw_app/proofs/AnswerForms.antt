@@ -6,7 +6,7 @@ use Rattle.std.proofs.lemmas.Option.{same_Some}
 use Rattle.kw_model.specs.Map.{Pairs, value_of, found}
 use Rattle.kw_model.specs.Legal.{IsRight, is_refusal, may_refuse}
 use Rattle.kw_model.specs.declared.call.Call.{Call}
-use Rattle.kw_model.specs.declared.call.Call.TheVariants.{Put, Del, Get, Scan}
+use Rattle.kw_model.specs.declared.call.Call.TheVariants.{Put, Del, Get, Scan, Pin, ScanAt, Unpin}
 use Rattle.kw_model.specs.declared.call.Reply.{Reply}
 use Rattle.kw_model.specs.declared.call.Reply.TheVariants as reply
 use Rattle.kw_line.specs.declared.answer.Answer.{Answer}
@@ -16,6 +16,7 @@ use Rattle.kw_line.specs.declared.item.Form.TheVariants as form
 use Rattle.kw_model.specs.Values.{least, greatest, values}
 use Rattle.kw_line.specs.Answered.{IsReplyOf, answer_for, answer_of_pairs, answers_for, number_or_nothing, is_update, is_get, is_range}
 use Rattle.kw_line.specs.Line.{IsCallOf}
+use Rattle.kw_work.proofs.LineCalls.{no_pin, no_scan_at, no_unpin}
 use Rattle.kw_laws.specs.Clocks.{IsScan}
 use Rattle.kw_app.specs.Running.{is_refused}
 
@@ -45,6 +46,8 @@ unrefused f (reply.Pairs ps) h n = refl
 unrefused f reply.NoRows h n = absurd (false≢true (sym n))
 unrefused f reply.Spent h n = absurd (false≢true (sym n))
 unrefused f reply.Stopped h n = absurd h
+unrefused f reply.Held h n = refl
+unrefused f reply.NotPinned h n = refl
 
 -- a scan that is refused is answered so
 scan_refused : (f : Form) (a b : ℕ) (r : Reply) → IsReplyOf f r → may_refuse (Scan a b) r ≡ true → answer_for f r ≡ answer.Spent
@@ -55,6 +58,9 @@ scan_refused f a b _ g h = absurd (false≢true h)
 -- and so is every range line that is refused
 pub range_refused : (f : Form) (c : Call) (r : Reply) → IsReplyOf f r → IsCallOf f c → IsTrue (is_range f) → may_refuse c r ≡ true → answer_for f r ≡ answer.Spent
 range_refused f (Scan a b) r g i t h = scan_refused f a b r g h
+range_refused f Pin r g i t h = absurd (no_pin f i)
+range_refused f (ScanAt a b) r g i t h = absurd (no_scan_at f a b i)
+range_refused f Unpin r g i t h = absurd (no_unpin f i)
 range_refused form.Put (Put k v) r g i t h = absurd (false≢true t)
 range_refused form.Del (Del k) r g i t h = absurd (false≢true t)
 range_refused form.Get (Get k) r g i t h = absurd (false≢true t)
@@ -94,10 +100,15 @@ spent_reply f reply.Absent h e = absurd (cc)
 spent_reply f (reply.Pairs ps) h e = absurd (pairs_unspent f ps e)
 spent_reply f reply.NoRows h e = absurd (cc)
 spent_reply f reply.Stopped h e = absurd h
+spent_reply f reply.Held h e = absurd h
+spent_reply f reply.NotPinned h e = absurd h
 
 -- the calls of lines that ask for a range are the scans
 pub range_scan : (f : Form) (c : Call) → IsCallOf f c → IsTrue (is_range f) → (from : ℕ) × (upto : ℕ) × (c ≡ Scan from upto)
 range_scan f (Scan a b) i t = (a, b, refl)
+range_scan f Pin i t = absurd (no_pin f i)
+range_scan f (ScanAt a b) i t = absurd (no_scan_at f a b i)
+range_scan f Unpin i t = absurd (no_unpin f i)
 range_scan form.Put (Put k v) i t = absurd (false≢true t)
 range_scan form.Del (Del k) i t = absurd (false≢true t)
 range_scan form.Get (Get k) i t = absurd (false≢true t)
@@ -168,3 +179,5 @@ served_answer f (reply.Pairs ps) n = pairs_answer f ps
 served_answer f reply.NoRows n = absurd (false≢true (sym n))
 served_answer f reply.Spent n = absurd (false≢true (sym n))
 served_answer f reply.Stopped n = absurd (false≢true (sym n))
+served_answer f reply.Held n = refl
+served_answer f reply.NotPinned n = refl

@@ -9,7 +9,7 @@ use Rattle.std.proofs.lemmas.Option.{get_or_from_slice_get, same_Some, slice_get
 use Rattle.kw_words.specs.declared.sizes.TheConstants.{MOST_NEW_ROWS}
 use Rattle.kw_model.specs.Legal.{is_refusal}
 use Rattle.kw_model.specs.declared.call.Call.{Call}
-use Rattle.kw_model.specs.declared.call.Call.TheVariants.{Del, Get, Put, Scan}
+use Rattle.kw_model.specs.declared.call.Call.TheVariants.{Del, Get, Put, Scan, Pin, ScanAt, Unpin}
 use Rattle.kw_model.specs.declared.call.Reply.{Reply}
 use Rattle.kw_model.specs.declared.call.Reply.TheVariants as reply
 use Rattle.kw_world.specs.declared.event.Event.{Event}
@@ -60,10 +60,18 @@ answered (Put key value) put reply.NoRows a update scan stopped = absurd (update
 answered (Del key) put reply.NoRows a update scan stopped = absurd (update tt)
 answered (Get key) put reply.NoRows a update scan stopped = absurd a
 answered (Scan from upto) put reply.NoRows a update scan stopped = absurd a
+answered Pin put reply.NoRows a update scan stopped = absurd a
+answered (ScanAt from upto) put reply.NoRows a update scan stopped = absurd a
+answered Unpin put reply.NoRows a update scan stopped = absurd a
 answered (Put key value) put reply.Spent a update scan stopped = absurd (update tt)
 answered (Del key) put reply.Spent a update scan stopped = absurd (update tt)
 answered (Get key) put reply.Spent a update scan stopped = absurd a
 answered (Scan from upto) put reply.Spent a update scan stopped = absurd (scan tt refl)
+answered Pin put reply.Spent a update scan stopped = absurd (scan tt refl)
+answered (ScanAt from upto) put reply.Spent a update scan stopped = absurd a
+answered Unpin put reply.Spent a update scan stopped = absurd a
+answered call put reply.Held a update scan stopped = refl
+answered call put reply.NotPinned a update scan stopped = refl
 answered call put reply.Stopped a update scan stopped = absurd (stopped refl)
 
 -- the answers that stand for replies which are no refusals are none

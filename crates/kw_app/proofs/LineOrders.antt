@@ -27,10 +27,10 @@ use Rattle.kw_laws.proofs.LawProofs.{laws_hold}
 use Rattle.kw_map.specs.Refusals.{HasReason}
 use Rattle.kw_order.specs.Order.{IsOrder}
 use Rattle.kw_order.specs.OrderLaws.{OrderLaws}
-use Rattle.kw_order.specs.Legal.{IsLegalOrder, call_of}
+use Rattle.kw_order.specs.Legal.{call_of}
 use Rattle.kw_order.specs.Legal as order
 use Rattle.kw_order.specs.SeatOrder.{IsTurn, AllEnded}
-use Rattle.kw_order.proofs.LegalOrder.{order_is_legal}
+use Rattle.kw_order.proofs.MapOrders.{order_of_map}
 use Rattle.kw_order.proofs.OneOrder.{order_exists, order_unique}
 use Rattle.kw_order.proofs.OrderProofs.{order_has_laws}
 use Rattle.kw_order.proofs.SeatOrders.{name_of, one_turn, seen_turn, turn_of, turn_apart, placed_within, all_placed, turns_kept}
@@ -338,7 +338,7 @@ module _ (o : Opening) (E : List Event) (lines : List Line) (opening : IsOpening
         numbers = map line_of ys.0;
         order = lines_in_order (calls_of lines) rs (call_of h) (order.reply_of h) line_of ys.0 calls;
         of_calls = of_calls ys.0 ys.1 of_order laws;
-        legal = lines_legal (calls_of lines) rs (call_of h) (order.reply_of h) line_of ys.0 calls (order_is_legal h laws ys.0 ys.1);
+        legal = lines_legal (calls_of lines) rs (call_of h) (order.reply_of h) line_of ys.0 calls (order_of_map h laws ys.0 ys.1);
         precedence = precedence_kept ys.0 ys.1 of_order;
         shares = shares_kept ys.0 ys.1 of_order;
         cuts = blocks_kept ys.0 ys.1 of_order blocks is apart;

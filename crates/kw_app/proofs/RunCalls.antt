@@ -6,7 +6,7 @@ use Rattle.std.proofs.lemmas.List.Sums.{sum_by-cons}
 use Rattle.kw_windows.specs.Sums.{sum_below}
 use Rattle.kw_windows.proofs.Summing.{sum_same}
 use Rattle.kw_model.specs.declared.call.Call.{Call}
-use Rattle.kw_model.specs.declared.call.Call.TheVariants.{Del, Get, Put, Scan}
+use Rattle.kw_model.specs.declared.call.Call.TheVariants.{Del, Get, Put, Scan, Pin, ScanAt, Unpin}
 use Rattle.kw_world.specs.declared.event.Event.{Event}
 use Rattle.kw_world.specs.declared.opening.Opening.{Opening}
 use Rattle.kw_world.specs.Opening.{IsOpening}
@@ -49,6 +49,9 @@ one_scan (Put key value) = omega arith
 one_scan (Del key) = omega arith
 one_scan (Get key) = omega arith
 one_scan (Scan from upto) = omega arith
+one_scan Pin = omega arith
+one_scan (ScanAt from upto) = omega arith
+one_scan Unpin = omega arith
 
 few_scans : (cs : List Call) → sum_by scan_one cs ≤ length cs
 few_scans [] = omega arith

@@ -158,10 +158,14 @@ update_went m (roll.Put k v) (call.Put q w) form.Put (reply.Value x) e h = absur
 update_went m (roll.Put k v) (call.Put q w) form.Put reply.Absent e h = absurd (false≢true h)
 update_went m (roll.Put k v) (call.Put q w) form.Put (reply.Pairs ps) e h = absurd (false≢true h)
 update_went m (roll.Put k v) (call.Put q w) form.Put reply.Stopped e h = absurd h
+update_went m (roll.Put k v) (call.Put q w) form.Put reply.Held e h = absurd h
+update_went m (roll.Put k v) (call.Put q w) form.Put reply.NotPinned e h = absurd h
 update_went m (roll.Del k) (call.Del q) form.Del (reply.Value x) e h = absurd (false≢true h)
 update_went m (roll.Del k) (call.Del q) form.Del reply.Absent e h = absurd (false≢true h)
 update_went m (roll.Del k) (call.Del q) form.Del (reply.Pairs ps) e h = absurd (false≢true h)
 update_went m (roll.Del k) (call.Del q) form.Del reply.Stopped e h = absurd h
+update_went m (roll.Del k) (call.Del q) form.Del reply.Held e h = absurd h
+update_went m (roll.Del k) (call.Del q) form.Del reply.NotPinned e h = absurd h
 update_went m _ c f r e h = absurd cc
 
 -- the points that the updates above leave are the map of the accepted calls
@@ -213,6 +217,8 @@ right_scan m (reply.Value v) h g = absurd (false≢true g)
 right_scan m reply.Absent h g = absurd (false≢true g)
 right_scan m reply.NoRows h g = absurd (false≢true g)
 right_scan m reply.Stopped h g = absurd g
+right_scan m reply.Held h g = absurd g
+right_scan m reply.NotPinned h g = absurd g
 
 -- the items that are asked are ones that a line may be
 updates_are_items : (is : List RollItem) → AllByRecursion IsRollItem is → AllByRecursion IsItem (map item_of is)

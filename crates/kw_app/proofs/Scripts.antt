@@ -93,6 +93,9 @@ same_call (call.Scan a b) (call.Scan m w) s h g e =
     let x = decimal_injective a m (omega (arith, h.0)) (omega (arith, g.0)) i in
     let y = decimal_injective b w (omega (arith, h.1)) (omega (arith, g.1)) j in
     cc
+same_call call.Pin d s h g e = absurd h
+same_call (call.ScanAt a b) d s h g e = absurd h
+same_call call.Unpin d s h g e = absurd h
 same_call _ _ s h g e = absurd cc
 
 same_call_words : (c d : Call) → FitsCall c → FitsCall d → call_words c ≡ call_words d → c ≡ d

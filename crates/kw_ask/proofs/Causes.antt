@@ -53,6 +53,8 @@ caused_by v call first last number f (reply.Pairs ps) is reason = pairs_are_none
 caused_by v call first last number f reply.NoRows is reason = reason.no_rows (record { at = last; reply = reply.NoRows }) refl refl
 caused_by v call first last number f reply.Spent is reason = reason.spent (record { at = last; reply = reply.Spent }) refl refl
 caused_by v call first last number f reply.Stopped is reason = absurd is
+caused_by v call first last number f reply.Held is reason = absurd is
+caused_by v call first last number f reply.NotPinned is reason = absurd is
 
 -- a line that was refused has its cause
 pub has_cause : (p q : Pass) (call : Call) (f : Form) (given : Answer) → HasCause p q call f given

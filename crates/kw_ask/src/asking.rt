@@ -60,6 +60,7 @@ pub fn ask<R: Wait>(
             Form::List => list(alloc, kiwi, pass, from, upto),
             _ => unreachable!(),
         },
+        Call::Pin | Call::ScanAt(..) | Call::Unpin => unreachable!(),
     }
 }
 

@@ -70,6 +70,9 @@ no_space_item (item.Call (call.Put k v) f) h = (no_space_form f, (no_space_decim
 no_space_item (item.Call (call.Del k) f) h = (no_space_form f, (no_space_decimal k (omega (arith, h.1)), tt))
 no_space_item (item.Call (call.Get k) f) h = (no_space_form f, (no_space_decimal k (omega (arith, h.1)), tt))
 no_space_item (item.Call (call.Scan a b) f) h = (no_space_form f, (no_space_decimal a (omega (arith, h.1.0)), (no_space_decimal b (omega (arith, h.1.1)), tt)))
+no_space_item (item.Call call.Pin f) h = absurd h.1
+no_space_item (item.Call (call.ScanAt a b) f) h = absurd h.1
+no_space_item (item.Call call.Unpin f) h = absurd h.1
 no_space_item item.Wait h = (no_space (codes "wait") refl, tt)
 
 pub words-item_text : (i : Item) → IsItem i → words (item_text i) ≡ item_words i
@@ -190,6 +193,9 @@ not_same h f same = false≢true (sym f ∙ h.1 same)
 -- a range line whose second number is missing or is no key
 pub no_end : (f : Form) (from : ℕ) (rest after : List (List ℕ)) → IsTrue (is_range f) → rest ≡ decimal from ∷ after → ((k : ℕ) (more : List (List ℕ)) → k < 2 ^ 32 → after ≢ decimal k ∷ more) → (c : Call) (more : List (List ℕ)) → IsCallOf f c → FitsCall c → rest ≢ map decimal (arguments c) ++ more
 no_end f from rest after r e o (call.Scan a b) more of fits n = let same : after ≡ decimal b ∷ more = cc in o b more fits.1 same
+no_end f from rest after r e o call.Pin more of fits n = absurd fits
+no_end f from rest after r e o (call.ScanAt a b) more of fits n = absurd fits
+no_end f from rest after r e o call.Unpin more of fits n = absurd fits
 no_end form.Put from rest after r e o (call.Put k v) more of fits n = cc
 no_end form.Del from rest after r e o (call.Del k) more of fits n = cc
 no_end form.Get from rest after r e o (call.Get k) more of fits n = cc

@@ -19,6 +19,9 @@ kind (call.Put k v) = 0
 kind (call.Del k) = 1
 kind (call.Get k) = 2
 kind (call.Scan a b) = 3
+kind call.Pin = 4
+kind (call.ScanAt a b) = 5
+kind call.Unpin = 6
 
 kind_of : Form → ℕ
 kind_of form.Put = 0
@@ -61,6 +64,9 @@ same_call (call.Scan a b) (call.Scan m w) s h g e =
     let x = decimal_injective a m (omega (arith, h.0)) (omega (arith, g.0)) i in
     let y = decimal_injective b w (omega (arith, h.1)) (omega (arith, g.1)) j in
     cc
+same_call call.Pin d s h g e = absurd h
+same_call (call.ScanAt a b) d s h g e = absurd h
+same_call call.Unpin d s h g e = absurd h
 same_call _ _ s h g e = absurd (omega (arith, s))
 
 -- two items with one text are one

@@ -30,7 +30,7 @@ is_range form.Del = false
 is_range form.Get = false
 is_range _ = true
 
--- the call of a line of this form may have this reply, and was not stopped
+-- the call of a line of this form may have this reply, and was not stopped; no line is told of pins
 abbrev pub IsReplyOf : Form → Reply → Type 0
 IsReplyOf f reply.Done = IsTrue (is_update f)
 IsReplyOf f (reply.Value v) = IsTrue (is_get f)
@@ -39,6 +39,8 @@ IsReplyOf f (reply.Pairs ps) = IsTrue (is_range f)
 IsReplyOf f reply.NoRows = IsTrue (is_update f)
 IsReplyOf f reply.Spent = IsTrue (not (is_get f))
 IsReplyOf f reply.Stopped = ⊥
+IsReplyOf f reply.Held = ⊥
+IsReplyOf f reply.NotPinned = ⊥
 
 -- a number, or nothing
 abbrev pub number_or_nothing : Option ℕ → Answer
@@ -53,8 +55,8 @@ answer_of_pairs form.Least ps = number_or_nothing (least (values ps))
 answer_of_pairs form.Greatest ps = number_or_nothing (greatest (values ps))
 answer_of_pairs _ ps = answer.Pairs ps
 
--- what a line says of its reply; a call that was stopped has no answer, and is given one here only
--- so that there is always one
+-- what a line says of its reply; a call that was stopped and a reply of pins have no answer, and
+-- are given one here only so that there is always one
 abbrev pub answer_for : Form → Reply → Answer
 answer_for f reply.Done = answer.Done
 answer_for f (reply.Value v) = answer.Number v
@@ -63,6 +65,8 @@ answer_for f (reply.Pairs ps) = answer_of_pairs f ps
 answer_for f reply.NoRows = answer.NoRows
 answer_for f reply.Spent = answer.Spent
 answer_for f reply.Stopped = answer.Spent
+answer_for f reply.Held = answer.Nothing
+answer_for f reply.NotPinned = answer.Nothing
 
 -- a pair as it is printed
 abbrev pub pair_text : ℕ × ℕ → List ℕ

@@ -29,6 +29,9 @@ arguments (call.Put k v) = k ∷ v ∷ []
 arguments (call.Del k) = k ∷ []
 arguments (call.Get k) = k ∷ []
 arguments (call.Scan a b) = a ∷ b ∷ []
+arguments call.Pin = []
+arguments (call.ScanAt a b) = a ∷ b ∷ []
+arguments call.Unpin = []
 
 -- a line of this form makes such a call
 abbrev pub IsCallOf : Form → Call → Type 0
@@ -42,12 +45,15 @@ IsCallOf form.Greatest (call.Scan a b) = Unit {0}
 IsCallOf form.List (call.Scan a b) = Unit {0}
 IsCallOf _ _ = ⊥
 
--- its keys have 32 bits, and its value has 63
+-- its keys have 32 bits, and its value has 63; no text makes a call of pins
 abbrev pub FitsCall : Call → Type 0
 FitsCall (call.Put k v) = (k < 2 ^ 32) × (v < 2 ^ 63)
 FitsCall (call.Del k) = k < 2 ^ 32
 FitsCall (call.Get k) = k < 2 ^ 32
 FitsCall (call.Scan a b) = (a < 2 ^ 32) × (b < 2 ^ 32)
+FitsCall call.Pin = ⊥
+FitsCall (call.ScanAt a b) = ⊥
+FitsCall call.Unpin = ⊥
 
 -- what a line may be: a call of its form whose numbers are in range, or a wait
 abbrev pub IsItem : Item → Type 0

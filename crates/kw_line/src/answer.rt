@@ -35,7 +35,7 @@ pub fn answer_of(alloc: Global, form: Form, reply: &Reply) -> Result<Answer, Mem
         Reply::Pairs(pairs) => answer_of_pairs(alloc, form, pairs)?,
         Reply::NoRows => Answer::NoRows,
         Reply::Spent => Answer::Spent,
-        Reply::Stopped => unreachable!(),
+        Reply::Stopped | Reply::Held | Reply::NotPinned => unreachable!(),
     })
 }
 

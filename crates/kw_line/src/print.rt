@@ -106,7 +106,10 @@ fn push_word_and_numbers(out: &mut Vec<u8>, word: &[u8], call: &Call) -> Result<
     match *call {
         Call::Put(key, value) => push_two(out, u64::from(key), value),
         Call::Del(key) | Call::Get(key) => push_next(out, u64::from(key)),
-        Call::Scan(from, to) => push_two(out, u64::from(from), u64::from(to)),
+        Call::Scan(from, to) | Call::ScanAt(from, to) => {
+            push_two(out, u64::from(from), u64::from(to))
+        }
+        Call::Pin | Call::Unpin => Ok(()),
     }
 }
 

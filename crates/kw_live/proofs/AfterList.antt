@@ -3,7 +3,7 @@
 use Rattle.std.proofs.Common.{◌≡◌, ℕ, Bool, true, false, nat_lt, if◌then◌else◌, Option, Some, None, [], refl, sym, ◌∙◌, ap}
 use Rattle.kw_words.specs.Plain.{key_of_word, value_of_word}
 use Rattle.kw_model.specs.declared.call.Call.{Call}
-use Rattle.kw_model.specs.declared.call.Call.TheVariants.{Put, Del, Get, Scan}
+use Rattle.kw_model.specs.declared.call.Call.TheVariants.{Put, Del, Get, Scan, Pin, ScanAt, Unpin}
 use Rattle.kw_world.specs.declared.activity.Activity.{Activity}
 use Rattle.kw_world.specs.declared.activity.read.Read.TheVariants as Read
 use Rattle.kw_world.specs.declared.activity.walk.Walk.TheVariants as Walk
@@ -76,6 +76,9 @@ row_leaves (Some (Put key value)) l = refl
 row_leaves (Some (Del key)) l = refl
 row_leaves (Some (Get key)) l = refl
 row_leaves (Some (Scan from upto)) l = scan_leaves l.next upto (with_pairs upto l)
+row_leaves (Some Pin) l = refl
+row_leaves (Some (ScanAt from upto)) l = refl
+row_leaves (Some Unpin) l = refl
 row_leaves None l = refl
 
 -- a reader that goes on to what it remembers
@@ -130,6 +133,9 @@ row_read_any : (a : Activity) (call : Option Call) (l : Local) → row_read call
 row_read_any a (Some (Put key value)) l = refl
 row_read_any a (Some (Del key)) l = refl
 row_read_any a (Some (Get key)) l = refl
+row_read_any a (Some Pin) l = refl
+row_read_any a (Some (ScanAt from upto)) l = refl
+row_read_any a (Some Unpin) l = refl
 row_read_any a (Some (Scan from upto)) l = on l.next
   where
     saw : (r : ℕ) (b : Bool) → (let o : Outcome = if b then scan_ended (with_pairs upto (record l { activity = a })) else to (Activity.Walk Walk.Next) (record (with_pairs upto (record l { activity = a })) { row = r; lower = l.upper; built = 0; want = l.upper; next = None; upper = 0 }) in o) ≡

@@ -2,7 +2,7 @@
 -- and announces that.
 use Rattle.std.proofs.Common.{◌≡◌, ℕ, true, Option, Some, None, refl, ◌∙◌, ap}
 use Rattle.kw_model.specs.declared.call.Call.{Call}
-use Rattle.kw_model.specs.declared.call.Call.TheVariants.{Put, Del, Get, Scan}
+use Rattle.kw_model.specs.declared.call.Call.TheVariants.{Put, Del, Get, Scan, Pin, ScanAt, Unpin}
 use Rattle.kw_world.specs.declared.activity.Activity.TheVariants as Activity
 use Rattle.kw_world.specs.declared.activity.enter.Enter.TheVariants as Enter
 use Rattle.kw_world.specs.declared.activity.walk.Walk.TheVariants as Walk
@@ -30,4 +30,7 @@ starts_anew rows l m told is put line = ap (λ (k : Local). k.activity) (by_tran
     starts (Some (Del key)) p = refl
     starts (Some (Get key)) p = true_false p refl
     starts (Some (Scan from upto)) p = true_false p refl
+    starts (Some Pin) p = true_false p refl
+    starts (Some (ScanAt from upto)) p = true_false p refl
+    starts (Some Unpin) p = true_false p refl
     starts None p = true_false p refl

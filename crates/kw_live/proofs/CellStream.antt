@@ -11,7 +11,7 @@ use Rattle.kw_cells.specs.declared.cell.Cell.{Cell}
 use Rattle.kw_cells.specs.InOrder.{AreInOrder, stands_before, with_cell}
 use Rattle.kw_cells.proofs.InOrder.{length-with_cell, with_cell-in_order}
 use Rattle.kw_model.specs.declared.call.Call.{Call}
-use Rattle.kw_model.specs.declared.call.Call.TheVariants.{Put, Del, Get, Scan}
+use Rattle.kw_model.specs.declared.call.Call.TheVariants.{Put, Del, Get, Scan, Pin, ScanAt, Unpin}
 use Rattle.kw_world.specs.declared.activity.Activity.{Activity}
 use Rattle.kw_world.specs.declared.activity.read.Read.TheVariants as Read
 use Rattle.kw_world.specs.declared.activity.walk.Walk.TheVariants as Walk
@@ -57,6 +57,9 @@ scan_is (Some (Scan first upto)) is = refl
 scan_is (Some (Put key value)) is = absurd (cc)
 scan_is (Some (Del key)) is = absurd (cc)
 scan_is (Some (Get key)) is = absurd (cc)
+scan_is (Some Pin) is = absurd (cc)
+scan_is (Some (ScanAt from upto)) is = absurd (cc)
+scan_is (Some Unpin) is = absurd (cc)
 scan_is None is = absurd (cc)
 
 -- a scan whose row leads on goes on with the next row

@@ -7,7 +7,7 @@ use mathlib.Core.List.{IsPrefix}
 use Rattle.kw_words.specs.declared.sizes.TheConstants.{SPENT}
 use Rattle.kw_words.specs.Scan.{scan_of}
 use Rattle.kw_model.specs.declared.call.Call.{Call}
-use Rattle.kw_model.specs.declared.call.Call.TheVariants.{Put, Del, Get, Scan}
+use Rattle.kw_model.specs.declared.call.Call.TheVariants.{Put, Del, Get, Scan, Pin, ScanAt, Unpin}
 use Rattle.kw_world.specs.declared.answer.Answer.{Answer}
 use Rattle.kw_world.specs.declared.answer.Answer.TheVariants.{Pairs, Spent, Stopped}
 use Rattle.kw_world.specs.declared.activity.Activity.{Activity}
@@ -18,7 +18,8 @@ use Rattle.kw_world.specs.declared.event.Choice.{Choice}
 use Rattle.kw_world.specs.declared.event.Choice.TheVariants.{Go, Stop}
 use Rattle.kw_world.specs.declared.event.StepDone.TheVariants.{Moved}
 use Rattle.kw_world.specs.declared.local.Local.{Local}
-use Rattle.kw_world.specs.Calls.{is_range_empty, is_scan}
+use Rattle.kw_core.specs.Events.{is_call_in_range}
+use Rattle.kw_world.specs.Calls.{is_range_empty, is_pin, is_scan}
 use Rattle.kw_world.specs.Transition.{Outcome, leave, outcome, to}
 use Rattle.kw_world.specs.ScanTransitions.{entered, to_start, version_settled}
 use Rattle.kw_world.specs.WalkTransitions.{is_stopped, walk_transition}
@@ -68,6 +69,9 @@ spent_entered (Some (Put key value)) e = let x : false ≡ true = e in absurd (c
 spent_entered (Some (Del key)) e = let x : false ≡ true = e in absurd (cc)
 spent_entered (Some (Get key)) e = let x : false ≡ true = e in absurd (cc)
 spent_entered (Some (Scan from upto)) e = tt
+spent_entered (Some Pin) e = let x : false ≡ true = e in absurd (cc)
+spent_entered (Some (ScanAt from upto)) e = let x : false ≡ true = e in absurd (cc)
+spent_entered (Some Unpin) e = let x : false ≡ true = e in absurd (cc)
 spent_entered None e = let x : false ≡ true = e in absurd (cc)
 
 -- from l, which is to load the clock, to m, where that was the clock
@@ -107,13 +111,29 @@ pub record Settled (l m : Local) : Type 0 where
   pub has_read : m.has_read ≡ l.has_read
   pub at : ((m.activity ≡ Activity.EndScan Pairs) × (is_range_empty l.call ≡ true)) ⊎ ((m.activity ≡ Activity.Walk Walk.Start) × (is_range_empty l.call ≡ false))
 
-settles : (rows : ℕ) (l m : Local) (told : ℕ) → l.activity ≡ Activity.Draw Draw.Settle → IsLine rows Go l m told → Settled l m
-settles rows l m told is line = saw (is_range_empty l.call) refl (by_transition rows (Activity.Draw Draw.Settle) Go l m told is line)
+-- a scan is no pin
+no_pin : (call : Option Call) → is_scan call ≡ true → is_pin call ≡ false
+no_pin (Some Pin) e = let x : false ≡ true = e in absurd (cc)
+no_pin (Some (Put key value)) e = refl
+no_pin (Some (Del key)) e = refl
+no_pin (Some (Get key)) e = refl
+no_pin (Some (Scan from upto)) e = refl
+no_pin (Some (ScanAt from upto)) e = refl
+no_pin (Some Unpin) e = refl
+no_pin None e = refl
+
+settles : (rows : ℕ) (l m : Local) (told : ℕ) → is_pin l.call ≡ false → l.activity ≡ Activity.Draw Draw.Settle → IsLine rows Go l m told → Settled l m
+settles rows l m told p is line = whole (is_pin l.call) p (by_transition rows (Activity.Draw Draw.Settle) Go l m told is line)
   where
     saw : (b : Bool) → is_range_empty l.call ≡ b
         → m ≡ (let x : Outcome = if b then to (Activity.EndScan Pairs) (record l { version = version_settled (scan_of told) l.drawn }) else to_start (record l { version = version_settled (scan_of told) l.drawn }) in x).local → Settled l m
     saw true e i = subst (Settled l) (sym i) (record { call = refl; has_read = refl; at = inl (refl, e) })
     saw false e i = subst (Settled l) (sym i) (record { call = refl; has_read = refl; at = inr (refl, e) })
+
+    whole : (b : Bool) → b ≡ false
+        → m ≡ (let x : Outcome = if b then to (Activity.Draw Draw.Pin) (record l { version = version_settled (scan_of told) l.drawn }) else if is_range_empty l.call then to (Activity.EndScan Pairs) (record l { version = version_settled (scan_of told) l.drawn }) else to_start (record l { version = version_settled (scan_of told) l.drawn }) in x).local → Settled l m
+    whole true e i = let x : true ≡ false = e in absurd (cc)
+    whole false e i = saw (is_range_empty l.call) refl i
 
 settled_entered : (call : Option Call) (a : Activity) → is_scan call ≡ true → ((a ≡ Activity.EndScan Pairs) × (is_range_empty call ≡ true)) ⊎ ((a ≡ Activity.Walk Walk.Start) × (is_range_empty call ≡ false)) → IfSome call (λ c. HasEntered c a)
 settled_entered (Some (Put key value)) a e h = let x : false ≡ true = e in absurd (cc)
@@ -121,6 +141,9 @@ settled_entered (Some (Del key)) a e h = let x : false ≡ true = e in absurd (c
 settled_entered (Some (Get key)) a e h = let x : false ≡ true = e in absurd (cc)
 settled_entered (Some (Scan from upto)) a e (inl h) = subst (HasEntered (Scan from upto)) (sym h.0) (let n : nat_lt upto from ≡ true = h.1 in grind (arith, nat_tests))
 settled_entered (Some (Scan from upto)) a e (inr h) = subst (HasEntered (Scan from upto)) (sym h.0) (let n : nat_lt upto from ≡ false = h.1 in grind (arith, nat_tests))
+settled_entered (Some Pin) a e h = let x : false ≡ true = e in absurd (cc)
+settled_entered (Some (ScanAt from upto)) a e h = let x : false ≡ true = e in absurd (cc)
+settled_entered (Some Unpin) a e h = let x : false ≡ true = e in absurd (cc)
 settled_entered None a e h = let x : false ≡ true = e in absurd (cc)
 
 not_spent : (a : Activity) (call : Option Call) → ((a ≡ Activity.EndScan Pairs) × (is_range_empty call ≡ true)) ⊎ ((a ≡ Activity.Walk Walk.Start) × (is_range_empty call ≡ false)) → a ≡ Activity.Leave Spent → ⊥
@@ -128,13 +151,13 @@ not_spent a call (inl h) e = let x : (Activity.EndScan Pairs) ≡ (Activity.Leav
 not_spent a call (inr h) e = let x : (Activity.Walk Walk.Start) ≡ (Activity.Leave Spent) = sym h.0 ∙ e in absurd (cc)
 
 -- from the load of the clock to the version, where it waits
-pub settles_on : (r s t u : ℕ) (k l m n o : Local) (clock b c d : ℕ) → k.activity ≡ Activity.Draw Draw.Clock → IsLine r Go k l clock → l.activity ≡ Activity.Draw Draw.Wait → IsLine s Go l m b → IsLine t Go m n c → IsLine u Go n o d → Settles k o clock
-settles_on r s t u k l m n o clock b c d is first waiting second third fourth =
+pub settles_on : (r s t u : ℕ) (k l m n o : Local) (clock b c d : ℕ) → is_scan k.call ≡ true → k.activity ≡ Activity.Draw Draw.Clock → IsLine r Go k l clock → l.activity ≡ Activity.Draw Draw.Wait → IsLine s Go l m b → IsLine t Go m n c → IsLine u Go n o d → Settles k o clock
+settles_on r s t u k l m n o clock b c d scan is first waiting second third fourth =
     let w = waits_below r k l clock is first waiting in
     let x : m ≡ record l { activity = Activity.Draw Draw.Version } = waits s l m b waiting second in
     let y : n ≡ record m { drawn = c; activity = Activity.Draw Draw.Settle } = draws t m n c (ap (λ (i : Local). i.activity) x) third in
-    let z : Settled n o = settles u n o d (ap (λ (i : Local). i.activity) y) fourth in
     let call : n.call ≡ k.call = ap (λ (i : Local). i.call) y ∙ (ap (λ (i : Local). i.call) x ∙ ap (λ (i : Local). i.call) w.1) in
+    let z : Settled n o = settles u n o d (ap is_pin call ∙ no_pin k.call scan) (ap (λ (i : Local). i.activity) y) fourth in
     let has_read : n.has_read ≡ k.has_read = ap (λ (i : Local). i.has_read) y ∙ (ap (λ (i : Local). i.has_read) x ∙ ap (λ (i : Local). i.has_read) w.1) in
     record {
       call = z.call ∙ call;
@@ -152,14 +175,17 @@ pub record Entered (call : Call) (m : Local) : Type 0 where
   pub scan : (d : Draw) → m.activity ≡ Activity.Draw d → (m.activity ≡ Activity.Draw Draw.Clock) × (is_scan (Some call) ≡ true)
   pub starts : ((d : Draw) → m.activity ≡ Activity.Draw d → ⊥) → (is_scan (Some call) ≡ false) × HasEntered call m.activity
 
-pub enters : (rows : ℕ) (call : Call) (l m : Local) (told : ℕ) → l.activity ≡ Activity.Enter Enter.Announce → l.call ≡ Some call → l.has_read ≡ false → IsLine rows Go l m told → Entered call m
-enters rows call l m told is e u line = saw call e (by_transition rows (Activity.Enter Enter.Announce) Go l m told is line ∙ ap (λ c. (entered c l).local) e)
+pub enters : (rows : ℕ) (call : Call) (l m : Local) (told : ℕ) → is_call_in_range call ≡ true → l.activity ≡ Activity.Enter Enter.Announce → l.call ≡ Some call → l.has_read ≡ false → IsLine rows Go l m told → Entered call m
+enters rows call l m told ranged is e u line = saw call ranged e (by_transition rows (Activity.Enter Enter.Announce) Go l m told is line ∙ ap (λ c. (entered c l).local) e)
   where
-    saw : (c : Call) → l.call ≡ Some c → m ≡ (entered (Some c) l).local → Entered c m
-    saw (Put key value) e i = subst (Entered (Put key value)) (sym i) (record { call_is = e; unread = u; scan = λ d h. let x : (Activity.Walk Walk.Start) ≡ (Activity.Draw d) = h in absurd (cc); starts = λ n. (refl, tt) })
-    saw (Del key) e i = subst (Entered (Del key)) (sym i) (record { call_is = e; unread = u; scan = λ d h. let x : (Activity.Walk Walk.Start) ≡ (Activity.Draw d) = h in absurd (cc); starts = λ n. (refl, tt) })
-    saw (Get key) e i = subst (Entered (Get key)) (sym i) (record { call_is = e; unread = u; scan = λ d h. let x : (Activity.Walk Walk.Start) ≡ (Activity.Draw d) = h in absurd (cc); starts = λ n. (refl, tt) })
-    saw (Scan from upto) e i = subst (Entered (Scan from upto)) (sym i) (record { call_is = e; unread = u; scan = λ d h. (refl, refl); starts = λ n. absurd (n Draw.Clock refl) })
+    saw : (c : Call) → is_call_in_range c ≡ true → l.call ≡ Some c → m ≡ (entered (Some c) l).local → Entered c m
+    saw (Put key value) o e i = subst (Entered (Put key value)) (sym i) (record { call_is = e; unread = u; scan = λ d h. let x : (Activity.Walk Walk.Start) ≡ (Activity.Draw d) = h in absurd (cc); starts = λ n. (refl, tt) })
+    saw (Del key) o e i = subst (Entered (Del key)) (sym i) (record { call_is = e; unread = u; scan = λ d h. let x : (Activity.Walk Walk.Start) ≡ (Activity.Draw d) = h in absurd (cc); starts = λ n. (refl, tt) })
+    saw (Get key) o e i = subst (Entered (Get key)) (sym i) (record { call_is = e; unread = u; scan = λ d h. let x : (Activity.Walk Walk.Start) ≡ (Activity.Draw d) = h in absurd (cc); starts = λ n. (refl, tt) })
+    saw (Scan from upto) o e i = subst (Entered (Scan from upto)) (sym i) (record { call_is = e; unread = u; scan = λ d h. (refl, refl); starts = λ n. absurd (n Draw.Clock refl) })
+    saw Pin o e i = let x : false ≡ true = o in absurd (cc)
+    saw (ScanAt from upto) o e i = let x : false ≡ true = o in absurd (cc)
+    saw Unpin o e i = let x : false ≡ true = o in absurd (cc)
 
 -- A scan is stopped.
 

@@ -4,7 +4,7 @@ use Rattle.std.proofs.Common.{arith, ◌≡◌, ℕ, ◌<◌, suc, true, false, 
 use Rattle.std.proofs.lemmas.List.Elements.{All-nil, All-cons}
 use Rattle.kw_cells.specs.Cells.{pairs_of}
 use Rattle.kw_model.specs.declared.call.Call.{Call}
-use Rattle.kw_model.specs.declared.call.Call.TheVariants.{Put, Del, Get, Scan}
+use Rattle.kw_model.specs.declared.call.Call.TheVariants.{Put, Del, Get, Scan, Pin, ScanAt, Unpin}
 use Rattle.kw_words.specs.Plain.{cell_of_link_word}
 use Rattle.kw_words.specs.declared.sizes.TheConstants.{CELLS}
 use Rattle.kw_world.specs.declared.activity.Activity.{Activity}
@@ -72,6 +72,9 @@ has_read (Some (Scan from upto)) want version m before after below (inl g, h) = 
   h,
 )
 has_read (Some (Scan from upto)) want version m before after below (inr g, h) = (inr g, h)
+has_read (Some Pin) want version m before after below e = tt
+has_read (Some (ScanAt from upto)) want version m before after below e = tt
+has_read (Some Unpin) want version m before after below e = tt
 has_read None want version m before after below e = tt
 
 -- The event.

@@ -6,7 +6,7 @@ use Rattle.kw_words.specs.Plain.{key_of_word, value_of_word, cell_of_link_word}
 use Rattle.kw_cells.specs.Cells.{shown_at, pairs_of}
 use Rattle.kw_world.specs.Answers.{answer_found}
 use Rattle.kw_model.specs.declared.call.Call.{Call}
-use Rattle.kw_model.specs.declared.call.Call.TheVariants.{Put, Del, Get, Scan}
+use Rattle.kw_model.specs.declared.call.Call.TheVariants.{Put, Del, Get, Scan, Pin, ScanAt, Unpin}
 use Rattle.kw_world.specs.declared.answer.Answer.TheVariants.{Pairs}
 use Rattle.kw_world.specs.declared.activity.Activity.{Activity}
 use Rattle.kw_world.specs.declared.activity.read.Read.TheVariants as Read
@@ -116,6 +116,9 @@ row_ends z (Some (Put key value)) ahead y is some above = record { calls = is; d
 row_ends z (Some (Del key)) ahead y is some above = record { calls = is; drawn = refl; on = λ e. true_false e refl; ends = λ e. tt; fewer = some }
 row_ends z (Some (Get key)) ahead y is some above = record { calls = is; drawn = refl; on = λ e. true_false e refl; ends = λ e. (refl, refl); fewer = some }
 row_ends z (Some (Scan from upto)) ahead y is some above = scans_on z from upto ahead y is some y.next above
+row_ends z (Some Pin) ahead y is some above = record { calls = is; drawn = refl; on = λ e. true_false e refl; ends = λ e. tt; fewer = some }
+row_ends z (Some (ScanAt from upto)) ahead y is some above = record { calls = is; drawn = refl; on = λ e. true_false e refl; ends = λ e. tt; fewer = some }
+row_ends z (Some Unpin) ahead y is some above = record { calls = is; drawn = refl; on = λ e. true_false e refl; ends = λ e. tt; fewer = some }
 row_ends z None ahead y is some above = record { calls = is; drawn = refl; on = λ e. true_false e refl; ends = λ e. tt; fewer = some }
 
 -- a remembered cell is taken in hand, or the row is at its end

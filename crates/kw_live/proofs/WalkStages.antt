@@ -9,7 +9,7 @@ use Rattle.kw_words.specs.declared.state.State.{State}
 use Rattle.kw_words.specs.declared.state.State.TheVariants.{Free, Infant, Normal, Leader, Follower, Retired}
 use Rattle.kw_cells.specs.declared.cell.Cell.{Cell}
 use Rattle.kw_model.specs.declared.call.Call.{Call}
-use Rattle.kw_model.specs.declared.call.Call.TheVariants.{Put, Del, Get, Scan}
+use Rattle.kw_model.specs.declared.call.Call.TheVariants.{Put, Del, Get, Scan, Pin, ScanAt, Unpin}
 use Rattle.kw_world.specs.declared.activity.Activity.{Activity}
 use Rattle.kw_world.specs.declared.activity.look.Look.TheVariants as Look
 use Rattle.kw_world.specs.declared.activity.walk.Walk.TheVariants as Walk
@@ -67,6 +67,9 @@ arrives l x (Some (Put key value)) ahead a b c d is more = record { walks = reco
 arrives l x (Some (Del key)) ahead a b c d is more = record { walks = record { call = a; want = b; version = c; has_read = d; stage = inr (ap arrived is) }; fewer = more }
 arrives l x (Some (Get key)) ahead a b c d is more = record { walks = record { call = a; want = b; version = c; has_read = d; stage = inr (ap arrived is) }; fewer = more }
 arrives l x (Some (Scan from upto)) ahead a b c d is more = record { walks = record { call = a; want = b; version = c; has_read = d; stage = inr (ap arrived is) }; fewer = more }
+arrives l x (Some Pin) ahead a b c d is more = record { walks = record { call = a; want = b; version = c; has_read = d; stage = inr (ap arrived is) }; fewer = more }
+arrives l x (Some (ScanAt from upto)) ahead a b c d is more = record { walks = record { call = a; want = b; version = c; has_read = d; stage = inr (ap arrived is) }; fewer = more }
+arrives l x (Some Unpin) ahead a b c d is more = record { walks = record { call = a; want = b; version = c; has_read = d; stage = inr (ap arrived is) }; fewer = more }
 arrives l x None ahead a b c d is more = record { walks = record { call = a; want = b; version = c; has_read = d; stage = inr (ap arrived is) }; fewer = more }
 
 -- the walk begins at the first row, or tries the guessed one
@@ -291,6 +294,9 @@ arrive_over (Some (Put key value)) l cells (inl e) = true_false (ap is_looking e
 arrive_over (Some (Del key)) l cells (inl e) = true_false (ap is_looking e) refl
 arrive_over (Some (Get key)) l cells (inl e) = refl
 arrive_over (Some (Scan from upto)) l cells (inl e) = refl
+arrive_over (Some Pin) l cells (inl e) = refl
+arrive_over (Some (ScanAt from upto)) l cells (inl e) = refl
+arrive_over (Some Unpin) l cells (inl e) = refl
 arrive_over None l cells (inl e) = refl
 
 -- where a call stands after the arrival
@@ -299,6 +305,9 @@ arrive_at (Some (Put key value)) l = refl
 arrive_at (Some (Del key)) l = refl
 arrive_at (Some (Get key)) l = refl
 arrive_at (Some (Scan from upto)) l = refl
+arrive_at (Some Pin) l = refl
+arrive_at (Some (ScanAt from upto)) l = refl
+arrive_at (Some Unpin) l = refl
 arrive_at None l = refl
 
 -- a row whose least key is above the wanted one ends the walk

@@ -1,7 +1,7 @@
 -- Where a call stands between the functions that make its events.
 use Rattle.std.specs.Prelude.{ℕ, ◌<◌, ◌≤◌, Option, Some, None}
 use Rattle.kw_model.specs.declared.call.Call.{Call}
-use Rattle.kw_model.specs.declared.call.Call.TheVariants.{Put, Del, Get, Scan}
+use Rattle.kw_model.specs.declared.call.Call.TheVariants.{Put, Del, Get, Scan, Pin, ScanAt, Unpin}
 use Rattle.kw_world.specs.declared.answer.Answer.TheVariants.{Pairs, Spent}
 use Rattle.kw_world.specs.declared.activity.Activity.{Activity}
 use Rattle.kw_world.specs.declared.activity.look.Look.TheVariants as Look
@@ -27,6 +27,9 @@ arrived (Some (Put key value)) = Activity.Put Put.Count
 arrived (Some (Del key)) = Activity.Put Put.Count
 arrived (Some (Get key)) = Activity.Look (Look.Entry 0)
 arrived (Some (Scan from upto)) = Activity.Look (Look.Entry 0)
+arrived (Some Pin) = Activity.Look (Look.Entry 0)
+arrived (Some (ScanAt from upto)) = Activity.Look (Look.Entry 0)
+arrived (Some Unpin) = Activity.Look (Look.Entry 0)
 arrived None = Activity.Look (Look.Entry 0)
 
 -- the choice with which a walk begins

@@ -1,7 +1,7 @@
 -- Where updates stand once they have entered.
 use Rattle.std.proofs.Common.{◌≡◌, true, Some, refl}
 use Rattle.kw_model.specs.declared.call.Call.{Call}
-use Rattle.kw_model.specs.declared.call.Call.TheVariants.{Put, Del, Get, Scan}
+use Rattle.kw_model.specs.declared.call.Call.TheVariants.{Put, Del, Get, Scan, Pin, ScanAt, Unpin}
 use Rattle.kw_world.specs.declared.activity.Activity.{Activity}
 use Rattle.kw_world.specs.declared.activity.Activity.TheVariants as Activity
 use Rattle.kw_world.specs.declared.activity.walk.Walk.TheVariants as Walk
@@ -20,3 +20,6 @@ update_starts (Del key) _ is h = absurd h
 update_starts (Get key) (Activity.Rebalance (Rebalance.Replace Replace.First)) is h = true_false is refl
 update_starts (Get key) a is h = true_false is refl
 update_starts (Scan from upto) a is h = true_false is refl
+update_starts Pin a is h = true_false is refl
+update_starts (ScanAt from upto) a is h = true_false is refl
+update_starts Unpin a is h = true_false is refl

@@ -2,7 +2,7 @@
 -- it met on the way, and its reply.
 use Rattle.std.proofs.Common.{ℕ, ◌≡◌, true, false, Option, Some, None, Err, List, ap, refl}
 use Rattle.kw_model.specs.declared.call.Call.{Call}
-use Rattle.kw_model.specs.declared.call.Call.TheVariants.{Put, Del, Get, Scan}
+use Rattle.kw_model.specs.declared.call.Call.TheVariants.{Put, Del, Get, Scan, Pin, ScanAt, Unpin}
 use Rattle.kw_world.specs.declared.activity.Activity.{Activity}
 use Rattle.kw_world.specs.declared.activity.walk.Walk.TheVariants as Walk
 use Rattle.kw_world.specs.Answers.{reply_of}
@@ -38,6 +38,9 @@ put_starts (Del key) (Activity.Walk Walk.Start) is entered = refl
 put_starts (Del key) _ is entered = absurd entered
 put_starts (Get key) a is entered = let x : false ≡ true = is in absurd (cc)
 put_starts (Scan from upto) a is entered = let x : false ≡ true = is in absurd (cc)
+put_starts Pin a is entered = let x : false ≡ true = is in absurd (cc)
+put_starts (ScanAt from upto) a is entered = let x : false ≡ true = is in absurd (cc)
+put_starts Unpin a is entered = let x : false ≡ true = is in absurd (cc)
 
 -- where it made room and was not refused, it is to begin its walk
 pub begins_anew : (made : Option PutEnd) (a : Activity) → ((end : PutEnd) → made ≡ Some end → ⊥) → a ≡ stands_after made → a ≡ Activity.Walk Walk.Start

@@ -9,7 +9,7 @@ use Rattle.std.proofs.lemmas.Option.{same_Some, slice_get-map, slice_get_within,
 use Rattle.kw_model.specs.Map.{Pairs, IsRising, value_of, between}
 use Rattle.kw_model.specs.Legal.{may_refuse, went, went_all, is_update, shown, last_shown}
 use Rattle.kw_model.specs.declared.call.Call.{Call}
-use Rattle.kw_model.specs.declared.call.Call.TheVariants.{Put, Del, Get, Scan}
+use Rattle.kw_model.specs.declared.call.Call.TheVariants.{Put, Del, Get, Scan, Pin, ScanAt, Unpin}
 use Rattle.kw_model.specs.declared.call.Reply.{Reply}
 use Rattle.kw_model.proofs.Lookups.{value-went_all}
 use Rattle.kw_model.proofs.Pairs.{same_from_values, rises-between, value-between}
@@ -47,6 +47,9 @@ no_update k c r h l = go c h
     go (Del q) h = other q (omega arith) (not (may_refuse (Del q) r))
     go (Get q) h = and_false (not (may_refuse (Get q) r))
     go (Scan a b) h = and_false (not (may_refuse (Scan a b) r))
+    go Pin h = absurd h
+    go (ScanAt a b) h = absurd h
+    go Unpin h = absurd h
 
 -- and it keeps what it showed before
 shows_nothing : (k : ℕ) (cs : List Call) (rs : List Reply) (before : Option ℕ) → AllFit cs → greatest_key < k → last_shown k cs rs before ≡ before

@@ -9,7 +9,7 @@ use Rattle.std.proofs.lemmas.Option.{slice_get-map, slice_get-get_or, slice_get_
 use Rattle.kw_model.specs.Map.{Pairs, after, answer, answers, found}
 use Rattle.kw_model.specs.Legal.{IsRight, is_update, may_refuse, went, went_all}
 use Rattle.kw_model.specs.declared.call.Call.{Call}
-use Rattle.kw_model.specs.declared.call.Call.TheVariants.{Put, Del, Get, Scan}
+use Rattle.kw_model.specs.declared.call.Call.TheVariants.{Put, Del, Get, Scan, Pin, ScanAt, Unpin}
 use Rattle.kw_model.specs.declared.call.Reply.{Reply}
 use Rattle.kw_model.specs.declared.call.Reply.TheVariants as reply
 use Rattle.kw_model.proofs.Replies.{right_is}
@@ -179,6 +179,9 @@ module _ (blocks : List (List Line)) (rs : List Reply) (xs : List ℕ) (long : l
       let r = scan_form l.form b c (subst (IsCallOf l.form) is (formed forms i l e)) in
       let s = quiet_block blocks i l e q r in
       ap reply.Pairs (same_range asks replies b c (take a xs) (take i (range_with_len 0 many)) (λ k. alike k i a at (block_settled forms k i s)))
+  same_answer forms i a l at e q Pin is = refl
+  same_answer forms i a l at e q (ScanAt b c) is = refl
+  same_answer forms i a l at e q Unpin is = refl
 
   -- the reply to a line is right where the line stands
   right_reply : IsLegalIn (calls_of lines) rs xs → (i a : ℕ) (l : Line) (r : Reply) → slice_get xs a ≡ Some i → slice_get lines i ≡ Some l → slice_get rs i ≡ Some r → IsRight (map_after asks replies [] (take a xs)) l.call r

@@ -2,7 +2,7 @@
 use Rattle.std.proofs.Common.{ℕ, ◌≡◌, ◌<◌, ◌%◌, List, length, Some, sym, ap, ◌∙◌, arith}
 use Rattle.std.proofs.lemmas.Option.{same_Some}
 use Rattle.kw_model.specs.declared.call.Call.{Call}
-use Rattle.kw_model.specs.declared.call.Call.TheVariants.{Put, Del, Get, Scan}
+use Rattle.kw_model.specs.declared.call.Call.TheVariants.{Put, Del, Get, Scan, Pin, ScanAt, Unpin}
 use Rattle.kw_work.specs.declared.line.Line.{Line}
 use Rattle.kw_work.specs.Dealing.{worker_of, dealt_by}
 use Rattle.kw_work.proofs.Asked.{element_at}
@@ -14,6 +14,9 @@ by_key (Put q v) k n e = same_Some q k e
 by_key (Del q) k n e = same_Some q k e
 by_key (Get q) k n e = same_Some q k e
 by_key (Scan a b) k n e = absurd (cc)
+by_key Pin k n e = absurd (cc)
+by_key (ScanAt a b) k n e = absurd (cc)
+by_key Unpin k n e = absurd (cc)
 
 -- so the lines on a key are one worker's
 pub keeps_keys : (workers : ℕ) (blocks : List (List Line)) (xs : List ℕ) → KeepsWorkers workers blocks xs → KeepsKeys blocks xs

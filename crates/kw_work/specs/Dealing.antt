@@ -14,12 +14,16 @@ pub record Dealt : Type 0 where
   pub lines : List Line
   pub workers : ℕ
 
--- the number by which a line is dealt: the key of its call, or for a range the number of the line
+-- the number by which a line is dealt: the key of its call, or for a call of no one key the number
+-- of the line
 abbrev pub dealt_by : Call → ℕ → ℕ
 dealt_by (call.Put k v) number = k
 dealt_by (call.Del k) number = k
 dealt_by (call.Get k) number = k
 dealt_by (call.Scan a b) number = number
+dealt_by call.Pin number = number
+dealt_by (call.ScanAt a b) number = number
+dealt_by call.Unpin number = number
 
 -- the worker that takes the line
 abbrev pub worker_of : ℕ → Line → ℕ

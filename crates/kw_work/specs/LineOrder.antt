@@ -46,6 +46,9 @@ key_of (call.Put k v) = Some k
 key_of (call.Del k) = Some k
 key_of (call.Get k) = Some k
 key_of (call.Scan a b) = None
+key_of call.Pin = None
+key_of (call.ScanAt a b) = None
+key_of call.Unpin = None
 
 -- the lines of blocks, one block after another
 abbrev pub joined : List (List Line) → List Line

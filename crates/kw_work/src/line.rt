@@ -22,7 +22,7 @@ pub struct Line {
 
 impl Line {
     /// The worker that takes the line, one of so many: a line on one key goes by its key, so that
-    /// all lines on a key go to one worker, and a range line by its number.
+    /// all lines on a key go to one worker, and any other by its number.
     pub fn worker(&self, workers: u32) -> u32
         requires { 0 < workers }
         ensures worker { result ≡ worker_of workers self.now }
@@ -30,7 +30,7 @@ impl Line {
     {
         match self.call {
             Call::Put(key, _) | Call::Del(key) | Call::Get(key) => key % workers,
-            Call::Scan(_, _) => self.number % workers,
+            Call::Scan(..) | Call::Pin | Call::ScanAt(..) | Call::Unpin => self.number % workers,
         }
     }
 }

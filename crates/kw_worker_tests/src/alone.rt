@@ -41,6 +41,8 @@ impl Lines {
                 }
             }
             Item::Call(Call::Scan(from, upto), _) => self.push_list(plain, from, upto)?,
+            // no line makes these
+            Item::Call(Call::Pin | Call::ScanAt(..) | Call::Unpin, _) => {}
         }
         Ok(())
     }

@@ -7,6 +7,9 @@ use Rattle.kw_follow.proofs.Reaching.{advances_on, advances_trans}
 use Rattle.kw_live.proofs.Drawing.{draws, saw_clock, settles_on, settles_spent, still_waits, waits}
 use Rattle.kw_live.proofs.entering.draw.Goals as goal
 
+pub go_draw-requires-in-Draw-clause-drawing : goal.go_draw-requires-in-Draw-clause-drawing
+go_draw-requires-in-Draw-clause-drawing c = subst IsDrawing (sym (still_waits _ _ _ _ _ c.requires.activity c.go_draw.ensures.line c.in-Draw.is)) tt
+
 pub go_draw-requires-in-Draw-2-clause-drawing : goal.go_draw-requires-in-Draw-2-clause-drawing
 go_draw-requires-in-Draw-2-clause-drawing c = subst (λ (k : Local). IsDrawing k.activity) (sym (waits _ _ _ _ (still_waits _ _ _ _ _ c.requires.activity c.go_draw.ensures.line c.in-Draw.is) c.go_draw-in-Draw.ensures.line)) tt
 
@@ -19,19 +22,19 @@ returns-in-Draw-clause-on c =
     advances_trans waits (advances_trans (advances_on c.go_draw-in-Draw-2.ensures refl) (advances_on c.go_draw-in-Draw-3.ensures refl))
 
 pub returns-in-Draw-clause-entered : goal.returns-in-Draw-clause-entered
-returns-in-Draw-clause-entered c = (settles_on _ _ _ _ _ _ _ _ _ _ _ _ _ c.requires.activity c.go_draw.ensures.line (still_waits _ _ _ _ _ c.requires.activity c.go_draw.ensures.line c.in-Draw.is) c.go_draw-in-Draw.ensures.line c.go_draw-in-Draw-2.ensures.line c.go_draw-in-Draw-3.ensures.line).entered c.requires.scan
+returns-in-Draw-clause-entered c = (settles_on _ _ _ _ _ _ _ _ _ _ _ _ _ c.requires.scan c.requires.activity c.go_draw.ensures.line (still_waits _ _ _ _ _ c.requires.activity c.go_draw.ensures.line c.in-Draw.is) c.go_draw-in-Draw.ensures.line c.go_draw-in-Draw-2.ensures.line c.go_draw-in-Draw-3.ensures.line).entered c.requires.scan
 
 pub returns-in-Draw-clause-call : goal.returns-in-Draw-clause-call
-returns-in-Draw-clause-call c = (settles_on _ _ _ _ _ _ _ _ _ _ _ _ _ c.requires.activity c.go_draw.ensures.line (still_waits _ _ _ _ _ c.requires.activity c.go_draw.ensures.line c.in-Draw.is) c.go_draw-in-Draw.ensures.line c.go_draw-in-Draw-2.ensures.line c.go_draw-in-Draw-3.ensures.line).call
+returns-in-Draw-clause-call c = (settles_on _ _ _ _ _ _ _ _ _ _ _ _ _ c.requires.scan c.requires.activity c.go_draw.ensures.line (still_waits _ _ _ _ _ c.requires.activity c.go_draw.ensures.line c.in-Draw.is) c.go_draw-in-Draw.ensures.line c.go_draw-in-Draw-2.ensures.line c.go_draw-in-Draw-3.ensures.line).call
 
 pub returns-in-Draw-clause-unread : goal.returns-in-Draw-clause-unread
-returns-in-Draw-clause-unread c = (settles_on _ _ _ _ _ _ _ _ _ _ _ _ _ c.requires.activity c.go_draw.ensures.line (still_waits _ _ _ _ _ c.requires.activity c.go_draw.ensures.line c.in-Draw.is) c.go_draw-in-Draw.ensures.line c.go_draw-in-Draw-2.ensures.line c.go_draw-in-Draw-3.ensures.line).has_read
+returns-in-Draw-clause-unread c = (settles_on _ _ _ _ _ _ _ _ _ _ _ _ _ c.requires.scan c.requires.activity c.go_draw.ensures.line (still_waits _ _ _ _ _ c.requires.activity c.go_draw.ensures.line c.in-Draw.is) c.go_draw-in-Draw.ensures.line c.go_draw-in-Draw-2.ensures.line c.go_draw-in-Draw-3.ensures.line).has_read
 
 pub returns-in-Draw-clause-spent : goal.returns-in-Draw-clause-spent
 returns-in-Draw-clause-spent c = (
   c.go_draw.ensures.told,
   saw_clock c.requires.activity c.go_draw.ensures.saw (prefix_trans _ _ _ c.go_draw-in-Draw.ensures.goes.seen (prefix_trans _ _ _ c.go_draw-in-Draw-2.ensures.goes.seen c.go_draw-in-Draw-3.ensures.goes.seen)),
-  (settles_on _ _ _ _ _ _ _ _ _ _ _ _ _ c.requires.activity c.go_draw.ensures.line (still_waits _ _ _ _ _ c.requires.activity c.go_draw.ensures.line c.in-Draw.is) c.go_draw-in-Draw.ensures.line c.go_draw-in-Draw-2.ensures.line c.go_draw-in-Draw-3.ensures.line).spent,
+  (settles_on _ _ _ _ _ _ _ _ _ _ _ _ _ c.requires.scan c.requires.activity c.go_draw.ensures.line (still_waits _ _ _ _ _ c.requires.activity c.go_draw.ensures.line c.in-Draw.is) c.go_draw-in-Draw.ensures.line c.go_draw-in-Draw-2.ensures.line c.go_draw-in-Draw-3.ensures.line).spent,
 )
 
 pub returns-in_default-clause-on : goal.returns-in_default-clause-on
