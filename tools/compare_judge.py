@@ -29,8 +29,8 @@ from collections import Counter
 from compare_simulate import generated, stored
 from kiwi_map import KIWI, SIMULATOR, ended
 
-REPLIES = ["ok", "none", "empty", "no rows", "spent", "stopped", "7", "5=1", "1=1 2=2", "2=2 1=1", "kept", "", "05", "5="]
-CALLS = ["put 5 10", "del 5", "get 5", "scan 0 9", "scan 9 0", "sum 0 9", "put 5", "get 4294967296"]
+REPLIES = ["ok", "none", "empty", "no rows", "spent", "stopped", "held", "not pinned", "7", "5=1", "1=1 2=2", "2=2 1=1", "kept", "", "05", "5="]
+CALLS = ["put 5 10", "del 5", "get 5", "scan 0 9", "scan 9 0", "pin", "scan_at 0 9", "unpin", "sum 0 9", "put 5", "get 4294967296"]
 NAMES = ["0.1", "1.1", "7.7", "15.100000", "16.1", "0.0", "0.100001", "0", "0.01"]
 NUMBERS = ["0", "1", "9223372036854775807", "9223372036854775808", "00", "x", ""]
 

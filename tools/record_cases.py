@@ -32,6 +32,60 @@ JUDGED = (
 )
 
 
+# The same of records with snapshots. Each seat reads the one that it took itself.
+JUDGED += (
+    (
+        "a snapshot that stands still while its key is put",
+        b"done 0.1 0 5 put 5 1: ok\ndone 1.1 6 9 pin: ok\n"
+        + b"".join(b"done 0.%d %d %d put 5 2: ok\n" % (number, 10 * number, 10 * number + 5) for number in range(2, 132))
+        + b"done 1.2 1400 1405 scan_at 0 9: 5=1\ndone 1.3 1406 1408 get 5: 2\ndone 1.4 1409 1411 unpin: ok\n"
+        b"done 1.5 1412 1413 scan_at 0 9: not pinned\norder 0.1 1.1 "
+        + b" ".join(b"0.%d" % number for number in range(2, 132))
+        + b" 1.2 1.3 1.4 1.5\n",
+        b"yes",
+    ),
+    (
+        "a snapshot that has a later put",
+        b"done 0.1 0 5 put 5 1: ok\ndone 1.1 6 9 pin: ok\ndone 0.2 10 15 put 5 2: ok\ndone 1.2 16 20 scan_at 0 9: 5=2\n"
+        b"order 0.1 1.1 0.2 1.2\n",
+        b"no: wrong 1.2",
+    ),
+    ("a second pin", b"done 0.1 0 5 pin: ok\ndone 0.2 6 9 pin: held\norder 0.1 0.2\n", b"yes"),
+    ("a second pin that is taken", b"done 0.1 0 5 pin: ok\ndone 0.2 6 9 pin: ok\norder 0.1 0.2\n", b"no: wrong 0.2"),
+    (
+        "a second pin that gives the first one up",
+        b"done 0.1 0 1 pin: ok\ndone 0.2 2 3 put 5 1: ok\ndone 0.3 4 5 pin: held\ndone 0.4 6 7 scan_at 5 5: 5=1\n"
+        b"order 0.1 0.2 0.3 0.4\n",
+        b"no: wrong 0.4",
+    ),
+    ("an unpin of another seat's snapshot", b"done 0.1 0 5 pin: ok\ndone 1.1 6 9 unpin: ok\norder 0.1 1.1\n", b"no: wrong 1.1"),
+    (
+        "an unpin of the own snapshot that leaves another seat's",
+        b"done 0.1 0 1 put 5 1: ok\ndone 0.2 2 3 pin: ok\ndone 1.1 4 5 pin: ok\ndone 1.2 6 7 unpin: ok\n"
+        b"done 1.3 8 9 scan_at 0 9: not pinned\ndone 0.3 8 9 scan_at 0 9: 5=1\norder 0.1 0.2 1.1 1.2 1.3 0.3\n",
+        b"yes",
+    ),
+    (
+        "a pin behind a put beside it whose value it has not",
+        b"done 0.1 0 9 put 5 1: ok\ndone 1.1 3 8 pin: ok\ndone 1.2 10 11 scan_at 0 9: empty\norder 0.1 1.1 1.2\n",
+        b"no: wrong 1.2",
+    ),
+    (
+        "a pin before a put beside it whose value it has not",
+        b"done 0.1 0 9 put 5 1: ok\ndone 1.1 3 8 pin: ok\ndone 1.2 10 11 scan_at 0 9: empty\norder 1.1 0.1 1.2\n",
+        b"yes",
+    ),
+    (
+        "a pin that was refused, and a scan of no snapshot that was stopped",
+        b"done 0.1 0 1 pin: spent\ndone 0.2 2 3 unpin: not pinned\ndone 0.3 4 5 scan_at 0 9: stopped\norder 0.1 0.2 0.3\n",
+        b"yes",
+    ),
+    ("a pin that was stopped", b"done 0.1 0 5 pin: stopped\norder 0.1\n", b"no: wrong 0.1"),
+    ("a scan of a snapshot that was refused", b"done 0.1 0 5 pin: ok\ndone 0.2 6 9 scan_at 0 9: spent\norder 0.1 0.2\n", b"no: wrong 0.2"),
+    ("a scan of a snapshot by falling keys", b"done 0.1 0 5 pin: ok\ndone 0.2 6 9 scan_at 9 0: empty\norder 0.1 0.2\n", b"yes"),
+)
+
+
 def puts(count):
     """So many lines of answered puts, one after the other, of two seats by turns."""
     lines = (b"done %d.%d %d %d put 5 %d: ok\n" % (number % 2, number // 2 + 1, number, number, number) for number in range(1, count + 1))
@@ -49,6 +103,12 @@ BAD_RECORDS = (
     ("an open call with the name of an answered one", b"done 0.1 0 5 get 5: none\nopen 0.1 6 put 5 1\norder 0.1\n", 2),
     ("an end before the beginning", b"done 0.1 5 0 get 5: none\norder 0.1\n", 1),
     ("an open get", b"open 0.1 0 get 5\norder 0.1\n", 1),
+    ("an open pin", b"open 0.1 0 pin\norder 0.1\n", 1),
+    ("an open unpin", b"done 0.1 0 5 pin: ok\nopen 0.2 6 unpin\norder 0.1\n", 2),
+    ("a pin of a key", b"done 0.1 0 5 pin 5: ok\norder 0.1\n", 1),
+    ("a scan of a snapshot with one key", b"done 0.1 0 5 scan_at 5: not pinned\norder 0.1\n", 1),
+    ("a scan of a snapshot with a key too great", b"done 0.1 0 5 scan_at 0 4294967296: not pinned\norder 0.1\n", 1),
+    ("the first word of a reply of two", b"done 0.1 0 5 unpin: not\norder 0.1\n", 1),
     ("an answered call behind an open one", b"open 0.1 0 put 5 1\ndone 1.1 0 5 get 5: none\norder none\n", 2),
     ("a seat too many", b"done 16.1 0 5 get 5: none\norder none\n", 1),
     ("a call's number that is 0", b"done 0.0 0 5 get 5: none\norder none\n", 1),

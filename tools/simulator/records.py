@@ -4,15 +4,18 @@ from dataclasses import dataclass
 from typing import Optional, Tuple
 
 from kiwi_map import KEY_MOST, answered
-from simulator.texts import BadLine, call_of, lines_of, number_of
+from simulator.texts import BadLine, lines_of, number_of, record_call_of
 
 MOST_SEAT, MOST_NUMBER, MOST_CALLS = 15, 100_000, 100_000
-PLAIN_REPLIES = (b"ok", b"none", b"empty", b"no rows", b"spent", b"stopped")
+PLAIN_REPLIES = (b"ok", b"none", b"empty", b"no rows", b"spent", b"stopped", b"held", b"not pinned")
 REFUSALS = {
     "put": ("no rows", "spent"),
     "del": ("no rows", "spent"),
     "scan": ("spent", "stopped"),
     "get": (),
+    "pin": ("spent",),
+    "scan_at": ("stopped",),
+    "unpin": (),
 }
 
 
@@ -53,7 +56,7 @@ def done_of(line):
     if not colon or len(words) < 4 or words[0] != b"done" or not is_reply(reply):
         return None
     name, first, last = name_of(words[1]), number_of(words[2]), number_of(words[3])
-    call = call_of(words[4:])
+    call = record_call_of(words[4:])
     if name is None or first is None or last is None or first > last or call is None:
         return None
     return Line(name, call, first, last, reply.decode())
@@ -64,7 +67,7 @@ def open_of(line):
     words = line.split(b" ")
     if len(words) < 3 or words[0] != b"open":
         return None
-    name, first, call = name_of(words[1]), number_of(words[2]), call_of(words[3:])
+    name, first, call = name_of(words[1]), number_of(words[2]), record_call_of(words[3:])
     if name is None or first is None or call is None or call[0] not in ("put", "del"):
         return None
     return Line(name, call, first)
@@ -127,15 +130,28 @@ def late_fault(calls):
     return None
 
 
+def answered_at(pairs, pins, seat, form, numbers):
+    """The reply of a map of one thread to a call of this seat. Of each seat that holds a snapshot
+    the pins have the pairs as they stood when it was taken."""
+    if form == "pin":
+        reply = "held" if seat in pins else "ok"
+        pins.setdefault(seat, dict(pairs))
+        return reply
+    if form == "unpin":
+        return "not pinned" if pins.pop(seat, None) is None else "ok"
+    if form == "scan_at" and seat not in pins:
+        return "not pinned"
+    asked = b"list" if form in ("scan", "scan_at") else form.encode()
+    return str(answered(pins[seat] if form == "scan_at" else pairs, asked, numbers))
+
+
 def wrong_fault(calls):
     """The first of these calls whose reply is not that of a map of one thread, or none."""
-    pairs = {}
+    pairs, pins = {}, {}
     for call in calls:
         form, *numbers = call.call
-        if call.reply in REFUSALS[form]:
-            continue
-        asked = b"list" if form == "scan" else form.encode()
-        if str(answered(pairs, asked, numbers)) != call.reply:
+        seat = call.name.partition(".")[0]
+        if call.reply not in REFUSALS[form] and answered_at(pairs, pins, seat, form, numbers) != call.reply:
             return f"wrong {call.name}"
     return None
 

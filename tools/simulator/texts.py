@@ -32,6 +32,16 @@ def call_of(words):
     return (form.decode(), *read[1]) if read else None
 
 
+def record_call_of(words):
+    """The call of a record that these words are, or none: it may be of a snapshot."""
+    if words in ([b"pin"], [b"unpin"]):
+        return (words[0].decode(),)
+    if words[:1] == [b"scan_at"]:
+        read = call_of([b"scan", *words[1:]])
+        return read and ("scan_at", *read[1:])
+    return call_of(words)
+
+
 def text_of(call):
     """A call as a script has it."""
     return " ".join(map(str, call))

@@ -21,7 +21,8 @@ Kind = Enum(
     " help_stamp store_waiting draw settle clear_scan load_head load_link load_min load_state"
     " engage freeze_count freeze_pend load_scan help_draw help_settle take_row store_infant"
     " replace normalise give_back number store_retired load_pass reclaim mark_link"
-    " load_next_count decide engage_next load_after store_after insert",
+    " load_next_count decide engage_next load_after store_after insert store_pin load_pin"
+    " clear_pin",
 )
 Kind.__doc__ = "The kinds of event, by the names that scripts have for them."
 
