@@ -100,11 +100,25 @@ def neighbour(rng):
     return first, [0, 1, 2, half - 1, half, half + 1, half + 3, BUILT + 8]
 
 
+def offered(rng, keys):
+    """Lines by which a seat puts or deletes a key, and is then offered to tidy one of the first
+    rows: it does where its key stands there."""
+    seat, key = rng.randrange(SEATS), rng.choice(keys)
+    made = rng.choice((f"put {key} 2", f"del {key}"))
+    return [f"call {seat} {made}", f"until {seat} insert", f"guess {seat} {rng.randrange(3)}"]
+
+
 def tidied(rng):
-    """Rows of which so many were retired that tidying is offered."""
+    """Rows of which so many were retired that tidying is offered, and seats that are offered it,
+    of which a few are made to end before others meet them."""
     keys = list(range(rng.randrange(1, 40)))
     first = again(0, 2 * CELLS + rng.randrange(CELLS + 6), rng.choice(keys))
-    return [*first, *(f"call 1 put {key} 1" for key in keys), "go 1 100000"], keys[:4]
+    first += [*(f"call 1 put {key} 1" for key in keys), "go 1 100000"]
+    for _ in range(8):
+        first += offered(rng, keys)
+        if rng.random() < 0.5:
+            first.append(f"go {first[-1].split()[1]} 100000")
+    return first, keys[:4]
 
 
 def scarce(rng):
