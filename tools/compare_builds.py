@@ -14,9 +14,9 @@ put twenty times on average, then so many lines of one kind. A figure is the dif
 and one without the last lines, divided by their number, so what the program does for a line is in
 it. Nothing is promised of the figures. --count takes valgrind, and is some fifty times as slow.
 
-With --hot the updates are of few keys: in each stretch of two hundred keys the second hundred has
-four left, in small rows, and eight keys just before these are put again and again. Puts and gets
-that are measured are of such hot keys, so that full rows meet small ones."""
+With --hot the updates are of few keys: of each two rows of rising keys the second has four left,
+and the last eight keys of the first are put again and again. Puts and gets that are measured are
+of such hot keys, so that full rows meet small ones, which go along once."""
 
 import argparse
 import random
@@ -26,9 +26,9 @@ import subprocess
 import time
 
 SUMMED = 1000
-# With --hot: how many keys a stretch has, how many of its second half are left, and how many of its
-# first half are hot.
-STRETCH, LEFT, HOT = 200, 4, 8
+# With --hot: how many keys two rows of rising keys have, how many of the second row are left, and
+# how many of the first one are hot.
+STRETCH, LEFT, HOT = 128, 4, 8
 KINDS = ("put", "get", "sum")
 COUNTED = re.compile(rb"Collected : (\d+)")
 
@@ -46,12 +46,13 @@ def hot_keys(keys):
 
 
 def hot_lines(keys, updates, chance):
-    """Puts of all keys in disorder; in the second half of each stretch most are deleted, and those
-    that are left are put again until their rows are built anew; then puts of hot keys alone."""
-    lines = [f"put {key} 1" for key in chance.sample(range(keys), keys)]
+    """Puts of all keys as they rise; in the second half of each stretch most are deleted, and those
+    that are left are put twice, so that their row is built anew and has given few cells; then puts
+    of hot keys alone."""
+    lines = [f"put {key} 1" for key in range(keys)]
     seconds = [range(middle, middle + STRETCH // 2) for middle in range(STRETCH // 2, keys - STRETCH // 2 + 1, STRETCH)]
     lines += [f"del {key}" for half in seconds for key in half[LEFT:]]
-    lines += [f"put {key} {time % 10}" for time in range(STRETCH) for half in seconds for key in half[:LEFT]]
+    lines += [f"put {key} {time % 10}" for time in range(2) for half in seconds for key in half[:LEFT]]
     return lines + [f"put {key} {number % 10}" for number, key in enumerate(chance.choices(hot_keys(keys), k=keys * updates))]
 
 
